@@ -1,0 +1,77 @@
+// What the test programs read and write: words of 16 hexadecimal digits, with one byte after each.
+ghost use Prim.Native.Nat.{_<_};
+
+// The value of a hexadecimal digit (capital letters); 0 for any other byte.
+fn digit(b: u8) -> u64
+    ensures { λ r. ⌜ r < 16 ⌝ }
+{
+    if b < b'0' {
+        return 0;
+    }
+    if b <= b'9' {
+        return (b - b'0') as u64;
+    }
+    if b < b'A' {
+        return 0;
+    }
+    if b <= b'F' {
+        return (b - b'A') as u64 + 10;
+    }
+    0
+}
+
+// The word that starts at a byte; a text that ends too early has zeros there.
+fn word_from(text: &[u8], at: usize) -> u64 {
+    let mut n: u64 = 0;
+    let mut i = at;
+    let mut left = 16usize;
+    while 0 < left {
+        left -= 1;
+        if i < text.len() {
+            n = n % 0x1000_0000_0000_0000 * 16 + digit(text[i]);
+            i += 1;
+        }
+    }
+    n
+}
+
+// The k-th word of a text.
+pub fn word(text: &[u8], k: usize) -> u64 {
+    if text.len() / 17 < k {
+        return 0;
+    }
+    word_from(text, 17 * k)
+}
+
+// A word read as a signed number.
+pub fn signed(n: u64) -> i64 {
+    if n < 0x8000_0000_0000_0000 {
+        return n as i64;
+    }
+    -1 - (0xffff_ffff_ffff_ffff - n) as i64
+}
+
+// The word of a signed number.
+pub fn unsigned(x: i64) -> u64 {
+    if x < 0 {
+        return 0xffff_ffff_ffff_ffff - (-1 - x) as u64;
+    }
+    x as u64
+}
+
+// Reads n words from standard input to the front of a text; false where they do not all come.
+pub fn read(text: &mut [u8], n: usize) -> bool {
+    let room = text.len() / 17;
+    if room < n {
+        return false;
+    }
+    let bytes = 17 * n;
+    let got = io::read_full(0, &mut text[..bytes]);
+    got == bytes
+}
+
+// Writes a word and a newline.
+pub fn print(n: u64) {
+    io::print_hex(1, n, 16);
+    io::write_all(1, b"\n");
+}
