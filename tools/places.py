@@ -10,6 +10,7 @@ by name (`@Start .args`), and its Proof.antt is written from them.
     tools/places.py check  [NAME ..]      whether each Proof.antt is what its answers give (exit 1 if not)
     tools/places.py places NAME FN ..     the places before each need
     tools/places.py import NAME [FN ..]   answers.txt from a Proof.antt that was written by hand
+    tools/places.py tidy   FILE ..        an .antt file without the imports that it does not use
 
 answers.txt is blocks with an empty line between them:
 
@@ -414,8 +415,19 @@ def bring(crate, fns):
         print("imported", fn)
 
 
+def tidy(path):
+    text = read(path)
+    uses = [l for l in text.split("\n") if l.startswith("use ")]
+    body = "\n".join(l for l in text.split("\n") if not l.startswith("use "))
+    head = re.match(r"(?:--.*\n)*", body).group(0)
+    new = head + "\n".join(merged(uses, body[len(head):])) + "\n\n" + body[len(head):].lstrip("\n")
+    if uses and new != text:
+        put(path, new)
+        print("tidied", path)
+
+
 def main(words):
-    if len(words) < 1 or words[0] not in ("new", "write", "check", "places", "import"):
+    if len(words) < 1 or words[0] not in ("new", "write", "check", "places", "import", "tidy"):
         print(__doc__)
         return 2
     command, rest = words[0], words[1:]
@@ -426,6 +438,10 @@ def main(words):
                 stale += [f"{crate}::{fn}" for fn in write(crate, [], dry=True)]
         print("not current: " + ", ".join(stale) if stale else "every proof file is what its answers give")
         return 1 if stale else 0
+    if command == "tidy":
+        for f in rest:
+            tidy(f)
+        return 0
     crate, fns = rest[0], rest[1:]
     if command == "new":
         start(crate, fns)
