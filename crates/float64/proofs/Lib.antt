@@ -14,5 +14,7 @@ pub mod Smallest
 pub mod Spacing
 pub mod RootIs
 pub mod RootUnique
+pub mod Kept
+pub mod LastDigit
 pub mod Nearest
 pub mod Figures

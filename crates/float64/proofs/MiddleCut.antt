@@ -28,10 +28,7 @@ half-exact s n h = go (eq-or-lt-of-le h)
 
     go : (n ≡ 2 ^ 53) ⊎ (n < 2 ^ 53) → HasValue (round binary64 s (n * 1) (1 * 2)) s (n * 1) (1 * 2)
     go (inl e) = subst (λ (x : ℕ). HasValue (round binary64 s (x * 1) (1 * 2)) s (x * 1) (1 * 2)) (sym e) (round-exact binary64 s (2 ^ 53) 2 1 1126 (zero-lt-suc 1) (lit< tt) (lit< tt) refl)
-    go (inr l) = round-exact binary64 s (n * 1) 2 n 1073 (zero-lt-suc 1) l (lt-of-lt-of-le (shl-lt 53 1073 l) (pow-mono (le 1))) (small n)
-      where
-        le : (k : ℕ) → 53 + 1073 ≤ 1074 + 1024
-        le k = lit≤ tt
+    go (inr l) = round-exact binary64 s (n * 1) 2 n 1073 (zero-lt-suc 1) l (lt-of-lt-of-le (shl-lt 53 1073 l) (pow-mono {i = 1126} {j = 2098} (lit≤ tt))) (small n)
 
 two-value : HasValue two false 2 1
 two-value = subst (λ (x : Float). HasValue x false 2 1) (sym two-is) (int-value (pos 2) (lit≤ tt))

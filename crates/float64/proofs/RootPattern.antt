@@ -54,11 +54,8 @@ under-facts d p l h = go (eq-or-lt-of-le (bit p))
 
     go : (p % 2 ≡ 1) ⊎ (p % 2 < 1) → Under (under d p) (whole d p)
     go (inl e) =
-        let s : d * 2 * 2 ^ 54 ≡ under d p = up (d * 2 ^ 55) ∙ ap (λ (x : ℕ). d * 2 ^ (54 + x)) (sym e) in
+        let s : d * 2 * 2 ^ 54 ≡ under d p = mul-assoc d 2 (2 ^ 54) ∙ ap (λ (x : ℕ). d * 2 ^ (54 + x)) (sym e) in
         subst (λ (n : ℕ). Under n (isqrt 54 n)) s (at (d * 2) (omega arith) (omega arith))
-      where
-        up : (y : ℕ) → d * 2 * 2 ^ 54 ≡ d * 2 ^ 55
-        up y = omega arith
     go (inr e) =
         let z : p % 2 ≡ 0 = omega arith in
         subst (λ (n : ℕ). Under n (isqrt 54 n)) (ap (λ (x : ℕ). d * 2 ^ (54 + x)) (sym z)) (at d l (omega arith))

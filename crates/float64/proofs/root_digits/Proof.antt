@@ -15,7 +15,9 @@ abbrev μ-loop : tie.MeasureT-loop
 
 -- in the loop's body the root has at most 53 digits
 bound : (c : tie.In-loop Inv-loop μ-loop) → c .before .loop .root < 2 ^ 53
-bound c = small (c .before .before .args .a) (c .before .loop .root) (c .before .loop .left) (c .before .loop .rest) (c .before .loop .i) (c .before .loop .inv) (c .loop-test .taken)
+bound c =
+    let l = c .before .loop in
+    small (c .before .before .args .a) (l .root) (l .left) (l .rest) (l .i) (l .inv) (omega (arith, c .loop-test .taken))
 
 loop-holds : tie.Need-loop-holds Inv-loop μ-loop
 loop-holds c = start (c .args .a) (c .pre)
@@ -57,13 +59,16 @@ loop-again : tie.Need-loop-again Inv-loop μ-loop
 loop-again c =
     let l = c .before .before .loop in
     let a = c .before .before .before .args .a in
+    let h : l .i < 54 = omega (arith, c .before .loop-test .taken) in
     ⊎-elim
-    (λ w. met a _ _ _ _ (c .if1 .root) (c .if1 .left) (w .1) (w .2) (turn-one a (l .root) (l .left) (l .rest) (l .i) (l .inv) (c .before .loop-test .taken) (w .0 .taken)))
-    (λ w. met a _ _ _ _ (c .if1 .root) (c .if1 .left) (w .1) (w .2) (turn-zero a (l .root) (l .left) (l .rest) (l .i) (l .inv) (c .before .loop-test .taken) (w .0 .left)))
+    (λ w. met a _ _ _ _ (c .if1 .root) (c .if1 .left) (w .1) (w .2) (turn-one a (l .root) (l .left) (l .rest) (l .i) (l .inv) h (w .0 .taken)))
+    (λ w. met a _ _ _ _ (c .if1 .root) (c .if1 .left) (w .1) (w .2) (turn-zero a (l .root) (l .left) (l .rest) (l .i) (l .inv) h (w .0 .left)))
     (c .if1 .came)
 
 returns : tie.Need-returns Inv-loop μ-loop
-returns c = finish (c .before .before .args .a) (c .before .loop .root) (c .before .loop .left) (c .before .loop .rest) (c .before .loop .i) (c .before .before .pre) (c .before .loop .inv) (c .loop-test .left)
+returns c =
+    let l = c .before .loop in
+    finish (c .before .before .args .a) (l .root) (l .left) (l .rest) (l .i) (c .before .before .pre) (l .inv) (c .loop-test .left)
 
 pub root-digits-spec : {M : Type 1} → statement M
 root-digits-spec =
