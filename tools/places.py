@@ -155,7 +155,10 @@ def facts(crate):
         os.remove(f)
     prefix, skel = f"{WORK}/crates/{crate}/proofs/", {}
     while True:
-        found = skeletons(sh(f"cd {WORK}; RT_CUT=0 rt dev {crate} --allow-holes 2>&1").stdout)
+        output = sh(f"cd {WORK}; RT_CUT=0 rt dev {crate} --allow-holes 2>&1").stdout
+        if not re.search(f"^fn {crate}::", output, re.M):
+            sys.exit("the code could not be checked:\n" + "\n".join(l[:300] for l in output.split("\n") if "error" in l))
+        found = skeletons(output)
         new = {p: s for p, s in found.items() if p.startswith(prefix) and not os.path.exists(p)}
         for p, s in new.items():
             put(p, s)
