@@ -187,7 +187,7 @@ def named(text, steps, where):
         for i, s in enumerate(steps):
             if s == m.group(1) or s == "After-" + m.group(1):
                 path = "c" + " .before" * i
-                bare = i == 0 or text[m.end():m.end() + 2] == " ." or (text[:m.start()].endswith("= ") and text[m.end():m.end() + 3] == " in")
+                bare = i == 0 or text[m.end():m.end() + 2] == " ." or text[m.start() - 1] + text[m.end():m.end() + 1] == "()" or (text[:m.start()].endswith("= ") and text[m.end():m.end() + 3] == " in")
                 return path if bare else "(" + path + ")"
         print(f"no place {m.group(1)} at {where}: {' < '.join(steps)}")
         return "?"
@@ -210,7 +210,7 @@ def unnamed(text, steps):
         s = steps[k]
         return "@" + (s[6:] if s.startswith("After-") and s[6:] not in steps else s)
     text = re.sub(r"(?<![\w.′-])([A-Za-z][\w′-]*)((?: \.before)+)(?![\w-])", one, text)
-    return re.sub(r"\((@[A-Za-z0-9-]+)\)", r"\1", text)
+    return re.sub(r"\((@[A-Za-z0-9-]+)\)(?! \.)", r"\1", text)
 
 
 # ---- answers ----
