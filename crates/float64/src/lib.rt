@@ -17,16 +17,19 @@ const NORM_TOP: u64 = 9223372036854775807;
 // 2^52, the weight of the exponent's field in a pattern: the digits below it are the fraction.
 const FIELD: u64 = 0x10_0000_0000_0000;
 
-// The patterns of +infinity and of the one NaN that is written, and the weight of the sign.
+// The pattern of +infinity: above it, the sign left out, are the NaNs.
 const INFINITY: u64 = 0x7ff0_0000_0000_0000;
 
+// The pattern that is written for every NaN.
 const NAN: u64 = 0x7ff8_0000_0000_0000;
 
+// The weight of the sign in a pattern.
 const SIGN: u64 = 0x8000_0000_0000_0000;
 
-// 2^63, the first whole number past the range of i64, and -2^63, the least in it.
+// 2^63, the first whole number past the range of i64.
 const PAST_I64: f64 = 9223372036854775808.0;
 
+// -2^63, the least whole number in the range of i64.
 const LEAST_I64: f64 = -9223372036854775808.0;
 
 // ---- patterns
