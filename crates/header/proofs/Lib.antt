@@ -1,0 +1,3 @@
+pub mod Bottoms
+pub mod Refusals
+pub mod Steps

@@ -1,0 +1,69 @@
+-- The tests of a shape, and what an accepted one holds. Assumes nothing.
+use mathlib.Core.Path.{_≡_, refl}
+use mathlib.Core.Bool.{Bool, true, false, cond, _||_}
+use Prim.Native.Nat.{ℕ, _+_, _*_, _≤_}
+use native.Mathlib.Omega.{arith}
+use borrow.Author.Tests.{eqb-false, ltb-false}
+use lib.Dec.{eqb, ltb}
+use Rattle.matrix_storage.specs.Bits.{maxRows, maxCols, hashBits, maskBits, Shaped}
+use Rattle.matrix_storage.specs.Calls.{bitsRefusal}
+use Rattle.header.specs.Shape.{maxLayers, maxHeap, shapeRefusal}
+use Rattle.header.specs.declared.Shape.{Shape}
+
+-- what is left of the tests once no dimension is 0 and the layers are few
+pub shape-rest : (sh : Shape) → eqb (sh .«heap_size») 0 ≡ false → eqb (sh .rows) 0 ≡ false → eqb (sh .cols) 0 ≡ false → eqb (sh .layers) 0 ≡ false
+    → ltb maxLayers (sh .layers) ≡ false
+    → shapeRefusal sh ≡ cond (eqb (bitsRefusal (sh .rows) (sh .cols)) 0) (cond (ltb maxHeap (sh .«heap_size»)) 4 0) (bitsRefusal (sh .rows) (sh .cols))
+unfolding shapeRefusal bitsRefusal
+shape-rest sh p q r s t =
+    rw (p, q, r, s, t)
+    (go (ltb hashBits ((maskBits (sh .cols) + 1) * sh .rows)) (ltb maxRows (sh .rows)) (ltb maxCols (sh .cols)) (ltb maxHeap (sh .«heap_size»)))
+  where
+    go : (a b c d : Bool) → _≡_ {A = ℕ} (cond a 3 (cond (b || (c || d)) 4 0)) (cond (eqb (cond a 3 (cond (b || c) 4 0)) 0) (cond d 4 0) (cond a 3 (cond (b || c) 4 0)))
+    go true b c d = refl
+    go false true c d = refl
+    go false false true d = refl
+    go false false false true = refl
+    go false false false false = refl
+
+-- a shape that is not refused
+pub record Accepted (sh : Shape) : Type 0 where
+  pub shaped : Shaped (sh .rows) (sh .cols)
+  pub some : 1 ≤ sh .layers
+  pub few : sh .layers ≤ maxLayers
+  pub seats : 1 ≤ sh .«heap_size»
+  pub small : sh .«heap_size» ≤ maxHeap
+
+pub accepted-of : (sh : Shape) → shapeRefusal sh ≡ 0 → Accepted sh
+unfolding shapeRefusal
+accepted-of sh e =
+    go (eqb (sh .«heap_size») 0) refl (eqb (sh .rows) 0) refl (eqb (sh .cols) 0) refl (eqb (sh .layers) 0) refl (ltb maxLayers (sh .layers)) refl
+    (ltb hashBits ((maskBits (sh .cols) + 1) * sh .rows)) refl (ltb maxRows (sh .rows)) refl (ltb maxCols (sh .cols)) refl (ltb maxHeap (sh .«heap_size»)) refl e
+  where
+    go : (a : Bool) → eqb (sh .«heap_size») 0 ≡ a → (b : Bool) → eqb (sh .rows) 0 ≡ b → (c : Bool) → eqb (sh .cols) 0 ≡ c → (d : Bool) → eqb (sh .layers) 0 ≡ d
+        → (l : Bool) → ltb maxLayers (sh .layers) ≡ l → (h : Bool) → ltb hashBits ((maskBits (sh .cols) + 1) * sh .rows) ≡ h
+        → (r : Bool) → ltb maxRows (sh .rows) ≡ r → (k : Bool) → ltb maxCols (sh .cols) ≡ k → (s : Bool) → ltb maxHeap (sh .«heap_size») ≡ s
+        → _≡_ {A = ℕ} (cond (a || (b || (c || d))) 1 (cond l 2 (cond h 3 (cond (r || (k || s)) 4 0)))) 0 → Accepted sh
+    go true pa b pb c pc d pd l pl h ph r pr k pk s ps z = absurd (omega arith)
+    go false pa true pb c pc d pd l pl h ph r pr k pk s ps z = absurd (omega arith)
+    go false pa false pb true pc d pd l pl h ph r pr k pk s ps z = absurd (omega arith)
+    go false pa false pb false pc true pd l pl h ph r pr k pk s ps z = absurd (omega arith)
+    go false pa false pb false pc false pd true pl h ph r pr k pk s ps z = absurd (omega arith)
+    go false pa false pb false pc false pd false pl true ph r pr k pk s ps z = absurd (omega arith)
+    go false pa false pb false pc false pd false pl false ph true pr k pk s ps z = absurd (omega arith)
+    go false pa false pb false pc false pd false pl false ph false pr true pk s ps z = absurd (omega arith)
+    go false pa false pb false pc false pd false pl false ph false pr false pk true ps z = absurd (omega arith)
+    go false pa false pb false pc false pd false pl false ph false pr false pk false ps z =
+        record {
+          shaped = record {
+            tall = omega (arith, eqb-false (sh .rows) 0 pb);
+            few = ltb-false maxRows (sh .rows) pr;
+            some = omega (arith, eqb-false (sh .cols) 0 pc);
+            wide = ltb-false maxCols (sh .cols) pk;
+            bits = ltb-false hashBits ((maskBits (sh .cols) + 1) * sh .rows) ph;
+          };
+          some = omega (arith, eqb-false (sh .layers) 0 pd);
+          few = ltb-false maxLayers (sh .layers) pl;
+          seats = omega (arith, eqb-false (sh .«heap_size») 0 pa);
+          small = ltb-false maxHeap (sh .«heap_size») ps;
+        }

@@ -1,0 +1,102 @@
+-- The header and its own steps. Only the functions of this page build a header.
+use Prim.Native.Nat.{ℕ, zero, suc, _+_, _-_}
+use mathlib.Core.Bool.{Bool, true, false, cond, not, _&&_}
+use mathlib.Core.List.{List, _++_}
+use lib.ListN.{getD, set, replicate}
+use lib.IntN.{ℤ, natAbs}
+use lib.Signed.{nonNeg}
+use lib.Dec.{eqb, ltb, leb}
+use Rattle.words.specs.Num.{top}
+use Rattle.header.specs.Shape.{maxLayers, shapeRefusal}
+use Rattle.header.specs.declared.Shape.{Shape}
+use Rattle.header.specs.declared.Mode.{Mode}
+use Rattle.header.specs.declared.Mode.the-variants as mode
+use Rattle.header.specs.declared.Header.{Header}
+use Rattle.header.specs.declared.Begun.{Begun}
+
+-- ---- headers from nothing
+
+-- "a refused `new` gives an all-zero header (mode unset, flags false)"
+abbrev pub zeroHeader : Header
+zeroHeader =
+    record {
+      shape = record { «heap_size» = 0; rows = 0; cols = 0; layers = 0 };
+      weight = 0;
+      mode = mode.Unset;
+      flags = replicate maxLayers false;
+      lens = replicate maxLayers 0;
+    }
+
+-- true for the layers, false past the last
+abbrev pub freshFlags : ℕ → List Bool
+freshFlags layers = replicate layers true ++ replicate (maxLayers - layers) false
+
+unfoldable pub freshHeader : Shape → Header
+freshHeader sh = record { shape = sh; weight = 0; mode = mode.Unset; flags = freshFlags (sh .layers); lens = replicate maxLayers 0 }
+
+-- ---- one field changed
+
+abbrev pub withWeight : Header → ℕ → Header
+withWeight h w = record { shape = h .shape; weight = w; mode = h .mode; flags = h .flags; lens = h .lens }
+
+abbrev pub withMode : Header → Mode → Header
+withMode h m = record { shape = h .shape; weight = h .weight; mode = m; flags = h .flags; lens = h .lens }
+
+abbrev pub withFlags : Header → List Bool → Header
+withFlags h fs = record { shape = h .shape; weight = h .weight; mode = h .mode; flags = fs; lens = h .lens }
+
+abbrev pub withLens : Header → List ℕ → Header
+withLens h ns = record { shape = h .shape; weight = h .weight; mode = h .mode; flags = h .flags; lens = ns }
+
+-- layer l's flag and length
+abbrev pub withLayer : Header → ℕ → Bool → ℕ → Header
+withLayer h l b n = withLens (withFlags h (set (h .flags) l b)) (set (h .lens) l n)
+
+-- ---- modes
+
+-- "mode mixed in update or merge"
+abbrev pub clash : Mode → Mode → Bool
+clash mode.Unset m = false
+clash mode.Standard mode.Unset = false
+clash mode.Standard mode.Standard = false
+clash mode.Standard mode.Terminal = true
+clash mode.Terminal mode.Unset = false
+clash mode.Terminal mode.Standard = true
+clash mode.Terminal mode.Terminal = false
+
+-- an unset mode takes the other's
+abbrev pub joined : Mode → Mode → Mode
+joined mode.Unset m = m
+joined mode.Standard m = mode.Standard
+joined mode.Terminal m = mode.Terminal
+
+-- "an unset mode becomes standard" by a delta
+abbrev pub settled : Mode → Mode
+settled m = joined m mode.Standard
+
+-- ---- an update begins: 5 "negative weight", 6 "mode mixed", 7 "weight would pass 2^52"
+
+abbrev pub begun : Header → ℕ → Mode → Header
+begun h w m = withMode (withWeight h (h .weight + w)) (joined (h .mode) m)
+
+unfoldable pub beginOf : Header → ℤ → Mode → Begun
+beginOf h w m =
+    cond (not (nonNeg w)) (record { refusal = 5; header = h })
+    (cond (clash (h .mode) m) (record { refusal = 6; header = h })
+    (cond (not (leb (h .weight + natAbs w) top)) (record { refusal = 7; header = h })
+    (record { refusal = 0; header = begun h (natAbs w) m })))
+
+-- ---- "A header is in range if `new` accepts its dimensions, its weight is 0 to 2^52, each length is at most the heap size, and past the last layer
+-- lengths are 0 and flags false."
+
+-- of layer l
+abbrev pub layerOk : ℕ → ℕ → ℕ → ℕ → Bool → Bool
+layerOk l layers size len flag = cond (ltb l layers) (leb len size) (eqb len 0 && not flag)
+
+-- of k layers from l on
+unfoldable pub lensFrom : ℕ → ℕ → List ℕ → List Bool → ℕ → ℕ → Bool
+lensFrom layers size lens flags zero l = true
+lensFrom layers size lens flags (suc k) l = layerOk l layers size (getD lens l 0) (getD flags l false) && lensFrom layers size lens flags k (suc l)
+
+unfoldable pub headerOk : Header → Bool
+headerOk h = eqb (shapeRefusal (h .shape)) 0 && leb (h .weight) top && lensFrom (h .shape .layers) (h .shape .«heap_size») (h .lens) (h .flags) maxLayers 0
