@@ -10,6 +10,7 @@ by name (`@Start .args`), and its Proof.antt is written from them.
     tools/places.py check  [NAME ..]      whether each Proof.antt is what its answers give (exit 1 if not)
     tools/places.py places NAME FN ..     the places before each need
     tools/places.py import NAME [FN ..]   answers.txt from a Proof.antt that was written by hand
+    tools/places.py tidy   FILE ..        an .antt file without the imports that it does not use
 
 answers.txt is blocks with an empty line between them:
 
@@ -155,7 +156,10 @@ def facts(crate):
         os.remove(f)
     prefix, skel = f"{WORK}/crates/{crate}/proofs/", {}
     while True:
-        found = skeletons(sh(f"cd {WORK}; RT_CUT=0 rt dev {crate} --allow-holes 2>&1").stdout)
+        output = sh(f"cd {WORK}; RT_CUT=0 rt dev {crate} --allow-holes 2>&1").stdout
+        if not re.search(f"^fn {crate}::", output, re.M):
+            sys.exit("the code could not be checked:\n" + "\n".join(l[:300] for l in output.split("\n") if "error" in l))
+        found = skeletons(output)
         new = {p: s for p, s in found.items() if p.startswith(prefix) and not os.path.exists(p)}
         for p, s in new.items():
             put(p, s)
@@ -183,7 +187,7 @@ def named(text, steps, where):
         for i, s in enumerate(steps):
             if s == m.group(1) or s == "After-" + m.group(1):
                 path = "c" + " .before" * i
-                bare = i == 0 or text[m.end():m.end() + 2] == " ." or (text[:m.start()].endswith("= ") and text[m.end():m.end() + 3] == " in")
+                bare = i == 0 or text[m.end():m.end() + 2] == " ." or text[m.start() - 1] + text[m.end():m.end() + 1] == "()" or (text[:m.start()].endswith("= ") and text[m.end():m.end() + 3] == " in")
                 return path if bare else "(" + path + ")"
         print(f"no place {m.group(1)} at {where}: {' < '.join(steps)}")
         return "?"
@@ -206,7 +210,7 @@ def unnamed(text, steps):
         s = steps[k]
         return "@" + (s[6:] if s.startswith("After-") and s[6:] not in steps else s)
     text = re.sub(r"(?<![\w.′-])([A-Za-z][\w′-]*)((?: \.before)+)(?![\w-])", one, text)
-    return re.sub(r"\((@[A-Za-z0-9-]+)\)", r"\1", text)
+    return re.sub(r"\((@[A-Za-z0-9-]+)\)(?! \.)", r"\1", text)
 
 
 # ---- answers ----
@@ -411,8 +415,19 @@ def bring(crate, fns):
         print("imported", fn)
 
 
+def tidy(path):
+    text = read(path)
+    uses = [l for l in text.split("\n") if l.startswith("use ")]
+    body = "\n".join(l for l in text.split("\n") if not l.startswith("use "))
+    head = re.match(r"(?:--.*\n)*", body).group(0)
+    new = head + "\n".join(merged(uses, body[len(head):])) + "\n\n" + body[len(head):].lstrip("\n")
+    if uses and new != text:
+        put(path, new)
+        print("tidied", path)
+
+
 def main(words):
-    if len(words) < 1 or words[0] not in ("new", "write", "check", "places", "import"):
+    if len(words) < 1 or words[0] not in ("new", "write", "check", "places", "import", "tidy"):
         print(__doc__)
         return 2
     command, rest = words[0], words[1:]
@@ -423,6 +438,10 @@ def main(words):
                 stale += [f"{crate}::{fn}" for fn in write(crate, [], dry=True)]
         print("not current: " + ", ".join(stale) if stale else "every proof file is what its answers give")
         return 1 if stale else 0
+    if command == "tidy":
+        for f in rest:
+            tidy(f)
+        return 0
     crate, fns = rest[0], rest[1:]
     if command == "new":
         start(crate, fns)

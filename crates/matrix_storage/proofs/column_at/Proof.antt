@@ -3,7 +3,9 @@
 use Prim.Native.Nat.{_-_, _*_, _/_, _%_, _^_, _<_}
 use mathlib.Core.Path.{_≡_}
 use native.Mathlib.Omega.{arith}
-use Rattle.matrix_storage.proofs.Laws.{mask-small, mask-word, bits-are, column-low, column-once}
+use Rattle.matrix_storage.proofs.Log2.{mask-within}
+use Rattle.matrix_storage.proofs.Shifts.{mask-word, bits-are}
+use Rattle.matrix_storage.proofs.Cells.{column-low, column-once}
 use Rattle.matrix_storage.specs.Bits.{maskBits, hashOf}
 use Rattle.words.proofs.Signed.{fits}
 use lib.Pow.{pow-pos}
@@ -12,7 +14,7 @@ use Rattle.matrix_storage.proofs.column_at.Statement.{statement}
 use Rattle.matrix_storage.proofs.column_at.Tie as tie
 
 bits-lt : (c : tie.Start) → c .args .bits < 64
-bits-lt c = let p = c .pre .0 in omega (arith, p .1 .1, mask-small (c .args .cols) (p .0) (p .1 .0))
+bits-lt c = let p = c .pre .0 in omega (arith, p .1 .1, mask-within 32 (c .args .cols) (omega arith) (p .0) (p .1 .0))
 
 -- the masked bits are those of the definition
 v-is : (c : tie.After-shifted) → let a = c .before .args in bitAnd (c .shifted .result) (1 * 2 ^ a .bits % 2 ^ 64 - 1) ≡ hashOf (a .high) (a .low) / 2 ^ (a .row * maskBits (a .cols)) % 2 ^ maskBits (a .cols)

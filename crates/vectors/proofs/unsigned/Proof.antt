@@ -1,29 +1,17 @@
 -- `vectors::unsigned` meets its contract.
 -- Written by tools/places.py from answers.txt; assumes nothing.
-use Prim.Native.Nat.{suc, _-_, _^_, _<_}
-use mathlib.Core.Path.{_≡_, sym, ap}
-use mathlib.Core.Bool.{true, false}
-use lib.IntN.{ℤ, pos, negsuc, natAbs, _-ℤ_}
-use lib.Signed.{ltZ, nonNeg, mag}
-use lib.Dec.{T}
+use Prim.Native.Nat.{_^_, _<_}
+use mathlib.Core.Path.{_≡_}
+use lib.IntN.{pos, negsuc, _-ℤ_}
+use lib.Signed.{mag}
 use native.Mathlib.Omega.{arith}
 use borrow.Author.Needs.{needs}
-use borrow.Author.Tests.{le-ltb, ltb-true}
 use mir.Syntax.{w64}
-use mir.Val.{toZ, ofZ, Fits}
+use mir.Val.{toZ, ofZ}
 use mir.Facts.{toZ-ofZ}
-use Rattle.words.proofs.Signed.{back, never}
+use Rattle.words.proofs.Signed.{back, flip, not-negative}
 use Rattle.vectors.proofs.unsigned.Statement.{statement}
 use Rattle.vectors.proofs.unsigned.Tie as tie
-
--- what stands below a negative number's negation
-flip : (z : ℤ) → ltZ z (pos 0) ≡ true → negsuc 0 -ℤ z ≡ pos (mag z)
-flip (pos n) e = absurd (omega (arith, ltb-true n 0 e))
-flip (negsuc n) e = let d : suc n - 1 ≡ n = omega arith in rw (le-ltb (suc n) 1 (omega arith)) (ap pos d)
-
-not-negative : (z : ℤ) → ltZ z (pos 0) ≡ false → mag z < 2 ^ 63 → T (nonNeg z) × Fits w64 (natAbs z)
-not-negative (pos n) e h = (tt, record { fits = omega arith })
-not-negative (negsuc n) e h = absurd (never (sym e))
 
 flipped : (c : tie.Then1) → negsuc 0 -ℤ toZ w64 (ofZ w64 (c .before .args .x)) ≡ pos (mag (c .before .args .x))
 flipped c =

@@ -3,7 +3,7 @@
 use native.Mathlib.Omega.{arith}
 use borrow.Author.Needs.{needs}
 use mir.Facts.{toZ-ofZ}
-use Rattle.words.proofs.Laws.{square-small, capped-small, capped-large}
+use Rattle.words.proofs.Squares.{square-small, capped-small, capped-large}
 use Rattle.words.proofs.capped_square.Statement.{statement}
 use Rattle.words.proofs.capped_square.Tie as tie
 
@@ -11,7 +11,7 @@ magnitude-requires : tie.Need-magnitude-requires
 magnitude-requires c κs = search needs
 
 mul-result : tie.Need-mul-result
-mul-result c = let a = c .before .magnitude .result in record { fits = omega (arith, square-small a (c .if1 .taken)) }
+mul-result c = let a = c .before .magnitude .result in record { fits = omega (arith, square-small a (omega arith)) }
 
 returns : tie.Need-returns
 returns c = let e = rw (toZ-ofZ (c .before .before .fits .x)) at (c .before .magnitude .ensures) in rw e (capped-small (c .before .before .args .x) (omega (arith, c .if1 .taken)))

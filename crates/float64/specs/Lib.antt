@@ -1,0 +1,5 @@
+-- What the contracts of `float64` cite.
+pub mod Values
+pub mod Norm
+pub mod Root
+pub mod Cut
