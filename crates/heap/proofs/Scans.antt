@@ -8,7 +8,7 @@ use lib.ListN.{length, getD, take, drop, drop-of-length-le}
 use lib.Seq.{getD-take, length-take-le}
 use lib.IntN.{ℤ, pos}
 use Rattle.words.specs.Num.{inRange, allIn}
-use Rattle.words.proofs.Laws.{all-step}
+use Rattle.words.proofs.Squares.{all-step}
 
 -- what is left to scan at i
 step : (xs : List ℤ) (n i : ℕ) → i < n → n ≤ length xs → allIn (drop i (take n xs)) ≡ inRange (getD xs i (pos 0)) && allIn (drop (i + 1) (take n xs))

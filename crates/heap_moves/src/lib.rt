@@ -6,7 +6,7 @@ ghost use Prim.Native.Nat.{ℕ, _+_, _≤_, _<_, _*_};
 ghost use mathlib.Core.Bool.{not};
 ghost use mathlib.Core.List.{List};
 ghost use lib.ListN.{length, set};
-ghost use Rattle.heap_moves.specs.Cands.{up, swapped, leftOr, lower, down, stays, updateAt};
+ghost use Rattle.heap_moves.specs.Cands.{smaller, swapped, up, leftOr, lower, down, stays, updateAt};
 ghost use Rattle.heap_moves.specs.Flat.{candsOf, store4, whoOf, candOf};
 ghost use Rattle.heap_moves.specs.Post.{Two};
 
@@ -65,6 +65,14 @@ fn swap_entries(entries: &mut [u64], counts: &mut [i64], i: usize, j: usize)
     counts[j] = n;
 }
 
+// `should_swap` of `RetainLargest`: whether the count at `child` is strictly smaller.
+fn should_swap(counts: &[i64], parent: usize, child: usize) -> bool
+    requires { ⌜ (parent < length (now counts)) × (child < length (now counts)) ⌝ }
+    ensures { λ r. ⌜ ((es : List ℕ) → r ≡ smaller (candsOf es (now (counts .entry))) child parent) ⌝ }
+{
+    counts[child] < counts[parent]
+}
+
 pub fn bubble_up(entries: &mut [u64], counts: &mut [i64], start: usize)
     requires { ⌜ Two (length (now entries)) (length (now counts)) start start ⌝ }
     ensures { λ r. ⌜ candsOf (now (entries .exit)) (now (counts .exit)) ≡ up start (candsOf (now (entries .entry)) (now (counts .entry))) start ⌝ }
@@ -72,7 +80,7 @@ pub fn bubble_up(entries: &mut [u64], counts: &mut [i64], start: usize)
     let mut i = start;
     while i > 0 {
         let p = (i - 1) / 2;
-        if counts[i] < counts[p] {
+        if should_swap(&*counts, p, i) {
             swap_entries(entries, counts, p, i);
             i = p;
         } else {
@@ -90,7 +98,7 @@ fn left_or(counts: &[i64], n: usize, i: usize) -> usize
     if n <= left {
         return i;
     }
-    if counts[left] < counts[i] {
+    if should_swap(counts, i, left) {
         return left;
     }
     i
@@ -107,7 +115,7 @@ fn lowest(counts: &[i64], n: usize, i: usize) -> usize
     if n <= right {
         return j;
     }
-    if counts[right] < counts[j] {
+    if should_swap(counts, j, right) {
         return right;
     }
     j
