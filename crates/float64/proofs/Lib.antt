@@ -18,3 +18,4 @@ pub mod Kept
 pub mod LastDigit
 pub mod Nearest
 pub mod Figures
+pub mod Order
