@@ -1,12 +1,14 @@
 -- Figures, worked out from the definitions: rows of one computed check.
-use Prim.Native.Nat.{ℕ, _+_, _-_, _^_}
+use Prim.Native.Nat.{ℕ, _+_, _-_, _*_, _^_}
 use mathlib.Core.Bool.{Bool, true, false, _&&_}
 use mathlib.Core.List.{List, [], _∷_}
 use lib.IntN.{ℤ, pos, negsuc}
 use lib.Dec.{T, eqb}
 use lib.Signed.{leZ}
 use lib.Count.{leadingZeros}
-use lib.Ieee.{binary64, ofInt, ofBits, toBits, toSigned, eq, div}
+use lib.Ieee.{Float, binary64, ofInt, ofBits, toBits, toSigned, div}
+use lib.Ieee.Positive.{num, den}
+use Rattle.float64.specs.Values.{plain}
 use Rattle.float64.specs.Norm.{normRead}
 use Rattle.float64.specs.Root.{root}
 use Rattle.float64.specs.Cut.{heavyThreshold}
@@ -19,13 +21,17 @@ pub data Row : Type 0 where
   cuts : ℕ → ℤ → Row
   threshold : ℕ → ℕ → Bool → ℤ → Row
 
+-- x is the whole number n, exactly
+unfoldable pub isWhole : Float → ℕ → Bool
+isWhole x n = plain x && eqb (num x) (n * den x)
+
 unfoldable pub sameZ : ℤ → ℤ → Bool
 sameZ a b = leZ a b && leZ b a
 
 unfoldable pub right : Row → Bool
-unfolding sameZ
-right (reads n m) = eq (normRead n) (ofInt binary64 (pos m))
-right (rooted n m) = eq (root (ofInt binary64 (pos n))) (ofInt binary64 (pos m))
+unfolding isWhole sameZ
+right (reads n m) = isWhole (normRead n) m
+right (rooted n m) = isWhole (ofInt binary64 (pos n)) n && isWhole (root (ofInt binary64 (pos n))) m
 right (rootBits b c) = eqb (toBits binary64 (root (ofBits binary64 b))) c
 right (cuts b z) = sameZ (toSigned 63 (ofBits binary64 b)) z
 right (threshold l size complete z) = sameZ (heavyThreshold (ofInt binary64 (pos l)) size complete) z
@@ -72,5 +78,5 @@ rows =
     ∷ []
 
 pub figures : T (allRight rows)
-unfolding allRight rows normRead root heavyThreshold ofInt ofBits toBits toSigned eq div leadingZeros
+unfolding allRight rows normRead root heavyThreshold ofInt ofBits toBits toSigned div leadingZeros
 figures = tt

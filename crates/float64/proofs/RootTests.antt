@@ -3,19 +3,16 @@ use Prim.Native.Nat.{ℕ, zero, suc, _*_, _<_}
 use mathlib.Core.Path.{_≡_, refl, sym, ap, _∙_, subst}
 use mathlib.Core.Bool.{Bool, true, false, not, _&&_, _||_, Bool·beq}
 use native.Mathlib.Nat.{lt-irrefl, zero-mul, mul-pos, zero-lt-suc}
-use lib.IntN.{ℤ, pos}
+use lib.IntN.{ℤ}
 use lib.Dec.{T, ltb, eqb, ltb→lt, lt→ltb, eqb→eq}
 use lib.Ieee.{Float, nan, inf, fin, binary64, up, down, lt, eq, fits, isNan, nanBits, ofBits, toBits, odd}
 use lib.Ieee.Fits.{up-pos, and-l}
 use lib.Ieee.Positive.{first-pos}
 use lib.Ieee.Bits.{nanBits-is}
-use Rattle.float64.proofs.Flags.{yes, clash}
+use Rattle.float64.proofs.Flags.{nought, yes, clash}
 use Rattle.float64.specs.Root.{root, rootBits}
 use Rattle.float64.proofs.Patterns.{Pattern, pattern}
 use Rattle.float64.proofs.RootPattern.{split, root-read, rounded}
-
-abbrev pub nought : Float
-nought = fin false 0 (pos 0)
 
 -- x is finite and above zero
 abbrev pub Above : Float → Type 0

@@ -6,7 +6,7 @@
 ghost use mathlib.Core.Path.{_≡_};
 ghost use mathlib.Core.Bool.{false};
 ghost use Prim.Native.Nat.{_+_, _*_, _^_, _<_, _≤_, min};
-ghost use lib.Ieee.{binary64, round, toSigned, ofInt};
+ghost use lib.Ieee.{binary64, round, toSigned, ofInt, toBits, ofBits};
 ghost use Rattle.float64.specs.Norm.{normTop, normRead};
 ghost use Rattle.float64.specs.Root.{isqrt, rootAt, rootBits, root};
 ghost use Rattle.float64.specs.Cut.{middleOf, heavyThreshold};
@@ -17,10 +17,42 @@ const NORM_TOP: u64 = 9223372036854775807;
 // 2^52, the weight of the exponent's field in a pattern: the digits below it are the fraction.
 const FIELD: u64 = 0x10_0000_0000_0000;
 
-// 2^63, the first whole number past the range of i64, and -2^63, the least in it.
+// The pattern of +infinity: above it, the sign left out, are the NaNs.
+const INFINITY: u64 = 0x7ff0_0000_0000_0000;
+
+// The pattern that is written for every NaN.
+const NAN: u64 = 0x7ff8_0000_0000_0000;
+
+// The weight of the sign in a pattern.
+const SIGN: u64 = 0x8000_0000_0000_0000;
+
+// 2^63, the first whole number past the range of i64.
 const PAST_I64: f64 = 9223372036854775808.0;
 
+// -2^63, the least whole number in the range of i64.
 const LEAST_I64: f64 = -9223372036854775808.0;
+
+// ---- patterns
+
+// The pattern of x. Every NaN has the same one.
+pub fn to_bits(x: f64) -> u64
+    ensures { λ r. ⌜ r ≡ toBits binary64 x ⌝ }
+{
+    if x != x {
+        return NAN;
+    }
+    f64::to_bits(x)
+}
+
+// The value of a pattern.
+pub fn from_bits(b: u64) -> f64
+    ensures { λ r. ⌜ r ≡ ofBits binary64 b ⌝ }
+{
+    if INFINITY < b % SIGN {
+        return 0.0 / 0.0;
+    }
+    f64::from_bits(b)
+}
 
 // ---- whole numbers as floats
 
@@ -103,7 +135,7 @@ fn root_at(d: u64, p: u64) -> u64
 
 // The pattern of the root of the number above zero whose pattern is b.
 fn root_bits(b: u64) -> u64
-    requires { ⌜ 0 < b ⌝ ∗ ⌜ b < 0x7ff0_0000_0000_0000 ⌝ }
+    requires { ⌜ 0 < b ⌝ ∗ ⌜ b < 2047 * 2 ^ 52 ⌝ }
     ensures { λ r. ⌜ r ≡ rootBits b ⌝ }
 {
     if b < FIELD {

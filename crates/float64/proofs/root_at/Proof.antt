@@ -57,7 +57,7 @@ add-result c = search needs
 returns : tie.Need-returns
 unfolding rootAt
 returns c =
-    ap (λ (r : ℕ). c .before .before .args .p / 2 * 2 ^ 52 + ((r + 1) / 2 - 2 ^ 52)) (c .root-digits .ensures ∙ ap (λ (n : ℕ). isqrt 54 n) (given (c .before) .2))
+    ap (λ (r : ℕ). c .before .before .args .p / 2 * 2 ^ 52 + ((r + 1) / 2 - 2 ^ 52)) (c .root-digits .ensures ∙ ap (λ (n : ℕ). isqrt 54 n) ((given (c .before)) .2))
 
 pub root-at-spec : {M : Type 1} → statement M
 root-at-spec =
