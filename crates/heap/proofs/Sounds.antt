@@ -34,7 +34,7 @@ offer-long size t c =
     (λ h k. up-long (t .len) (set (t .cands) (t .len) c) (t .len) ∙ simp length-set)
     (λ h k q. down-long (t .len) (t .len) (set (t .cands) 0 c) 0 ∙ simp length-set) (λ h k q. refl)
 
--- ---- what the three clauses of `offer` say together
+-- ---- what the clauses of `offer` say together
 
 module _ (es : List ℕ) (ns : List ℤ) (size len : ℕ) (w : Who) (v : ℤ) (es′ : List ℕ) (ns′ : List ℤ) (a : Answer)
     (words : es′ ≡ entriesOf (offered es ns size len w v .table .cands)) (counts : ns′ ≡ countsOf (offered es ns size len w v .table .cands)) (said : a ≡ offered es ns size len w v .answer) where

@@ -18,7 +18,7 @@ use Rattle.heap_moves.proofs.Views.{cand-at, count-at, recount-view}
 use Rattle.heap_moves.proofs.Rounds.{entries-are, counts-are}
 use Rattle.heap.specs.declared.Answer.{Answer}
 use Rattle.heap.specs.declared.Answer.the-variants.{Rescored, Seated, Displaced, TurnedAway}
-use Rattle.heap.specs.Offer.{Offered, find, rescore, seat, replaceRoot, displace, offer}
+use Rattle.heap.specs.Offer.{Offered, find, rescore, seat, replaceRoot, displace, offer, lenBy}
 use Rattle.heap.specs.Slices.{tableOf, offeredOf}
 
 -- A signed argument that is handed on comes back as v′, with v′ ≡ v.
@@ -66,10 +66,10 @@ module _ (es : List ℕ) (ns : List ℤ) (len : ℕ) (w : Who) (v v′ : ℤ) (s
     unfolding offer
     offer-full a h g q = rw (← found, le-ltb at len h, le-ltb len size g) (q ∙ ap (λ (x : ℤ). displace (tableOf es ns len) (candOf w x)) same)
 
--- the two slices and the answer, each for itself
+-- the two slices, the answer and the length, each for itself
 pub offer-lists : (es : List ℕ) (ns : List ℤ) (len : ℕ) (a : Answer) (o : Offered) → length es ≡ 4 * length ns → offeredOf es ns len a ≡ o
-    → (es ≡ entriesOf (o .table .cands)) × ((ns ≡ countsOf (o .table .cands)) × (a ≡ o .answer))
+    → (es ≡ entriesOf (o .table .cands)) × ((ns ≡ countsOf (o .table .cands)) × ((a ≡ o .answer) × (lenBy a len ≡ o .table .len)))
 offer-lists es ns len a o h q = (
   entries-are es ns (o .table .cands) h (ap (λ (x : Offered). x .table .cands) q),
-  (counts-are es ns (o .table .cands) (ap (λ (x : Offered). x .table .cands) q), ap (λ (x : Offered). x .answer) q),
+  (counts-are es ns (o .table .cands) (ap (λ (x : Offered). x .table .cands) q), (ap (λ (x : Offered). x .answer) q, ap (λ (x : Offered). x .table .len) q)),
 )

@@ -88,6 +88,7 @@ pub fn offer(
     ensures { λ r. ⌜ now (entries .exit) ≡ entriesOf (offered (now (entries .entry)) (now (counts .entry)) size len w v .table .cands) ⌝ }
     ensures { λ r. ⌜ now (counts .exit) ≡ countsOf (offered (now (entries .entry)) (now (counts .entry)) size len w v .table .cands) ⌝ }
     ensures { λ r. ⌜ r ≡ offered (now (entries .entry)) (now (counts .entry)) size len w v .answer ⌝ }
+    ensures { λ r. ⌜ lenBy r len ≡ offered (now (entries .entry)) (now (counts .entry)) size len w v .table .len ⌝ }
 {
     let at = find(&*entries, len, w.key);
     if at < len {

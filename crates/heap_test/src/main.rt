@@ -81,16 +81,20 @@ fn offer(entries: &mut [u64], counts: &mut [i64], h: Lone, w: Who, v: i64) -> Lo
     let words = 4 * size;
     let a = offer_all(&mut entries[..words], &mut counts[..size], len, w, v);
     let after = heap::len_after(len, a);
-    print_flag(heap::kept(a));
-    print_answer(a);
-    vectors::print(after as u64);
-    vectors::print(entries[0]);
-    vectors::print(vectors::unsigned(counts[0]));
+    report(a, after, entries[0], counts[0]);
     Lone {
         size,
         len: after,
         more: true,
     }
+}
+
+// What an offer answered, the length, and the root.
+fn report(a: Answer, len: usize, key: u64, count: i64) {
+    print_flag(heap::kept(a));
+    print_answer(a);
+    vectors::print(len as u64);
+    print_two(key, vectors::unsigned(count));
 }
 
 // 3: find.

@@ -42,32 +42,14 @@ offer-all-requires c κs = search needs
 len-after-requires : tie.Need-len-after-requires
 len-after-requires c κs = search needs
 
-kept-requires : tie.Need-kept-requires
-kept-requires c κs = search needs
+slice-read-report : tie.Need-slice-read-report
+slice-read-report c = search needs
 
-print-flag-requires : tie.Need-print-flag-requires
-print-flag-requires c κs = search needs
+slice-copy-out-report : tie.Need-slice-copy-out-report
+slice-copy-out-report c = search needs
 
-print-answer-requires : tie.Need-print-answer-requires
-print-answer-requires c κs = search needs
-
-print-requires : tie.Need-print-requires
-print-requires c κs = search needs
-
-slice-read-print : tie.Need-slice-read-print
-slice-read-print c = search needs
-
-print-requires-2 : tie.Need-print-requires-2
-print-requires-2 c κs = search needs
-
-slice-copy-out-unsigned : tie.Need-slice-copy-out-unsigned
-slice-copy-out-unsigned c = search needs
-
-unsigned-requires : tie.Need-unsigned-requires
-unsigned-requires c κs = search needs
-
-print-requires-3 : tie.Need-print-requires-3
-print-requires-3 c κs = search needs
+report-requires : tie.Need-report-requires
+report-requires c κs = search needs
 
 same-length : tie.Need-same-length
 same-length c = search needs
@@ -93,15 +75,9 @@ offer-spec =
     slice-aggregate-offer-all-2
     offer-all-requires
     len-after-requires
-    kept-requires
-    print-flag-requires
-    print-answer-requires
-    print-requires
-    slice-read-print
-    print-requires-2
-    slice-copy-out-unsigned
-    unsigned-requires
-    print-requires-3
+    slice-read-report
+    slice-copy-out-report
+    report-requires
     same-length
     same-length-2
     returns-5)
