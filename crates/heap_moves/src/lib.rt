@@ -32,6 +32,7 @@ pub fn who_at(entries: &[u64], i: usize) -> Who
     }
 }
 
+// Stores an entry's four words at place i.
 fn put_who(entries: &mut [u64], i: usize, w: Who)
     requires { ⌜ 4 * i + 4 ≤ length (now entries) ⌝ }
     ensures { λ r. ⌜ now (entries .exit) ≡ store4 (now (entries .entry)) i w ⌝ }
@@ -43,6 +44,7 @@ fn put_who(entries: &mut [u64], i: usize, w: Who)
     entries[a + 3] = w.low;
 }
 
+// Stores an entry and its count at place i.
 pub fn put_cand(entries: &mut [u64], counts: &mut [i64], i: usize, w: Who, n: i64)
     requires { ⌜ Two (length (now entries)) (length (now counts)) i i ⌝ }
     ensures { λ r. ⌜ candsOf (now (entries .exit)) (now (counts .exit)) ≡ set (candsOf (now (entries .entry)) (now (counts .entry))) i (candOf w n) ⌝ }
@@ -51,6 +53,7 @@ pub fn put_cand(entries: &mut [u64], counts: &mut [i64], i: usize, w: Who, n: i6
     counts[i] = n;
 }
 
+// Exchanges two entries with their counts.
 fn swap_entries(entries: &mut [u64], counts: &mut [i64], i: usize, j: usize)
     requires { ⌜ Two (length (now entries)) (length (now counts)) i j ⌝ }
     ensures { λ r. ⌜ candsOf (now (entries .exit)) (now (counts .exit)) ≡ swapped (candsOf (now (entries .entry)) (now (counts .entry))) i j ⌝ }
@@ -73,6 +76,7 @@ fn should_swap(counts: &[i64], parent: usize, child: usize) -> bool
     counts[child] < counts[parent]
 }
 
+// `bubble_up_with`: moves the entry at `start` up while it is smaller than its parent.
 pub fn bubble_up(entries: &mut [u64], counts: &mut [i64], start: usize)
     requires { ⌜ Two (length (now entries)) (length (now counts)) start start ⌝ }
     ensures { λ r. ⌜ candsOf (now (entries .exit)) (now (counts .exit)) ≡ up start (candsOf (now (entries .entry)) (now (counts .entry))) start ⌝ }
@@ -121,7 +125,7 @@ fn lowest(counts: &[i64], n: usize, i: usize) -> usize
     j
 }
 
-// Moves the entry at `start` down among the first n; whether it moved.
+// `bubble_down_with`: moves the entry at `start` down among the first n; whether it moved.
 pub fn bubble_down(entries: &mut [u64], counts: &mut [i64], n: usize, start: usize) -> bool
     requires { ⌜ Two (length (now entries)) (length (now counts)) start start ⌝ }
     requires { ⌜ (start < n) × (n ≤ length (now counts)) ⌝ }
@@ -139,7 +143,7 @@ pub fn bubble_down(entries: &mut [u64], counts: &mut [i64], n: usize, start: usi
     }
 }
 
-// Moves the entry at i, whose count changed, to its place among the first n: down, or else up.
+// `update_at_with`: moves the entry at i, whose count changed, among the first n: down, or else up.
 pub fn update_at(entries: &mut [u64], counts: &mut [i64], n: usize, i: usize)
     requires { ⌜ Two (length (now entries)) (length (now counts)) i i ⌝ }
     requires { ⌜ (i < n) × (n ≤ length (now counts)) ⌝ }
