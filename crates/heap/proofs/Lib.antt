@@ -1,0 +1,6 @@
+pub mod Matches
+pub mod Steps
+pub mod Scans
+pub mod Cases
+pub mod Sounds
+pub mod Effects

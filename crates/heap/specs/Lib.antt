@@ -1,0 +1,4 @@
+pub mod Offer
+pub mod Slices
+pub mod Keys
+pub mod Sound
