@@ -1,20 +1,21 @@
--- The rows' estimates, sorted as they come. Assumes nothing.
-use mathlib.Core.Path.{_≡_, refl, sym, ap, ap₂, _∙_}
-use mathlib.Core.Bool.{Bool, true, false, _&&_}
-use Prim.Native.Nat.{ℕ, zero, suc, _+_, _-_, _*_, _≤_, _<_}
-use native.Mathlib.Omega.{arith}
-use native.Mathlib.Numerals.{add-one}
-use mathlib.Core.List.{List, [], _∷_}
-use lib.ListN.{length, getD, take}
-use lib.IntN.{ℤ, pos, natAbs}
+-- The rows' estimates, and the count as the estimate, cut. Assumes nothing.
+use mathlib.Core.Path.{_≡_, refl, sym, ap, _∙_}
+use mathlib.Core.Bool.{true}
+use Prim.Native.Nat.{ℕ, zero, suc}
+use mathlib.Core.List.{List, [], _∷_, map}
+use lib.ListN.{take}
+use lib.IntN.{ℤ}
 use lib.Dec.{leb}
+use lib.Ieee.{binary64, ofInt, toSigned}
 use Rattle.words.specs.Num.{top, inRange, allIn}
-use Rattle.words.proofs.Laws.{and-left, and-right, both}
-use Rattle.matrix_storage.specs.Bits.{column, signed}
-use Rattle.structure_utils.specs.Median.{sortZ, middle, bubble}
-use Rattle.structure_utils.proofs.Laws.{sort-more, all-sort}
-use Rattle.countsketch_l2_norm.specs.Sketch.{cellOf, cellAt, estimates, estimateOf, cellsIn}
-use Rattle.matrix_storage.proofs.Laws.{abs-signed}
+use Rattle.words.proofs.Bools.{and-left, and-right, both}
+use Rattle.matrix_storage.specs.Bits.{signed}
+use Rattle.matrix_storage.proofs.Cells.{abs-signed}
+use Rattle.structure_utils.specs.Median.{sortZ, middle, middleF}
+use Rattle.structure_utils.proofs.Sorting.{all-sort}
+use Rattle.structure_utils.proofs.Floats.{median-ints, count-is}
+use Rattle.countsketch_l2_norm.specs.Sketch.{cellOf, cellAt}
+use Rattle.countsketch_l2_norm.specs.Estimate.{estimates, estimateF, estimateOf, cellsIn}
 
 in-signed : (h r : ℕ) (v : ℤ) → inRange v ≡ true → inRange (signed h r v) ≡ true
 unfolding inRange
@@ -27,42 +28,28 @@ all-estimates cols h xs (suc k) r e =
     both (in-signed h r (cellAt xs (cellOf cols h r)) (and-left (inRange (cellAt xs (cellOf cols h r))) (cellsIn cols h xs k (suc r)) e))
     (all-estimates cols h xs k (suc r) (and-right (inRange (cellAt xs (cellOf cols h r))) (cellsIn cols h xs k (suc r)) e))
 
--- the estimates of the last n rows, from row r on, stand sorted
-pub record Sorting (rows cols h : ℕ) (xs : List ℤ) (buf : List ℤ) (n r : ℕ) : Type 0 where
-  pub all : n + r ≡ rows
-  pub len : length buf ≡ 20
-  pub sorted : take n buf ≡ sortZ (estimates cols h xs n r)
+-- "A count is the estimate cut toward zero."
+pub count-cut : (rows cols h : ℕ) (xs : List ℤ) → cellsIn cols h xs rows 0 ≡ true → toSigned 63 (estimateF rows cols h xs) ≡ estimateOf rows cols h xs
+unfolding estimateF estimateOf
+count-cut rows cols h xs e = count-is (estimates cols h xs rows 0) (all-estimates cols h xs rows 0 e)
 
-pub sort-start : (rows cols h : ℕ) (xs buf : List ℤ) → length buf ≡ 20 → Sorting rows cols h xs buf 0 rows
-unfolding estimates sortZ
-sort-start rows cols h xs buf l = record { all = omega arith; len = l; sorted = refl }
+-- ---- in the buffer
 
-one-more : (cols h : ℕ) (xs : List ℤ) (n q : ℕ) → sortZ (signed h q (cellAt xs (cellOf cols h q)) ∷ estimates cols h xs n (suc q)) ≡ sortZ (estimates cols h xs (suc n) q)
+pub estimates-none : (cols h : ℕ) (xs : List ℤ) (r : ℕ) → estimates cols h xs 0 r ≡ []
 unfolding estimates
-one-more cols h xs n q = refl
+estimates-none cols h xs r = refl
 
-pub sort-on : (rows cols h : ℕ) (xs buf : List ℤ) (n r : ℕ) (v : ℤ) (new : List ℤ) → Sorting rows cols h xs buf n r → 0 < r → length new ≡ 20
-    → v ≡ signed h (r - 1) (cellAt xs (cellOf cols h (r - 1))) → take (n + 1) new ≡ bubble v (take n buf) → Sorting rows cols h xs new (n + 1) (r - 1)
-sort-on rows cols h xs buf n r v new s l k ev e =
-    let q : r ≡ suc (r - 1) = omega arith in
-    let w : take n buf ≡ sortZ (estimates cols h xs n (suc (r - 1))) = s .sorted ∙ ap (λ (i : ℕ). sortZ (estimates cols h xs n i)) q in
-    let x = signed h (r - 1) (cellAt xs (cellOf cols h (r - 1))) in
-    record {
-      all = omega (arith, s .all);
-      len = k;
-      sorted = e ∙ ap₂ bubble ev w ∙ sort-more x (estimates cols h xs n (suc (r - 1))) ∙ one-more cols h xs n (r - 1) ∙ ap (λ (i : ℕ). sortZ (estimates cols h xs i (r - 1))) (sym (add-one n));
-    }
+pub estimates-more : (cols h : ℕ) (xs : List ℤ) (n r : ℕ) (v : ℤ) → v ≡ signed h r (cellAt xs (cellOf cols h r)) → estimates cols h xs (suc n) r ≡ v ∷ estimates cols h xs n (suc r)
+unfolding estimates
+estimates-more cols h xs n r v e = ap (λ (z : ℤ). z ∷ estimates cols h xs n (suc r)) (sym e)
 
--- all rows have gone in
-pub sort-end : (rows cols h : ℕ) (xs buf : List ℤ) (n r : ℕ) → Sorting rows cols h xs buf n r → r ≤ 0 → take rows buf ≡ sortZ (estimates cols h xs rows 0)
-sort-end rows cols h xs buf n r s l =
-    let a : n ≡ rows = omega (arith, s .all) in
-    let b : r ≡ 0 = omega arith in
-    sym (ap (λ (i : ℕ). take i buf) a) ∙ s .sorted ∙ ap₂ (λ (i j : ℕ). sortZ (estimates cols h xs i j)) a b
+pub sorted-in : (rows cols h : ℕ) (xs buf : List ℤ) → take rows buf ≡ sortZ (estimates cols h xs rows 0) → cellsIn cols h xs rows 0 ≡ true → allIn (take rows buf) ≡ true
+sorted-in rows cols h xs buf e i = rw e (all-sort (estimates cols h xs rows 0) (all-estimates cols h xs rows 0 i))
 
-pub sort-in : (rows cols h : ℕ) (xs buf : List ℤ) → take rows buf ≡ sortZ (estimates cols h xs rows 0) → cellsIn cols h xs rows 0 ≡ true → allIn (take rows buf) ≡ true
-sort-in rows cols h xs buf e i = rw e (all-sort (estimates cols h xs rows 0) (all-estimates cols h xs rows 0 i))
-
-pub sort-median : (rows cols h : ℕ) (xs buf : List ℤ) → take rows buf ≡ sortZ (estimates cols h xs rows 0) → middle (take rows buf) ≡ estimateOf rows cols h xs
+pub sorted-count : (rows cols h : ℕ) (xs buf : List ℤ) → take rows buf ≡ sortZ (estimates cols h xs rows 0) → middle (take rows buf) ≡ estimateOf rows cols h xs
 unfolding estimateOf
-sort-median rows cols h xs buf e = ap middle e
+sorted-count rows cols h xs buf e = ap middle e
+
+pub sorted-float : (rows cols h : ℕ) (xs buf : List ℤ) → take rows buf ≡ sortZ (estimates cols h xs rows 0) → cellsIn cols h xs rows 0 ≡ true → middleF (map (ofInt binary64) (take rows buf)) ≡ estimateF rows cols h xs
+unfolding estimateF
+sorted-float rows cols h xs buf e i = ap (λ (l : List ℤ). middleF (map (ofInt binary64) l)) e ∙ sym (median-ints (estimates cols h xs rows 0) (all-estimates cols h xs rows 0 i))

@@ -1,19 +1,21 @@
 -- Norms worked out anew, and sums of two lists. Assumes nothing.
-use mathlib.Core.Path.{_≡_, refl, sym, ap, ap₂, _∙_}
+use mathlib.Core.Path.{_≡_, refl, sym, ap, _∙_}
 use mathlib.Core.Bool.{Bool, true, false, _&&_}
-use Prim.Native.Nat.{ℕ, zero, suc, _+_, _-_, _*_, _≤_, _<_}
+use Prim.Native.Nat.{ℕ, zero, suc, _+_, _*_, _≤_, _<_}
 use native.Mathlib.Omega.{arith}
 use native.Mathlib.Numerals.{add-one}
 use mathlib.Core.List.{List, [], _∷_, _++_, append-assoc, append-nil}
 use lib.ListN.{length, getD, set, take, drop, length-set, drop-of-length-le}
-use lib.Seq.{drop-cons, take-suc-set, drop-set-lt, take-all, ext-getD, getD-set-same, getD-set-other}
+use lib.Seq.{drop-cons, take-suc-set, drop-set-lt, take-all, ext-getD}
 use lib.IntN.{ℤ, pos, natAbs, _+ℤ_}
 use lib.Dec.{eqb}
 use borrow.Author.Tests.{eqb-true, eqb-false}
-use Rattle.words.specs.Num.{squareCap, inRange, allIn, capped}
-use Rattle.words.proofs.Laws.{and-left, and-right, all-step, range-bound, capped-le}
+use Rattle.words.specs.Num.{top, squareCap, inRange, allIn, capped}
+use Rattle.words.proofs.Bools.{and-left, and-right}
+use Rattle.words.proofs.Squares.{all-step, range-bound, capped-le}
 use Rattle.countsketch_l2_norm.specs.Norms.{normsOf, normAt, setNorm}
-use Rattle.countsketch_l2_norm.specs.Sketch.{cellAt, sumBelow, squaresFrom, rowNorm, rowNorms, sums}
+use Rattle.countsketch_l2_norm.specs.Sketch.{cellAt}
+use Rattle.countsketch_l2_norm.specs.Merge.{sumBelow, squaresFrom, rowNorm, rowNorms, sums}
 use Rattle.countsketch_l2_norm.proofs.Norms.{norm-at, length-norms, set-same, set-other, length-setNorm}
 
 -- one more square
@@ -25,9 +27,11 @@ pub squares-more : (a n : ℕ) (xs : List ℤ) → squaresFrom a (n + 1) xs ≡ 
 unfolding squaresFrom sumBelow
 squares-more a n xs = rw add-one
 
-pub squares-row : (cols r : ℕ) (xs : List ℤ) → squaresFrom (r * cols) cols xs ≡ rowNorm cols xs r
-unfolding squaresFrom rowNorm
-squares-row cols r xs = refl
+-- "A norm's range is 0 to cols × 2^63."
+pub squares-most : (a n : ℕ) (xs : List ℤ) → squaresFrom a n xs ≤ n * squareCap
+unfolding squaresFrom sumBelow
+squares-most a zero xs = omega arith
+squares-most a (suc n) xs = omega (arith, squares-most a n xs, capped-le (cellAt xs (a + n)))
 
 -- the norms of the rows
 pub length-rowNorms : (cols : ℕ) (xs : List ℤ) (k r : ℕ) → length (rowNorms cols xs k r) ≡ k
@@ -42,6 +46,11 @@ rowNorms-at cols xs (suc k) r zero h = ap (rowNorm cols xs) (omega arith)
 rowNorms-at cols xs (suc k) r (suc i) h =
     let e : suc r + i ≡ r + suc i = omega arith in
     rowNorms-at cols xs k (suc r) i (omega arith) ∙ ap (rowNorm cols xs) e
+
+pub row-at : (cols : ℕ) (xs : List ℤ) (rows i : ℕ) → i < rows → getD (rowNorms cols xs rows 0) i 0 ≡ rowNorm cols xs i
+row-at cols xs rows i h =
+    let z : 0 + i ≡ i = omega arith in
+    rowNorms-at cols xs rows 0 i h ∙ ap (rowNorm cols xs) z
 
 pub record Norming (rows cols : ℕ) (xs : List ℤ) (ws₀ ws : List ℕ) (r : ℕ) : Type 0 where
   pub low : r ≤ rows
@@ -68,10 +77,16 @@ pub norm-end : (rows cols : ℕ) (xs : List ℤ) (ws₀ ws : List ℕ) (r : ℕ)
 norm-end rows cols xs ws₀ ws r g l =
     ext-getD 0 (normsOf ws rows) (rowNorms cols xs rows 0) (length-norms ws rows ∙ sym (length-rowNorms cols xs rows 0))
     (λ i h. let k : i < rows = omega (arith, h, length-norms ws rows) in
-    let z : 0 + i ≡ i = omega arith in
-    norm-at ws rows i k ∙ g .done i (omega arith) ∙ sym (rowNorms-at cols xs rows 0 i k ∙ ap (rowNorm cols xs) z))
+    norm-at ws rows i k ∙ g .done i (omega arith) ∙ sym (row-at cols xs rows i k))
 
--- sums of two lists
+-- ---- sums of two lists
+
+pub length-sums : (xs ys : List ℤ) → length xs ≡ length ys → length (sums xs ys) ≡ length xs
+unfolding sums
+length-sums [] ys h = refl
+length-sums (x ∷ xs) [] h = absurd (omega arith)
+length-sums (x ∷ xs) (y ∷ ys) h = ap suc (length-sums xs ys (omega arith))
+
 pub sums-step : (xs ys : List ℤ) (i : ℕ) → i < length xs → i < length ys
     → sums (drop i xs) (drop i ys) ≡ (getD xs i (pos 0) +ℤ getD ys i (pos 0)) ∷ sums (drop (i + 1) xs) (drop (i + 1) ys)
 unfolding sums
@@ -95,7 +110,7 @@ pub record Adding (xs₀ ys xs : List ℤ) (i : ℕ) : Type 0 where
 pub add-start : (xs ys : List ℤ) → allIn xs ≡ true → Adding xs ys xs 0
 add-start xs ys e = record { low = omega arith; same = refl; rest = e; goes = refl }
 
-pub add-in : (xs₀ ys xs : List ℤ) (i : ℕ) → Adding xs₀ ys xs i → i < length xs → natAbs (getD xs i (pos 0)) ≤ 4503599627370496
+pub add-in : (xs₀ ys xs : List ℤ) (i : ℕ) → Adding xs₀ ys xs i → i < length xs → natAbs (getD xs i (pos 0)) ≤ top
 add-in xs₀ ys xs i g h = range-bound (getD xs i (pos 0)) (and-left (inRange (getD xs i (pos 0))) (allIn (drop (i + 1) xs)) (sym (all-step xs i h) ∙ g .rest))
 
 pub add-on : (xs₀ ys xs : List ℤ) (i : ℕ) (z : ℤ) → Adding xs₀ ys xs i → i < length xs → i < length ys → z ≡ getD xs i (pos 0) +ℤ getD ys i (pos 0) → Adding xs₀ ys (set xs i z) (i + 1)
