@@ -13,7 +13,8 @@ use Rattle.words.proofs.Bools.{and-left, and-right}
 use Rattle.header.specs.Shape.{maxLayers, shapeRefusal}
 use Rattle.header.specs.Header.{layerOk, lensFrom, headerOk}
 use Rattle.header.specs.declared.Header.{Header}
-use Rattle.header.proofs.Refusals.{Accepted, accepted-of}
+use Rattle.header.specs.Accepted.{Accepted}
+use Rattle.header.proofs.Refusals.{accepted-of}
 
 pub record Ranged (h : Header) : Type 0 where
   pub accepted : Accepted (h .shape)

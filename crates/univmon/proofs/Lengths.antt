@@ -12,12 +12,7 @@ use Rattle.header.specs.declared.Shape.{Shape}
 use Rattle.header.specs.Header.{freshHeader}
 use Rattle.univmon.specs.Slices.{cellsIn, normsIn, candsIn, lengthsOk, lent, freshLent}
 use Rattle.univmon.specs.Calls.{left}
-
-pub record Sizes (sh : Shape) (a b c d : ℕ) : Type 0 where
-  pub cells : a ≡ cellsIn sh
-  pub norms : b ≡ 2 * normsIn sh
-  pub entries : c ≡ 4 * candsIn sh
-  pub counts : d ≡ candsIn sh
+use Rattle.univmon.specs.Needs.{Sizes}
 
 pub sizes-of : (sh : Shape) (a b c d : ℕ) → lengthsOk sh a b c d ≡ true → Sizes sh a b c d
 unfolding lengthsOk

@@ -8,7 +8,7 @@ use Rattle.matrix_storage.specs.Bits.{maxRows, maxCols}
 use Rattle.countsketch_l2_norm.specs.Merge.{sumBelow}
 use Rattle.header.specs.declared.Shape.{Shape}
 use Rattle.header.specs.Shape.{maxLayers, maxHeap}
-use Rattle.header.proofs.Refusals.{Accepted}
+use Rattle.header.specs.Accepted.{Accepted}
 use Rattle.univmon.specs.State.{rowsAt, colsAt, dimsAt, cellOff, normOff, candOff}
 
 -- a part ends where the next begins, or before
@@ -53,3 +53,10 @@ cells-few sh a l h = let k : l * sh .rows * sh .cols ≤ 380 * 4096 = mul-le-mul
 
 pub cells-are : (sh : Shape) (l : ℕ) → cellOff sh l ≡ l * sh .rows * sh .cols
 cells-are sh l = cell-off sh l ∙ sym (mul-assoc l (sh .rows) (sh .cols))
+
+-- a layer's counters, and where they begin
+pub table-few : (sh : Shape) → Accepted sh → sh .rows * sh .cols ≤ 81920
+table-few sh a = let k : sh .rows * sh .cols ≤ 20 * 4096 = mul-le-mul (a .shaped .few) (a .shaped .wide) in omega (arith, k)
+
+pub tables-few : (sh : Shape) → Accepted sh → (l : ℕ) → l ≤ sh .layers → l * (sh .rows * sh .cols) ≤ 1556480
+tables-few sh a l h = let k : l * (sh .rows * sh .cols) ≤ 19 * 81920 = mul-le-mul (le-trans h (a .few)) (table-few sh a) in omega (arith, k)
