@@ -8,6 +8,7 @@ use lib.ListN.{length}
 use lib.IntN.{ℤ}
 use Rattle.countsketch_l2_norm.specs.Sketch.{Sketch, sketchOf, addCell, addRows}
 use Rattle.countsketch_l2_norm.specs.Estimate.{estimateOf}
+use Rattle.countsketch_l2_norm.proofs.After.{length-rows, length-rows-norms}
 use Rattle.heap_moves.specs.declared.Who.{Who}
 use Rattle.heap_moves.specs.Flat.{candOf, entriesOf, countsOf}
 use Rattle.heap.specs.declared.Answer.{Answer}
@@ -15,9 +16,10 @@ use Rattle.heap_moves.specs.Cands.{Cand}
 use Rattle.heap.specs.Offer.{Table, Offered, offer, rescore, seat, replaceRoot, keptBy, lenBy, kept}
 use Rattle.heap.proofs.Cases.{offer-cases}
 use Rattle.heap.specs.Slices.{tableOf, offered}
-use Rattle.heap.proofs.Sounds.{offer-table}
+use Rattle.heap.proofs.Sounds.{offer-table, offer-long}
 use Rattle.layer.specs.declared.Dims.{Dims}
 use Rattle.layer.specs.Layer.{Layer, Item, layerOf, item, hashBy, countOf, offerTo, addSketch, addLayer}
+use Rattle.layer.specs.Needs.{Fits}
 use Rattle.layer.specs.Delta.{Delta, delta, deltaLayer}
 
 -- a sketch, and the offer of a key with its count from the new counters
@@ -76,3 +78,14 @@ add-few d u l h = offer-few (d .size) (l .table) _ h
 pub delta-few : (d : Dims) (u : Delta) (l : Layer) → l .table .len ≤ d .size → deltaLayer d u l .table .len ≤ d .size
 unfolding deltaLayer
 delta-few d u l h = offer-few (d .size) (l .table) _ h
+
+-- ---- a layer keeps its lengths
+
+pub add-lengths : (d : Dims) (u : Item) (l : Layer) → Fits d l → Fits d (addLayer d u l)
+unfolding addLayer addSketch
+add-lengths d u l f =
+    record {
+      cells = length-rows (d .cols) (hashBy (u .who)) (u .weight) (d .rows) 0 (l .sketch) ∙ f .cells;
+      norms = length-rows-norms (d .cols) (hashBy (u .who)) (u .weight) (d .rows) 0 (l .sketch) ∙ f .norms;
+      cands = offer-long (d .size) (l .table) _ ∙ f .cands;
+    }

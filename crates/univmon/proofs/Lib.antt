@@ -4,3 +4,4 @@ pub mod Lengths
 pub mod States
 pub mod Views
 pub mod Sends
+pub mod Sending

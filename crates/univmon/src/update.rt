@@ -9,10 +9,10 @@ ghost use Prim.Native.Nat.{ℕ, _+_, _*_, _≤_, _<_};
 ghost use lib.ListN.{length};
 ghost use Rattle.words.specs.Num.{top};
 ghost use Rattle.layer.specs.Layer.{item, addLayer, addReads, addFits};
-ghost use Rattle.univmon.specs.State.{dimsAt, layerAt, putLayer};
+ghost use Rattle.univmon.specs.State.{dimsAt, layerAt, putLayer, overLayers, allLayers};
 ghost use Rattle.univmon.specs.Slices.{lent, view};
 ghost use Rattle.univmon.specs.Updates.{whoAt};
-ghost use Rattle.univmon.specs.Needs.{Standing, SendReady};
+ghost use Rattle.univmon.specs.Needs.{Standing, SendReady, SendsReady, readsAt, fitsAt, addsAt};
 
 // Who a record names, with the hash of a layer.
 fn who_in(words: &[u64], l: usize) -> Who
@@ -70,4 +70,31 @@ fn send_one(
         weight,
     );
     h.touched(l, heap::len_after(len, answer), heap::kept(answer))
+}
+
+// Sends an update to many layers from the first on.
+fn send(
+    h: Header,
+    counters: &mut [i64],
+    norms: &mut [u64],
+    entries: &mut [u64],
+    counts: &mut [i64],
+    words: &[u64],
+    weight: u64,
+    first: usize,
+    many: usize,
+) -> Header
+    requires { ⌜ SendsReady (lent h (now counters) (now norms) (now entries) (now counts)) (now words) weight many first ⌝ }
+    ensures { λ r. ⌜ view (lent r (now (counters .exit)) (now (norms .exit)) (now (entries .exit)) (now (counts .exit)))
+        ≡ overLayers (addsAt (h .shape) (now (words .entry)) weight) many first (view (lent h (now (counters .entry)) (now (norms .entry)) (now (entries .entry)) (now (counts .entry)))) ⌝ }
+    ensures { λ r. ⌜ Standing (lent r (now (counters .exit)) (now (norms .exit)) (now (entries .exit)) (now (counts .exit))) ⌝ }
+{
+    let end = first + many;
+    let mut header = h;
+    let mut l = first;
+    while l < end {
+        header = send_one(header, counters, norms, entries, counts, words, weight, l);
+        l += 1;
+    }
+    header
 }

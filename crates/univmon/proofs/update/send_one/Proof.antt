@@ -165,36 +165,4 @@ returns c =
     )
 
 pub send-one-spec : {M : Type 1} → statement M
-send-one-spec =
-    tie.close
-    (tie.spec
-    span-of-requires
-    dims-requires
-    who-in-requires
-    mul-len
-    array-read-len
-    mul-add
-    sub-add
-    part-add-start
-    part-add-end
-    mul-add-2
-    sub-add-2
-    part-add-start-2
-    part-add-end-2
-    mul-add-3
-    sub-add-3
-    part-add-start-3
-    part-add-end-3
-    mul-add-4
-    sub-add-4
-    part-add-start-4
-    part-add-end-4
-    add-requires
-    len-after-requires
-    kept-requires
-    touched-requires
-    same-length
-    same-length-2
-    same-length-3
-    same-length-4
-    returns)
+send-one-spec = tie.close (tie.spec span-of-requires dims-requires who-in-requires mul-len array-read-len mul-add sub-add part-add-start part-add-end mul-add-2 sub-add-2 part-add-start-2 part-add-end-2 mul-add-3 sub-add-3 part-add-start-3 part-add-end-3 mul-add-4 sub-add-4 part-add-start-4 part-add-end-4 add-requires len-after-requires kept-requires touched-requires same-length same-length-2 same-length-3 same-length-4 returns)

@@ -43,16 +43,4 @@ returns c =
     rw e
 
 pub who-in-spec : {M : Type 1} → statement M
-who-in-spec =
-    tie.close
-    (tie.spec
-    mul-at
-    add-at
-    shared-slice-read-t6
-    shared-slice-read-t8
-    mul-t4
-    shared-slice-read-t10
-    add-t11
-    mul-t12
-    shared-slice-read-t14
-    returns)
+who-in-spec = tie.close (tie.spec mul-at add-at shared-slice-read-t6 shared-slice-read-t8 mul-t4 shared-slice-read-t10 add-t11 mul-t12 shared-slice-read-t14 returns)
