@@ -5,7 +5,7 @@ ghost use Prim.Native.Nat.{ℕ, _+_, _-_, _*_, _<_, _≤_};
 ghost use lib.ListN.{length, set};
 ghost use lib.IntN.{ℤ, natAbs, _+ℤ_};
 ghost use Rattle.words.specs.Num.{top, inRange, capped};
-ghost use Rattle.words.specs.Wide.{twoWords};
+ghost use Rattle.words.specs.Wide.{valueOf};
 ghost use Rattle.matrix_storage.specs.Bits.{maxRows, maxCols};
 ghost use Rattle.countsketch_l2_norm.specs.Norms.{normAt, setNorm};
 ghost use Rattle.countsketch_l2_norm.specs.Sketch.{sketchOf, cellAt, addCell, rowRead, cellRead, cellFits};
@@ -20,6 +20,30 @@ pub fn index_of(cols: usize, row: usize, col: usize) -> usize
     row * cols + col
 }
 
+// A row's norm, from its two words.
+pub fn norm_of(norms: &[u64], r: usize) -> Wide
+    requires { ⌜ (r < maxRows) × (2 * r + 1 < length (now norms)) ⌝ }
+    ensures { λ w. ⌜ valueOf w ≡ normAt (now (norms .entry)) r ⌝ }
+{
+    let lo_at = 2 * r;
+    let hi_at = lo_at + 1;
+    Wide {
+        lo: norms[lo_at],
+        hi: norms[hi_at],
+    }
+}
+
+// Stores a row's norm.
+pub fn put_norm(norms: &mut [u64], r: usize, w: Wide)
+    requires { ⌜ (r < maxRows) × (2 * r + 1 < length (now norms)) ⌝ }
+    ensures { λ _. ⌜ now (norms .exit) ≡ setNorm (now (norms .entry)) r (valueOf w) ⌝ }
+{
+    let lo_at = 2 * r;
+    let hi_at = lo_at + 1;
+    norms[lo_at] = w.lo;
+    norms[hi_at] = w.hi;
+}
+
 // The counter at an index takes a number, and the norm of its row gives up the counter's old square
 // and takes the new one.
 pub fn add_cell(counters: &mut [i64], norms: &mut [u64], at: usize, r: usize, delta: i64)
@@ -32,29 +56,24 @@ pub fn add_cell(counters: &mut [i64], norms: &mut [u64], at: usize, r: usize, de
 {
     let old = counters[at];
     let new = old + delta;
-    let lo_at = 2 * r;
-    let hi_at = lo_at + 1;
-    let lo = norms[lo_at];
-    let hi = norms[hi_at];
     let less = words::capped_square(old);
     let more = words::capped_square(new);
-    let moved = Wide { lo, hi }.moved(less, more);
-    norms[lo_at] = moved.lo;
-    norms[hi_at] = moved.hi;
+    let moved = norm_of(&*norms, r).moved(less, more);
+    put_norm(norms, r, moved);
     counters[at] = new;
 }
 
 // Whether a counter and its row's norm are in range, and the norm holds the counter's square.
-pub fn row_read(x: i64, lo: u64, hi: u64, cols: usize) -> bool
-    ensures { λ b. ⌜ b ≡ rowRead x (twoWords lo hi) cols ⌝ }
+pub fn row_read(x: i64, w: Wide, cols: usize) -> bool
+    ensures { λ b. ⌜ b ≡ rowRead x (valueOf w) cols ⌝ }
 {
     if !words::in_range(x) {
         return false;
     }
-    if !words::at_most_caps(lo, hi, cols as u64) {
+    if !words::at_most_caps(w.lo, w.hi, cols as u64) {
         return false;
     }
-    words::at_least(lo, hi, words::capped_square(x))
+    words::at_least(w.lo, w.hi, words::capped_square(x))
 }
 
 // Whether what a delta reads is in range: its counter and its row's norm.
@@ -71,7 +90,7 @@ pub fn cell_read(
     ensures { λ b. ⌜ b ≡ cellRead cols (row * cols + col) row (sketchOf (now (counters .entry)) (now (norms .entry)) rows) ⌝ }
 {
     let at = index_of(cols, row, col);
-    row_read(counters[at], norms[2 * row], norms[2 * row + 1], cols)
+    row_read(counters[at], norm_of(norms, row), cols)
 }
 
 // Whether a counter that is in range stays so when it takes a delta.

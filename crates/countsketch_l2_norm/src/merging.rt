@@ -8,9 +8,10 @@ ghost use lib.IntN.{ℤ, natAbs, _+ℤ_};
 ghost use Rattle.words.specs.Num.{top, allIn};
 ghost use Rattle.words.specs.Wide.{valueOf};
 ghost use Rattle.matrix_storage.specs.Bits.{maxRows, maxCols, Shaped};
-ghost use Rattle.countsketch_l2_norm.specs.Norms.{setNorm, normsOf};
+ghost use Rattle.countsketch_l2_norm.specs.Norms.{normsOf};
 ghost use Rattle.countsketch_l2_norm.specs.Sketch.{sketchOf};
 ghost use Rattle.countsketch_l2_norm.specs.Merge.{sums, rowNorm, rowNorms, mergeSketch};
+use crate::cells::put_norm;
 use words::Wide;
 
 // ---- the questions
@@ -86,17 +87,6 @@ pub fn row_norm(counters: &[i64], cols: usize, r: usize) -> Wide
         i += 1;
     }
     acc
-}
-
-// Stores a row's norm.
-fn put_norm(norms: &mut [u64], r: usize, w: Wide)
-    requires { ⌜ (r < maxRows) × (2 * r + 1 < length (now norms)) ⌝ }
-    ensures { λ _. ⌜ now (norms .exit) ≡ setNorm (now (norms .entry)) r (valueOf w) ⌝ }
-{
-    let lo_at = 2 * r;
-    let hi_at = lo_at + 1;
-    norms[lo_at] = w.lo;
-    norms[hi_at] = w.hi;
 }
 
 // The norms of all rows, worked out anew.

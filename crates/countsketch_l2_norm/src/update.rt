@@ -5,14 +5,16 @@ ghost use Prim.Native.Nat.{ℕ, _*_, _<_, _≤_};
 ghost use lib.ListN.{length};
 ghost use lib.IntN.{ℤ, pos, natAbs, _+ℤ_};
 ghost use Rattle.words.specs.Num.{top, inRange};
-ghost use Rattle.words.specs.Wide.{twoWords};
+ghost use Rattle.words.specs.Wide.{valueOf};
 ghost use Rattle.matrix_storage.specs.Bits.{maxRows, maxCols, maskBits, signed, hashOf, Shaped};
 ghost use Rattle.countsketch_l2_norm.specs.Sketch.{sketchOf, cellOf, addRows, rowRead, rowsRead, rowsFit, rowsReady};
 ghost use Rattle.countsketch_l2_norm.specs.Estimate.{cellsIn};
 ghost use Rattle.countsketch_l2_norm.specs.Needs.{Ready};
 use crate::cells::add_cell;
 use crate::cells::index_of;
+use crate::cells::norm_of;
 use crate::cells::row_read;
+use words::Wide;
 
 // The index of the counter that a hash names in a row, with `bits` the mask bits of `cols`.
 pub fn place(high: u64, low: u64, bits: usize, cols: usize, r: usize) -> usize
@@ -73,7 +75,7 @@ pub fn rows_read(
     let mut r = 0;
     while r < rows {
         let at = place(high, low, bits, cols, r);
-        if !row_read(counters[at], norms[2 * r], norms[2 * r + 1], cols) {
+        if !row_read(counters[at], norm_of(norms, r), cols) {
             return false;
         }
         r += 1;
@@ -110,11 +112,11 @@ pub fn rows_fit(
 }
 
 // Whether a row may take a number: what is read is in range, and so is the new counter.
-fn row_ready(x: i64, lo: u64, hi: u64, cols: usize, delta: i64) -> bool
+fn row_ready(x: i64, w: Wide, cols: usize, delta: i64) -> bool
     requires { ⌜ natAbs delta ≤ top ⌝ }
-    ensures { λ b. ⌜ b ≡ rowRead x (twoWords lo hi) cols && inRange (x +ℤ delta) ⌝ }
+    ensures { λ b. ⌜ b ≡ rowRead x (valueOf w) cols && inRange (x +ℤ delta) ⌝ }
 {
-    if !row_read(x, lo, hi, cols) {
+    if !row_read(x, w, cols) {
         return false;
     }
     words::in_range(x + delta)
@@ -140,7 +142,7 @@ pub fn rows_ready(
     while r < rows {
         let at = place(high, low, bits, cols, r);
         let delta = delta_at(high, low, r, weight);
-        if !row_ready(counters[at], norms[2 * r], norms[2 * r + 1], cols, delta) {
+        if !row_ready(counters[at], norm_of(norms, r), cols, delta) {
             return false;
         }
         r += 1;

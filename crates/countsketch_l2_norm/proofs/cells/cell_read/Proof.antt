@@ -32,36 +32,18 @@ mul-row-read c = let h = inside c in search needs
 shared-slice-copy-out-row-read : tie.Need-shared-slice-copy-out-row-read
 shared-slice-copy-out-row-read c = let h = inside c in search needs
 
-mul-row-read-2 : tie.Need-mul-row-read-2
-mul-row-read-2 c = search needs
-
-mul-row-read-3 : tie.Need-mul-row-read-3
-mul-row-read-3 c = search needs
-
-shared-slice-read-row-read : tie.Need-shared-slice-read-row-read
-shared-slice-read-row-read c = search needs
-
-mul-row-read-4 : tie.Need-mul-row-read-4
-mul-row-read-4 c = search needs
-
-add-row-read : tie.Need-add-row-read
-add-row-read c = search needs
-
-mul-row-read-5 : tie.Need-mul-row-read-5
-mul-row-read-5 c = search needs
-
-shared-slice-read-row-read-2 : tie.Need-shared-slice-read-row-read-2
-shared-slice-read-row-read-2 c = search needs
+norm-of-requires : tie.Need-norm-of-requires
+norm-of-requires c κs = (omega (arith, c .before .before .before .pre .0 .below, c .before .before .before .pre .0 .shaped .few), omega (arith, c .before .before .before .pre .0 .below, c .before .before .before .pre .1))
 
 row-read-requires : tie.Need-row-read-requires
 row-read-requires c κs = search needs
 
 returns : tie.Need-returns
 returns c =
-    let a = c .before .before .before .before .before .before .args in
-    let x = getD (now (a .counters)) (c .before .before .before .before .index-of .result) (pos 0) in
-    let e : toZ w64 (ofZ w64 x) ≡ x = toZ-ofZ (sfits-of (c .before .before .before .row-read-arg .given)) in
-    rw (e, c .before .before .before .before .index-of .ensures) at (c .row-read .ensures) ∙ ap (λ (n : ℕ). rowRead (cellAt (now (a .counters)) (a .row * a .cols + a .col)) n (a .cols)) (sym (norm-at (now (a .norms)) (a .rows) (a .row) (c .before .before .before .before .before .before .pre .0 .below)))
+    let a = c .before .before .before .before .before .args in
+    let x = getD (now (a .counters)) (c .before .before .before .index-of .result) (pos 0) in
+    let e : toZ w64 (ofZ w64 x) ≡ x = toZ-ofZ (sfits-of (c .before .before .row-read-arg .given)) in
+    rw (e, c .before .before .before .index-of .ensures, c .before .norm-of .ensures) at (c .row-read .ensures) ∙ ap (λ (n : ℕ). rowRead (cellAt (now (a .counters)) (a .row * a .cols + a .col)) n (a .cols)) (sym (norm-at (now (a .norms)) (a .rows) (a .row) (c .before .before .before .before .before .pre .0 .below)))
 
 pub cell-read-spec : {M : Type 1} → statement M
 cell-read-spec =
@@ -70,12 +52,6 @@ cell-read-spec =
     index-of-requires
     mul-row-read
     shared-slice-copy-out-row-read
-    mul-row-read-2
-    mul-row-read-3
-    shared-slice-read-row-read
-    mul-row-read-4
-    add-row-read
-    mul-row-read-5
-    shared-slice-read-row-read-2
+    norm-of-requires
     row-read-requires
     returns)

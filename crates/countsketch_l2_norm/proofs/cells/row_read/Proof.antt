@@ -8,7 +8,7 @@ use borrow.Author.Tests.{not-true, not-false}
 use mir.Facts.{toZ-ofZ}
 use Rattle.words.proofs.Signed.{fits}
 use Rattle.words.specs.Num.{inRange}
-use Rattle.words.specs.Wide.{twoWords}
+use Rattle.words.specs.Wide.{valueOf}
 use Rattle.countsketch_l2_norm.proofs.cells.row_read.Statement.{statement}
 use Rattle.countsketch_l2_norm.proofs.cells.row_read.Tie as tie
 
@@ -36,7 +36,7 @@ at-least-requires c κs = search needs
 returns-3 : tie.Need-returns-3
 returns-3 c =
     rw (in-range-is (c .before .before .before .before .before) ∙ not-false _ (c .before .before .before .before .if1 .left), sym (c .before .before .before .at-most-caps .ensures) ∙ not-false _ (c .before .before .if2 .left))
-    (c .at-least .ensures ∙ ap (λ (n : ℕ). leb n (twoWords (c .before .before .before .before .before .before .args .lo) (c .before .before .before .before .before .before .args .hi))) (rw (toZ-ofZ (c .before .before .before .before .before .before .fits .x)) at (c .before .capped-square .ensures)))
+    (c .at-least .ensures ∙ ap (λ (n : ℕ). leb n (valueOf (c .before .before .before .before .before .before .args .w))) (rw (toZ-ofZ (c .before .before .before .before .before .before .fits .x)) at (c .before .capped-square .ensures)))
 
 pub row-read-spec : {M : Type 1} → statement M
 row-read-spec =

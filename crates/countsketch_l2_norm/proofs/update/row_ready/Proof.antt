@@ -11,18 +11,18 @@ use Rattle.countsketch_l2_norm.proofs.Rows.{read-as}
 use Rattle.countsketch_l2_norm.specs.Sketch.{rowRead}
 use Rattle.words.proofs.Signed.{back, fits, abs-add, sum-is}
 use Rattle.words.specs.Num.{top}
-use Rattle.words.specs.Wide.{twoWords}
+use Rattle.words.specs.Wide.{valueOf}
 use Rattle.countsketch_l2_norm.proofs.update.row_ready.Statement.{statement}
 use Rattle.countsketch_l2_norm.proofs.update.row_ready.Tie as tie
 
 row-read-requires : tie.Need-row-read-requires
 row-read-requires c κs = search needs
 
-read-of : (c : tie.After-row-read) → rowRead (c .before .args .x) (twoWords (c .before .args .lo) (c .before .args .hi)) (c .before .args .cols) ≡ c .row-read .result
+read-of : (c : tie.After-row-read) → rowRead (c .before .args .x) (valueOf (c .before .args .w)) (c .before .args .cols) ≡ c .row-read .result
 read-of c = sym (rw (toZ-ofZ (c .before .fits .x)) at (c .row-read .ensures))
 
 cell-small : (c : tie.Else1) → natAbs (c .before .before .args .x) ≤ top
-cell-small c = read-as (c .before .before .args .x) (twoWords (c .before .before .args .lo) (c .before .before .args .hi)) (c .before .before .args .cols) (read-of (c .before) ∙ not-false _ (c .if1 .left)) .cellIn
+cell-small c = read-as (c .before .before .args .x) (valueOf (c .before .before .args .w)) (c .before .before .args .cols) (read-of (c .before) ∙ not-false _ (c .if1 .left)) .cellIn
 
 returns : tie.Need-returns
 returns c = rw (read-of (c .before) ∙ not-true _ (c .if1 .taken))

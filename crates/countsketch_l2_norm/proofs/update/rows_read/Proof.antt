@@ -4,6 +4,7 @@ use Prim.Native.Nat.{ℕ, suc, _-_, _<_}
 use mathlib.Core.Path.{_≡_, sym, _∙_}
 use mathlib.Core.Bool.{Bool, _&&_}
 use lib.ListN.{length}
+use native.Mathlib.Omega.{arith}
 use borrow.Author.Needs.{needs, sfits-of}
 use borrow.Author.Tests.{not-true, not-false}
 use denote.Ref.{now}
@@ -34,8 +35,8 @@ inside c =
     let a = c .before .before .before .before .before .args in
     rw (c .place .ensures) (cell-lt (a .rows) (a .cols) (hash (c .before .before .before .before .before)) (c .before .before .loop .r) (length (now (a .counters))) (c .before .before .before .before .before .pre .0 .some) (c .before .loop-test .taken) (c .before .before .before .before .before .pre .1 .0))
 
-row-is : (c : tie.After-row-read Inv-loop μ-loop) → rowRead (cellAt (now (c .before .before .before .before .before .before .before .before .before .args .counters)) (cellOf (c .before .before .before .before .before .before .before .before .before .args .cols) (hash (c .before .before .before .before .before .before .before .before .before)) (c .before .before .before .before .before .before .loop .r))) (normAt (now (c .before .before .before .before .before .before .before .before .before .args .norms)) (c .before .before .before .before .before .before .loop .r)) (c .before .before .before .before .before .before .before .before .before .args .cols) ≡ c .row-read .result
-row-is c = sym (rw (toZ-ofZ (sfits-of (c .before .before .before .row-read-arg .given)), c .before .before .before .before .place .ensures) at (c .row-read .ensures))
+row-is : (c : tie.After-row-read Inv-loop μ-loop) → rowRead (cellAt (now (c .before .before .before .before .before .before .before .before .args .counters)) (cellOf (c .before .before .before .before .before .before .before .before .args .cols) (hash (c .before .before .before .before .before .before .before .before)) (c .before .before .before .before .before .loop .r))) (normAt (now (c .before .before .before .before .before .before .before .before .args .norms)) (c .before .before .before .before .before .loop .r)) (c .before .before .before .before .before .before .before .before .args .cols) ≡ c .row-read .result
+row-is c = sym (rw (toZ-ofZ (sfits-of (c .before .before .row-read-arg .given)), c .before .before .before .place .ensures, c .before .norm-of .ensures) at (c .row-read .ensures))
 
 step : (c : tie.In-loop Inv-loop μ-loop) → (k : ℕ) → scanned (c .before .before .before .before) (suc k) (c .before .loop .r) ≡ rowRead (cellAt (now (c .before .before .before .before .args .counters)) (cellOf (c .before .before .before .before .args .cols) (hash (c .before .before .before .before)) (c .before .loop .r))) (normAt (now (c .before .before .before .before .args .norms)) (c .before .loop .r)) (c .before .before .before .before .args .cols) && scanned (c .before .before .before .before) k (suc (c .before .loop .r))
 step c k = let a = c .before .before .before .before .args in read-step (a .cols) (hash (c .before .before .before .before)) (now (a .counters)) (now (a .norms)) (a .rows) k (c .before .loop .r) (c .loop-test .taken)
@@ -55,32 +56,14 @@ mul-row-read c = let h = inside c in search needs
 shared-slice-copy-out-row-read : tie.Need-shared-slice-copy-out-row-read Inv-loop μ-loop
 shared-slice-copy-out-row-read c = let h = inside c in search needs
 
-mul-row-read-2 : tie.Need-mul-row-read-2 Inv-loop μ-loop
-mul-row-read-2 c = search needs
-
-mul-row-read-3 : tie.Need-mul-row-read-3 Inv-loop μ-loop
-mul-row-read-3 c = search needs
-
-shared-slice-read-row-read : tie.Need-shared-slice-read-row-read Inv-loop μ-loop
-shared-slice-read-row-read c = search needs
-
-mul-row-read-4 : tie.Need-mul-row-read-4 Inv-loop μ-loop
-mul-row-read-4 c = search needs
-
-add-row-read : tie.Need-add-row-read Inv-loop μ-loop
-add-row-read c = search needs
-
-mul-row-read-5 : tie.Need-mul-row-read-5 Inv-loop μ-loop
-mul-row-read-5 c = search needs
-
-shared-slice-read-row-read-2 : tie.Need-shared-slice-read-row-read-2 Inv-loop μ-loop
-shared-slice-read-row-read-2 c = search needs
+norm-of-requires : tie.Need-norm-of-requires Inv-loop μ-loop
+norm-of-requires c κs = (omega (arith, c .before .before .before .before .before .before .pre .0 .few), omega (arith, c .before .before .before .before .before .before .pre .1 .1))
 
 row-read-requires : tie.Need-row-read-requires Inv-loop μ-loop
 row-read-requires c κs = search needs
 
 returns : tie.Need-returns Inv-loop μ-loop
-returns c = scan-stop (scanned (c .before .before .before .before .before .before .before .before .before .before)) (c .before .before .before .before .before .before .before .before .before .before .args .rows) (c .before .before .before .before .before .before .before .loop .r) _ (c .before .before .before .before .before .before .before .loop .inv) (c .before .before .before .before .before .before .loop-test .taken) (step (c .before .before .before .before .before .before)) (row-is (c .before) ∙ not-true _ (c .if1 .taken))
+returns c = scan-stop (scanned (c .before .before .before .before .before .before .before .before .before)) (c .before .before .before .before .before .before .before .before .before .args .rows) (c .before .before .before .before .before .before .loop .r) _ (c .before .before .before .before .before .before .loop .inv) (c .before .before .before .before .before .loop-test .taken) (step (c .before .before .before .before .before)) (row-is (c .before) ∙ not-true _ (c .if1 .taken))
 
 add-r : tie.Need-add-r Inv-loop μ-loop
 add-r c = search needs
@@ -89,7 +72,7 @@ loop-less : tie.Need-loop-less Inv-loop μ-loop
 loop-less c = search needs
 
 loop-again : tie.Need-loop-again Inv-loop μ-loop
-loop-again c = scan-on (scanned (c .before .before .before .before .before .before .before .before .before .before)) (c .before .before .before .before .before .before .before .before .before .before .args .rows) (c .before .before .before .before .before .before .before .loop .r) _ (c .before .before .before .before .before .before .before .loop .inv) (c .before .before .before .before .before .before .loop-test .taken) (step (c .before .before .before .before .before .before)) (row-is (c .before) ∙ not-false _ (c .if1 .left))
+loop-again c = scan-on (scanned (c .before .before .before .before .before .before .before .before .before)) (c .before .before .before .before .before .before .before .before .before .args .rows) (c .before .before .before .before .before .before .loop .r) _ (c .before .before .before .before .before .before .loop .inv) (c .before .before .before .before .before .loop-test .taken) (step (c .before .before .before .before .before)) (row-is (c .before) ∙ not-false _ (c .if1 .left))
 
 returns-2 : tie.Need-returns-2 Inv-loop μ-loop
 returns-2 c = let a = c .before .before .before .before .args in scan-end (scanned (c .before .before .before .before)) (a .rows) (c .before .loop .r) (c .before .loop .inv) (c .loop-test .left) (read-none (a .cols) (hash (c .before .before .before .before)) (sketchOf (now (a .counters)) (now (a .norms)) (a .rows)) (c .before .loop .r))
@@ -105,13 +88,7 @@ rows-read-spec =
     place-requires
     mul-row-read
     shared-slice-copy-out-row-read
-    mul-row-read-2
-    mul-row-read-3
-    shared-slice-read-row-read
-    mul-row-read-4
-    add-row-read
-    mul-row-read-5
-    shared-slice-read-row-read-2
+    norm-of-requires
     row-read-requires
     returns
     add-r

@@ -42,12 +42,12 @@ inside c =
 delta-is : (c : tie.After-delta-at Inv-loop μ-loop) → toZ w64 (ofZ w64 (c .delta-at .result)) ≡ signed (hash (c .before .before .before .before .before .before)) (c .before .before .before .loop .r) (pos (c .before .before .before .before .before .before .args .weight))
 delta-is c = toZ-ofZ (sfits-of (c .delta-at .ok)) ∙ c .delta-at .ensures
 
-row-is : (c : tie.After-row-ready Inv-loop μ-loop) → rowRead (cellAt (now (c .before .before .before .before .before .before .before .before .before .before .args .counters)) (cellOf (c .before .before .before .before .before .before .before .before .before .before .args .cols) (hash (c .before .before .before .before .before .before .before .before .before .before)) (c .before .before .before .before .before .before .before .loop .r))) (normAt (now (c .before .before .before .before .before .before .before .before .before .before .args .norms)) (c .before .before .before .before .before .before .before .loop .r)) (c .before .before .before .before .before .before .before .before .before .before .args .cols) && cellFits (cellOf (c .before .before .before .before .before .before .before .before .before .before .args .cols) (hash (c .before .before .before .before .before .before .before .before .before .before)) (c .before .before .before .before .before .before .before .loop .r)) (signed (hash (c .before .before .before .before .before .before .before .before .before .before)) (c .before .before .before .before .before .before .before .loop .r) (pos (c .before .before .before .before .before .before .before .before .before .before .args .weight))) (now (c .before .before .before .before .before .before .before .before .before .before .args .counters)) ≡ c .row-ready .result
+row-is : (c : tie.After-row-ready Inv-loop μ-loop) → rowRead (cellAt (now (c .before .before .before .before .before .before .before .before .before .args .counters)) (cellOf (c .before .before .before .before .before .before .before .before .before .args .cols) (hash (c .before .before .before .before .before .before .before .before .before)) (c .before .before .before .before .before .before .loop .r))) (normAt (now (c .before .before .before .before .before .before .before .before .before .args .norms)) (c .before .before .before .before .before .before .loop .r)) (c .before .before .before .before .before .before .before .before .before .args .cols) && cellFits (cellOf (c .before .before .before .before .before .before .before .before .before .args .cols) (hash (c .before .before .before .before .before .before .before .before .before)) (c .before .before .before .before .before .before .loop .r)) (signed (hash (c .before .before .before .before .before .before .before .before .before)) (c .before .before .before .before .before .before .loop .r) (pos (c .before .before .before .before .before .before .before .before .before .args .weight))) (now (c .before .before .before .before .before .before .before .before .before .args .counters)) ≡ c .row-ready .result
 row-is c =
-    let a = c .before .before .before .before .before .before .before .before .before .before .args in
-    let x = getD (now (a .counters)) (c .before .before .before .before .before .place .result) (pos 0) in
-    let e : toZ w64 (ofZ w64 x) ≡ x = toZ-ofZ (sfits-of (c .before .before .before .row-ready-arg .given)) in
-    sym (rw (e, delta-is (c .before .before .before .before), c .before .before .before .before .before .place .ensures) at (c .row-ready .ensures))
+    let a = c .before .before .before .before .before .before .before .before .before .args in
+    let x = getD (now (a .counters)) (c .before .before .before .before .place .result) (pos 0) in
+    let e : toZ w64 (ofZ w64 x) ≡ x = toZ-ofZ (sfits-of (c .before .before .row-ready-arg .given)) in
+    sym (rw (e, delta-is (c .before .before .before), c .before .before .before .before .place .ensures, c .before .norm-of .ensures) at (c .row-ready .ensures))
 
 step : (c : tie.In-loop Inv-loop μ-loop) → (k : ℕ) → scanned (c .before .before .before .before) (suc k) (c .before .loop .r) ≡ (rowRead (cellAt (now (c .before .before .before .before .args .counters)) (cellOf (c .before .before .before .before .args .cols) (hash (c .before .before .before .before)) (c .before .loop .r))) (normAt (now (c .before .before .before .before .args .norms)) (c .before .loop .r)) (c .before .before .before .before .args .cols) && cellFits (cellOf (c .before .before .before .before .args .cols) (hash (c .before .before .before .before)) (c .before .loop .r)) (signed (hash (c .before .before .before .before)) (c .before .loop .r) (pos (c .before .before .before .before .args .weight))) (now (c .before .before .before .before .args .counters))) && scanned (c .before .before .before .before) k (suc (c .before .loop .r))
 step c k = let a = c .before .before .before .before .args in ready-step (a .cols) (hash (c .before .before .before .before)) (a .weight) (now (a .counters)) (now (a .norms)) (a .rows) k (c .before .loop .r) (c .loop-test .taken)
@@ -70,32 +70,14 @@ mul-row-ready c = let h = inside (c .before) in search needs
 shared-slice-copy-out-row-ready : tie.Need-shared-slice-copy-out-row-ready Inv-loop μ-loop
 shared-slice-copy-out-row-ready c = let h = inside (c .before) in search needs
 
-mul-row-ready-2 : tie.Need-mul-row-ready-2 Inv-loop μ-loop
-mul-row-ready-2 c = search needs
-
-mul-row-ready-3 : tie.Need-mul-row-ready-3 Inv-loop μ-loop
-mul-row-ready-3 c = search needs
-
-shared-slice-read-row-ready : tie.Need-shared-slice-read-row-ready Inv-loop μ-loop
-shared-slice-read-row-ready c = search needs
-
-mul-row-ready-4 : tie.Need-mul-row-ready-4 Inv-loop μ-loop
-mul-row-ready-4 c = search needs
-
-add-row-ready : tie.Need-add-row-ready Inv-loop μ-loop
-add-row-ready c = search needs
-
-mul-row-ready-5 : tie.Need-mul-row-ready-5 Inv-loop μ-loop
-mul-row-ready-5 c = search needs
-
-shared-slice-read-row-ready-2 : tie.Need-shared-slice-read-row-ready-2 Inv-loop μ-loop
-shared-slice-read-row-ready-2 c = search needs
+norm-of-requires : tie.Need-norm-of-requires Inv-loop μ-loop
+norm-of-requires c κs = (omega (arith, c .before .before .before .before .before .before .before .pre .0 .few), omega (arith, c .before .before .before .before .before .before .before .pre .1 .1 .0))
 
 row-ready-requires : tie.Need-row-ready-requires Inv-loop μ-loop
-row-ready-requires c κs = rw (delta-is (c .before .before .before)) (omega (arith, abs-signed (hash (c .before .before .before .before .before .before .before .before .before)) (c .before .before .before .before .before .before .loop .r) (pos (c .before .before .before .before .before .before .before .before .before .args .weight)), c .before .before .before .before .before .before .before .before .before .pre .1 .1 .1))
+row-ready-requires c κs = rw (delta-is (c .before .before)) (omega (arith, abs-signed (hash (c .before .before .before .before .before .before .before .before)) (c .before .before .before .before .before .loop .r) (pos (c .before .before .before .before .before .before .before .before .args .weight)), c .before .before .before .before .before .before .before .before .pre .1 .1 .1))
 
 returns : tie.Need-returns Inv-loop μ-loop
-returns c = scan-stop (scanned (c .before .before .before .before .before .before .before .before .before .before .before)) (c .before .before .before .before .before .before .before .before .before .before .before .args .rows) (c .before .before .before .before .before .before .before .before .loop .r) _ (c .before .before .before .before .before .before .before .before .loop .inv) (c .before .before .before .before .before .before .before .loop-test .taken) (step (c .before .before .before .before .before .before .before)) (row-is (c .before) ∙ not-true _ (c .if1 .taken))
+returns c = scan-stop (scanned (c .before .before .before .before .before .before .before .before .before .before)) (c .before .before .before .before .before .before .before .before .before .before .args .rows) (c .before .before .before .before .before .before .before .loop .r) _ (c .before .before .before .before .before .before .before .loop .inv) (c .before .before .before .before .before .before .loop-test .taken) (step (c .before .before .before .before .before .before)) (row-is (c .before) ∙ not-true _ (c .if1 .taken))
 
 add-r : tie.Need-add-r Inv-loop μ-loop
 add-r c = search needs
@@ -104,7 +86,7 @@ loop-less : tie.Need-loop-less Inv-loop μ-loop
 loop-less c = search needs
 
 loop-again : tie.Need-loop-again Inv-loop μ-loop
-loop-again c = scan-on (scanned (c .before .before .before .before .before .before .before .before .before .before .before)) (c .before .before .before .before .before .before .before .before .before .before .before .args .rows) (c .before .before .before .before .before .before .before .before .loop .r) _ (c .before .before .before .before .before .before .before .before .loop .inv) (c .before .before .before .before .before .before .before .loop-test .taken) (step (c .before .before .before .before .before .before .before)) (row-is (c .before) ∙ not-false _ (c .if1 .left))
+loop-again c = scan-on (scanned (c .before .before .before .before .before .before .before .before .before .before)) (c .before .before .before .before .before .before .before .before .before .before .args .rows) (c .before .before .before .before .before .before .before .loop .r) _ (c .before .before .before .before .before .before .before .loop .inv) (c .before .before .before .before .before .before .loop-test .taken) (step (c .before .before .before .before .before .before)) (row-is (c .before) ∙ not-false _ (c .if1 .left))
 
 returns-2 : tie.Need-returns-2 Inv-loop μ-loop
 returns-2 c = let a = c .before .before .before .before .args in scan-end (scanned (c .before .before .before .before)) (a .rows) (c .before .loop .r) (c .before .loop .inv) (c .loop-test .left) (ready-none (a .cols) (hash (c .before .before .before .before)) (a .weight) (sketchOf (now (a .counters)) (now (a .norms)) (a .rows)) (c .before .loop .r))
@@ -121,13 +103,7 @@ rows-ready-spec =
     delta-at-requires
     mul-row-ready
     shared-slice-copy-out-row-ready
-    mul-row-ready-2
-    mul-row-ready-3
-    shared-slice-read-row-ready
-    mul-row-ready-4
-    add-row-ready
-    mul-row-ready-5
-    shared-slice-read-row-ready-2
+    norm-of-requires
     row-ready-requires
     returns
     add-r

@@ -1,11 +1,11 @@
--- `countsketch_l2_norm::merging::put_norm` meets its contract.
+-- `countsketch_l2_norm::cells::put_norm` meets its contract.
 -- Written by tools/places.py from answers.txt; assumes nothing.
 use Prim.Native.Nat.{_^_, _<_}
 use borrow.Author.Needs.{needs}
 use Rattle.countsketch_l2_norm.specs.Norms.{setNorm}
 use Rattle.words.proofs.TwoWords.{word-low, word-high}
-use Rattle.countsketch_l2_norm.proofs.merging.put_norm.Statement.{statement}
-use Rattle.countsketch_l2_norm.proofs.merging.put_norm.Tie as tie
+use Rattle.countsketch_l2_norm.proofs.cells.put_norm.Statement.{statement}
+use Rattle.countsketch_l2_norm.proofs.cells.put_norm.Tie as tie
 
 mul-lo-at : tie.Need-mul-lo-at
 mul-lo-at c = search needs
