@@ -26,7 +26,7 @@ use Rattle.univmon.specs.State.{rowsAt, colsAt, dimsAt, cellOff, normOff
 use Rattle.univmon.specs.Slices.{Lent, lent, view, cellsIn, normsIn, candsIn}
 use Rattle.univmon.specs.Spans.{spanOf}
 use Rattle.univmon.specs.Updates.{whoAt}
-use Rattle.univmon.specs.Needs.{Sizes, Standing, SendReady}
+use Rattle.univmon.specs.Needs.{Sizes, Standing, SendReady, JudgeReady, readsAt, fitsAt, readyAt}
 use Rattle.univmon.proofs.Views.{shapeBy, layerHere, cell-end, norm-end, cand-end, layer-view, put-view, same-part, same-put}
 
 -- where a layer's parts begin and end, as numbers
@@ -207,3 +207,22 @@ module _ (r : Lent) (words : List ℕ) (w l : ℕ) (p : SendReady r words w l) (
 
       here : layerAt (view r) l ≡ layerOf d xs ws es ns len flag
       here = handed-is r (p .standing) l (p .inside) ca ce na ne ea ee ta te s
+
+-- ---- the tests of one layer
+
+-- what is read of a layer, in the parts of its slices
+module _ (r : Lent) (words : List ℕ) (w l : ℕ) (p : JudgeReady r words w 1 l) (ca ce na ne ea ee ta te : ℕ) (s : Spanned (shapeBy r) l ca ce na ne ea ee ta te) where
+  pub one-inside : l < shapeBy r .layers
+  one-inside = omega (arith, p .inside)
+
+  pub reads-here : (v : ℕ) → addReads (dimsAt (shapeBy r) l) (item (whoAt words l) v)
+      (layerOf (dimsAt (shapeBy r) l) (part ca (ce - ca) (r .counters)) (part na (ne - na) (r .norms)) (part ea (ee - ea) (r .entries)) (part ta (te - ta) (r .counts)) (getD (r .head .lens) l 0) (getD (r .head .flags) l false))
+      ≡ readsAt (shapeBy r) words v l (layerAt (view r) l)
+  reads-here v = ap (readsAt (shapeBy r) words v l) (sym (handed-is r (p .standing) l one-inside ca ce na ne ea ee ta te s))
+
+  pub ready-here : addReads (dimsAt (shapeBy r) l) (item (whoAt words l) w)
+      (layerOf (dimsAt (shapeBy r) l) (part ca (ce - ca) (r .counters)) (part na (ne - na) (r .norms)) (part ea (ee - ea) (r .entries)) (part ta (te - ta) (r .counts)) (getD (r .head .lens) l 0) (getD (r .head .flags) l false))
+      && addFits (dimsAt (shapeBy r) l) (item (whoAt words l) w)
+      (layerOf (dimsAt (shapeBy r) l) (part ca (ce - ca) (r .counters)) (part na (ne - na) (r .norms)) (part ea (ee - ea) (r .entries)) (part ta (te - ta) (r .counts)) (getD (r .head .lens) l 0) (getD (r .head .flags) l false))
+      ≡ readyAt (shapeBy r) words w l (layerAt (view r) l)
+  ready-here = ap (readyAt (shapeBy r) words w l) (sym (handed-is r (p .standing) l one-inside ca ce na ne ea ee ta te s))

@@ -1,14 +1,14 @@
 -- What the inner functions need, by name.
 use Prim.Native.Nat.{ℕ, _+_, _*_, _≤_, _<_}
 use mathlib.Core.Path.{_≡_}
-use mathlib.Core.Bool.{Bool, true}
+use mathlib.Core.Bool.{Bool, true, cond, not, _&&_}
 use mathlib.Core.List.{List}
 use lib.ListN.{length, getD}
 use Rattle.words.specs.Num.{top}
 use Rattle.header.specs.declared.Shape.{Shape}
 use Rattle.header.specs.Accepted.{Accepted}
 use Rattle.layer.specs.Layer.{Layer, addLayer, addReads, addFits, item}
-use Rattle.univmon.specs.State.{dimsAt, layerAt, allLayers}
+use Rattle.univmon.specs.State.{State, dimsAt, layerAt, allLayers}
 use Rattle.univmon.specs.Slices.{Lent, view, cellsIn, normsIn, candsIn}
 use Rattle.univmon.specs.Updates.{recordLength, whoAt}
 
@@ -52,3 +52,19 @@ pub record SendsReady (r : Lent) (words : List ℕ) (w many first : ℕ) : Type 
   pub inside : first + many ≤ r .head .shape .layers
   pub read : allLayers (readsAt (r .head .shape) words w) many first (view r) ≡ true
   pub fit : allLayers (fitsAt (r .head .shape) words w) many first (view r) ≡ true
+
+-- both tests of an update at a layer
+abbrev pub readyAt : Shape → List ℕ → ℕ → ℕ → Layer → Bool
+readyAt sh words w l y = readsAt sh words w l y && fitsAt sh words w l y
+
+-- what the tests of many layers from the first on need
+pub record JudgeReady (r : Lent) (words : List ℕ) (w many first : ℕ) : Type 0 where
+  pub standing : Standing r
+  pub recorded : length words ≡ recordLength (r .head .shape .layers)
+  pub light : w ≤ top
+  pub inside : first + many ≤ r .head .shape .layers
+
+-- the number of the first of the two refusals that applies to the touched layers
+unfoldable pub judgedAt : Shape → List ℕ → ℕ → ℕ → ℕ → State → ℕ
+judgedAt sh words w many first s =
+    cond (not (allLayers (readsAt sh words w) many first s)) 9 (cond (not (allLayers (fitsAt sh words w) many first s)) 11 0)

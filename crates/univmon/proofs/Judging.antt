@@ -1,0 +1,65 @@
+-- The tests of the touched layers. Assumes nothing.
+use mathlib.Core.Path.{_≡_, refl, sym, ap, ap₂, _∙_}
+use mathlib.Core.Bool.{Bool, true, false, cond, not, _&&_}
+use mathlib.Core.List.{List}
+use Prim.Native.Nat.{ℕ, zero, suc, _+_, _≤_, _<_}
+use native.Mathlib.Omega.{arith}
+use Rattle.header.specs.declared.Shape.{Shape}
+use Rattle.layer.specs.Layer.{Layer}
+use Rattle.univmon.specs.State.{State, layerAt, allLayers}
+use Rattle.univmon.specs.Slices.{Lent}
+use Rattle.univmon.specs.Needs.{JudgeReady, readsAt, fitsAt, readyAt, judgedAt}
+
+-- a scan over layers
+pub layers-step : (p : ℕ → Layer → Bool) (s : State) (k l : ℕ) → allLayers p (suc k) l s ≡ p l (layerAt s l) && allLayers p k (suc l) s
+unfolding allLayers
+layers-step p s k l = refl
+
+pub layers-none : (p : ℕ → Layer → Bool) (s : State) (l : ℕ) → allLayers p 0 l s ≡ true
+unfolding allLayers
+layers-none p s l = refl
+
+-- one layer of many
+pub judge-one : (r : Lent) (words : List ℕ) (w many first l : ℕ) → JudgeReady r words w many first → l < many + first → JudgeReady r words w 1 l
+judge-one r words w many first l p h = record { standing = p .standing; recorded = p .recorded; light = p .light; inside = omega (arith, p .inside) }
+
+-- what is read does not depend on the weight
+pub judge-light : (r : Lent) (words : List ℕ) (w many first : ℕ) → JudgeReady r words w many first → JudgeReady r words 0 many first
+judge-light r words w many first p = record { standing = p .standing; recorded = p .recorded; light = omega arith; inside = p .inside }
+
+and-cross : (a b c d : Bool) → a && b && (c && d) ≡ a && c && (b && d)
+and-cross true true true d = refl
+and-cross true true false d = refl
+and-cross true false true d = refl
+and-cross true false false d = refl
+and-cross false b c d = refl
+
+-- all layers are ready if all are read and all fit
+pub both-tests : (sh : Shape) (words : List ℕ) (w k l : ℕ) (s : State) → allLayers (readyAt sh words w) k l s ≡ allLayers (readsAt sh words w) k l s && allLayers (fitsAt sh words w) k l s
+unfolding allLayers
+both-tests sh words w zero l s = refl
+both-tests sh words w (suc k) l s =
+    ap (λ (b : Bool). readyAt sh words w l (layerAt s l) && b) (both-tests sh words w k (suc l) s)
+    ∙ and-cross (readsAt sh words w l (layerAt s l)) (fitsAt sh words w l (layerAt s l)) (allLayers (readsAt sh words w) k (suc l) s) (allLayers (fitsAt sh words w) k (suc l) s)
+
+module _ (sh : Shape) (words : List ℕ) (w many first : ℕ) (s : State) where
+  pub judged-ready : allLayers (readyAt sh words w) many first s ≡ true → 0 ≡ judgedAt sh words w many first s
+  unfolding judgedAt
+  judged-ready e = go (allLayers (readsAt sh words w) many first s) (allLayers (fitsAt sh words w) many first s) (sym (both-tests sh words w many first s) ∙ e)
+    where
+      go : (a b : Bool) → a && b ≡ true → _≡_ {A = ℕ} 0 (cond (not a) 9 (cond (not b) 11 0))
+      go true true e = refl
+      go true false e = cc
+      go false b e = cc
+
+  pub judged-unfit : allLayers (readyAt sh words w) many first s ≡ false → allLayers (readsAt sh words w) many first s ≡ true → 11 ≡ judgedAt sh words w many first s
+  unfolding judgedAt
+  judged-unfit e r = go (allLayers (fitsAt sh words w) many first s) (ap (λ (a : Bool). a && allLayers (fitsAt sh words w) many first s) (sym r) ∙ sym (both-tests sh words w many first s) ∙ e)
+    where
+      go : (b : Bool) → true && b ≡ false → _≡_ {A = ℕ} 11 (cond (not (allLayers (readsAt sh words w) many first s)) 9 (cond (not b) 11 0))
+      go true e = cc
+      go false e = rw r
+
+  pub judged-unread : allLayers (readsAt sh words w) many first s ≡ false → 9 ≡ judgedAt sh words w many first s
+  unfolding judgedAt
+  judged-unread r = rw r

@@ -1,0 +1,62 @@
+-- `univmon::judge::all_ready` meets its contract.
+-- Written by tools/places.py from answers.txt; assumes nothing.
+use Prim.Native.Nat.{ℕ, _+_, _-_}
+use mathlib.Core.Path.{sym, _∙_}
+use mathlib.Core.Bool.{Bool}
+use native.Mathlib.Omega.{arith}
+use borrow.Author.Tests.{not-true, not-false}
+use denote.Ref.{now}
+use Rattle.univmon.specs.Slices.{lent, view, Lent}
+use Rattle.univmon.specs.Calls.{left}
+use Rattle.univmon.specs.Needs.{readyAt}
+use Rattle.words.proofs.Scans.{Scan, scan-start, scan-on, scan-stop, scan-end}
+use Rattle.univmon.specs.State.{allLayers}
+use Rattle.univmon.proofs.Judging.{layers-step, layers-none, judge-one}
+use Rattle.univmon.proofs.judge.all_ready.Statement.{statement}
+use Rattle.univmon.proofs.judge.all_ready.Tie as tie
+
+abbrev Inv-loop : tie.InvT-loop
+Inv-loop h counters norms entries counts words weight first many end l₀ l = Scan (λ k i. allLayers (readyAt (h .shape) words weight) k i (view (lent h counters norms entries counts))) many first l
+
+abbrev μ-loop : tie.MeasureT-loop
+μ-loop h counters norms entries counts words weight first many end l₀ l = many + first - l
+
+-- the state that is lent, and the test of k of its layers from i on
+abbrev lent-of : tie.Start Inv-loop μ-loop → Lent
+lent-of c = lent (c .args .h) (now (c .args .counters)) (now (c .args .norms)) (now (c .args .entries)) (now (c .args .counts))
+
+abbrev tested : tie.Start Inv-loop μ-loop → ℕ → ℕ → Bool
+tested c k i = let a = c .args in allLayers (readyAt (a .h .shape) (now (a .words)) (a .weight)) k i (view (lent-of c))
+
+add-end : tie.Need-add-end Inv-loop μ-loop
+add-end c = let p = c .before .before .before .pre in record { fits = omega (arith, p .inside, p .standing .accepted .few) }
+
+loop-holds : tie.Need-loop-holds Inv-loop μ-loop
+loop-holds c = let a = c .before .before .before .args in scan-start (tested (c .before .before .before)) (a .many) (a .first)
+
+ready-at-requires : tie.Need-ready-at-requires Inv-loop μ-loop
+ready-at-requires c κs = let a = c .before .before .before .before .before .args in judge-one (lent-of (c .before .before .before .before .before)) (now (a .words)) (a .weight) (a .many) (a .first) (c .before .loop .l) (c .before .before .before .before .before .pre) (omega (arith, c .loop-test .taken))
+
+returns : tie.Need-returns Inv-loop μ-loop
+returns c =
+    let a = c .before .before .before .before .before .before .before .args in
+    scan-stop (tested (c .before .before .before .before .before .before .before)) (a .many) (a .first) (c .before .before .before .loop .l) _ (c .before .before .before .loop .inv) (omega (arith, c .before .before .loop-test .taken)) (λ k. layers-step _ (view (lent-of (c .before .before .before .before .before .before .before))) k (c .before .before .before .loop .l)) (sym (c .before .ready-at .ensures) ∙ not-true _ (c .if1 .taken))
+
+add-l : tie.Need-add-l Inv-loop μ-loop
+add-l c = let p = c .before .before .before .before .before .before .before .pre in record { fits = omega (arith, p .inside, p .standing .accepted .few, c .before .before .loop-test .taken) }
+
+loop-less : tie.Need-loop-less Inv-loop μ-loop
+loop-less c = omega (arith, c .before .before .loop-test .taken)
+
+loop-again : tie.Need-loop-again Inv-loop μ-loop
+loop-again c =
+    let a = c .before .before .before .before .before .before .before .args in
+    scan-on (tested (c .before .before .before .before .before .before .before)) (a .many) (a .first) (c .before .before .before .loop .l) _ (c .before .before .before .loop .inv) (omega (arith, c .before .before .loop-test .taken)) (λ k. layers-step _ (view (lent-of (c .before .before .before .before .before .before .before))) k (c .before .before .before .loop .l)) (sym (c .before .ready-at .ensures) ∙ not-false _ (c .if1 .left))
+
+returns-2 : tie.Need-returns-2 Inv-loop μ-loop
+returns-2 c =
+    let a = c .before .before .before .before .before .args in
+    scan-end (tested (c .before .before .before .before .before)) (a .many) (a .first) (c .before .loop .l) (c .before .loop .inv) (omega (arith, c .loop-test .left)) (layers-none _ (view (lent-of (c .before .before .before .before .before))) (c .before .loop .l))
+
+pub all-ready-spec : {M : Type 1} → statement M
+all-ready-spec = tie.close (tie.spec Inv-loop μ-loop add-end loop-holds ready-at-requires returns add-l loop-less loop-again returns-2)

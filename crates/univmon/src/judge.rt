@@ -1,0 +1,171 @@
+// What an update reads of the layers that it touches, and whether it fits: nothing is written here.
+// The state is lent whole, so that a contract can name it; no entry is read.
+use crate::sizes::dims;
+use crate::sizes::span_of;
+use crate::update::who_in;
+use header::Header;
+ghost use mathlib.Core.Path.{_≡_};
+ghost use mathlib.Core.Bool.{Bool, true, _&&_};
+ghost use Prim.Native.Nat.{ℕ, _+_, _*_, _≤_, _<_};
+ghost use Rattle.univmon.specs.State.{layerAt, allLayers};
+ghost use Rattle.univmon.specs.Slices.{lent, view};
+ghost use Rattle.univmon.specs.Needs.{Standing, JudgeReady, readsAt, readyAt, judgedAt};
+
+// Whether one layer is ready for the update.
+fn ready_at(
+    h: Header,
+    counters: &[i64],
+    norms: &[u64],
+    entries: &[u64],
+    counts: &[i64],
+    words: &[u64],
+    weight: u64,
+    l: usize,
+) -> bool
+    requires { ⌜ JudgeReady (lent h (now counters) (now norms) (now entries) (now counts)) (now words) weight 1 l ⌝ }
+    ensures { λ r. ⌜ r ≡ readyAt (h .shape) (now (words .entry)) weight l (layerAt (view (lent h (now (counters .entry)) (now (norms .entry)) (now (entries .entry)) (now (counts .entry)))) l) ⌝ }
+{
+    let shape = h.shape;
+    let s = span_of(shape, l);
+    let d = dims(shape, l);
+    let who = who_in(words, l);
+    let lens = h.lens;
+    let len = lens[l];
+    let ca = s.cells;
+    let ce = s.cells_end;
+    let na = s.norms;
+    let ne = s.norms_end;
+    let ta = s.seats;
+    let te = s.seats_end;
+    layer::add_ready(
+        &counters[ca..ce],
+        &norms[na..ne],
+        &counts[ta..te],
+        d,
+        len,
+        who,
+        weight,
+    )
+}
+
+// Whether what the update reads of one layer is in range.
+fn reads_at(
+    h: Header,
+    counters: &[i64],
+    norms: &[u64],
+    entries: &[u64],
+    counts: &[i64],
+    words: &[u64],
+    l: usize,
+) -> bool
+    requires { ⌜ JudgeReady (lent h (now counters) (now norms) (now entries) (now counts)) (now words) 0 1 l ⌝ }
+    ensures { λ r. ⌜ ((w : ℕ) → r ≡ readsAt (h .shape) (now (words .entry)) w l (layerAt (view (lent h (now (counters .entry)) (now (norms .entry)) (now (entries .entry)) (now (counts .entry)))) l)) ⌝ }
+{
+    let shape = h.shape;
+    let s = span_of(shape, l);
+    let d = dims(shape, l);
+    let who = who_in(words, l);
+    let lens = h.lens;
+    let len = lens[l];
+    let ca = s.cells;
+    let ce = s.cells_end;
+    let na = s.norms;
+    let ne = s.norms_end;
+    let ta = s.seats;
+    let te = s.seats_end;
+    layer::add_reads(
+        &counters[ca..ce],
+        &norms[na..ne],
+        &counts[ta..te],
+        d,
+        len,
+        who,
+    )
+}
+
+// Whether every touched layer is ready.
+fn all_ready(
+    h: Header,
+    counters: &[i64],
+    norms: &[u64],
+    entries: &[u64],
+    counts: &[i64],
+    words: &[u64],
+    weight: u64,
+    first: usize,
+    many: usize,
+) -> bool
+    requires { ⌜ JudgeReady (lent h (now counters) (now norms) (now entries) (now counts)) (now words) weight many first ⌝ }
+    ensures { λ r. ⌜ r ≡ allLayers (readyAt (h .shape) (now (words .entry)) weight) many first (view (lent h (now (counters .entry)) (now (norms .entry)) (now (entries .entry)) (now (counts .entry)))) ⌝ }
+{
+    let end = first + many;
+    let mut l = first;
+    while l < end {
+        if !ready_at(h, counters, norms, entries, counts, words, weight, l) {
+            return false;
+        }
+        l += 1;
+    }
+    true
+}
+
+// Whether all that is read of the touched layers is in range.
+fn all_read(
+    h: Header,
+    counters: &[i64],
+    norms: &[u64],
+    entries: &[u64],
+    counts: &[i64],
+    words: &[u64],
+    first: usize,
+    many: usize,
+) -> bool
+    requires { ⌜ JudgeReady (lent h (now counters) (now norms) (now entries) (now counts)) (now words) 0 many first ⌝ }
+    ensures { λ r. ⌜ ((w : ℕ) → r ≡ allLayers (readsAt (h .shape) (now (words .entry)) w) many first (view (lent h (now (counters .entry)) (now (norms .entry)) (now (entries .entry)) (now (counts .entry))))) ⌝ }
+{
+    let end = first + many;
+    let mut l = first;
+    while l < end {
+        if !reads_at(h, counters, norms, entries, counts, words, l) {
+            return false;
+        }
+        l += 1;
+    }
+    true
+}
+
+// 0 if the update may be made, 9 if something that it reads is out of range, 11 if a counter would
+// leave the range. One pass where all is well; only a refusal looks again, since 9 anywhere comes
+// before 11 anywhere.
+pub fn judge_layers(
+    h: Header,
+    counters: &[i64],
+    norms: &[u64],
+    entries: &[u64],
+    counts: &[i64],
+    words: &[u64],
+    weight: u64,
+    first: usize,
+    many: usize,
+) -> u64
+    requires { ⌜ JudgeReady (lent h (now counters) (now norms) (now entries) (now counts)) (now words) weight many first ⌝ }
+    ensures { λ r. ⌜ r ≡ judgedAt (h .shape) (now (words .entry)) weight many first (view (lent h (now (counters .entry)) (now (norms .entry)) (now (entries .entry)) (now (counts .entry)))) ⌝ }
+{
+    if all_ready(
+        h,
+        counters,
+        norms,
+        entries,
+        counts,
+        words,
+        weight,
+        first,
+        many,
+    ) {
+        return 0;
+    }
+    if all_read(h, counters, norms, entries, counts, words, first, many) {
+        return 11;
+    }
+    9
+}
