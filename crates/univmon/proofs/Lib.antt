@@ -6,3 +6,4 @@ pub mod Views
 pub mod Sends
 pub mod Sending
 pub mod Judging
+pub mod Flatten
