@@ -7,3 +7,4 @@ pub mod Sends
 pub mod Sending
 pub mod Judging
 pub mod Flatten
+pub mod Updating

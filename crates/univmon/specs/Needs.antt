@@ -7,9 +7,10 @@ use lib.ListN.{length, getD}
 use Rattle.words.specs.Num.{top}
 use Rattle.header.specs.declared.Shape.{Shape}
 use Rattle.header.specs.Accepted.{Accepted}
+use Rattle.header.specs.Header.{headerOk}
 use Rattle.layer.specs.Layer.{Layer, addLayer, addReads, addFits, item}
 use Rattle.univmon.specs.State.{State, dimsAt, layerAt, allLayers}
-use Rattle.univmon.specs.Slices.{Lent, view, cellsIn, normsIn, candsIn}
+use Rattle.univmon.specs.Slices.{Lent, lentOk, view, cellsIn, normsIn, candsIn}
 use Rattle.univmon.specs.Updates.{recordLength, whoAt}
 
 -- slices of these lengths are a shape's
@@ -68,3 +69,9 @@ pub record JudgeReady (r : Lent) (words : List ℕ) (w many first : ℕ) : Type 
 unfoldable pub judgedAt : Shape → List ℕ → ℕ → ℕ → ℕ → State → ℕ
 judgedAt sh words w many first s =
     cond (not (allLayers (readsAt sh words w) many first s)) 9 (cond (not (allLayers (fitsAt sh words w) many first s)) 11 0)
+
+-- what an update needs once header, lengths and record have been found right
+pub record UpdateReady (r : Lent) (words : List ℕ) : Type 0 where
+  pub ranged : headerOk (r .head) ≡ true
+  pub sized : lentOk r ≡ true
+  pub recorded : length words ≡ recordLength (r .head .shape .layers)

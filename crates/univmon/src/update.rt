@@ -73,7 +73,7 @@ fn send_one(
 }
 
 // Sends an update to many layers from the first on.
-fn send(
+pub fn send(
     h: Header,
     counters: &mut [i64],
     norms: &mut [u64],

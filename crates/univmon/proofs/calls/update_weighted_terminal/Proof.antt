@@ -1,0 +1,27 @@
+-- `univmon::calls::update_weighted_terminal` meets its contract.
+-- Written by tools/places.py from answers.txt; assumes nothing.
+use borrow.Author.Needs.{needs}
+use mir.Facts.{toZ-ofZ}
+use Rattle.univmon.proofs.calls.update_weighted_terminal.Statement.{statement}
+use Rattle.univmon.proofs.calls.update_weighted_terminal.Tie as tie
+
+update-requires : tie.Need-update-requires
+update-requires c κs = search needs
+
+same-length : tie.Need-same-length
+same-length c = search needs
+
+same-length-2 : tie.Need-same-length-2
+same-length-2 c = search needs
+
+same-length-3 : tie.Need-same-length-3
+same-length-3 c = search needs
+
+same-length-4 : tie.Need-same-length-4
+same-length-4 c = search needs
+
+returns : tie.Need-returns
+returns c = rw (toZ-ofZ (c .before .before .before .before .before .before .before .before .before .before .before .before .before .before .fits .weight)) at (c .before .before .before .before .before .before .update .ensures)
+
+pub update-weighted-terminal-spec : {M : Type 1} → statement M
+update-weighted-terminal-spec = tie.close (tie.spec update-requires same-length same-length-2 same-length-3 same-length-4 returns)
