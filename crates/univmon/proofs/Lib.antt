@@ -5,3 +5,4 @@ pub mod States
 pub mod Views
 pub mod Sends
 pub mod Sending
+pub mod Flatten
