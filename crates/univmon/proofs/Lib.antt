@@ -6,3 +6,5 @@ pub mod Views
 pub mod Sends
 pub mod Sending
 pub mod Flatten
+pub mod Arrivals
+pub mod Refusing

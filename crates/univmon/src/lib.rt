@@ -1,5 +1,6 @@
 // UnivMon: the calls that change a state. A state is a `Header` by value and four slices that the
 // caller lends: counters, norms, entries and counts.
+pub mod delta;
 pub mod fresh;
 pub mod marks;
 pub mod sizes;

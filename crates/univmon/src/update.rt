@@ -15,7 +15,7 @@ ghost use Rattle.univmon.specs.Updates.{whoAt};
 ghost use Rattle.univmon.specs.Needs.{Standing, SendReady, SendsReady, readsAt, fitsAt, addsAt};
 
 // Who a record names, with the hash of a layer.
-fn who_in(words: &[u64], l: usize) -> Who
+pub fn who_in(words: &[u64], l: usize) -> Who
     requires { ⌜ (l < 19) × (4 + 2 * l ≤ length (now words)) ⌝ }
     ensures { λ r. ⌜ r ≡ whoAt (now (words .entry)) l ⌝ }
 {
