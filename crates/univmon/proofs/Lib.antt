@@ -8,3 +8,5 @@ pub mod Sending
 pub mod Judging
 pub mod Flatten
 pub mod Updating
+pub mod Arrivals
+pub mod Refusing

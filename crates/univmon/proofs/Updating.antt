@@ -2,53 +2,37 @@
 use mathlib.Core.Path.{_≡_, refl, sym, ap, _∙_}
 use mathlib.Core.Bool.{Bool, true, false, cond, not, _&&_}
 use mathlib.Core.List.{List}
-use Prim.Native.Nat.{ℕ, zero, suc, _+_, _-_, _*_, _≤_, _<_}
+use Prim.Native.Nat.{ℕ, zero, suc, _+_, _-_, _≤_, _<_}
 use native.Mathlib.Omega.{arith}
 use borrow.Author.Tests.{leb-true, eq-eqb, ne-eqb}
 use lib.ListN.{length, getD}
 use lib.IntN.{ℤ, natAbs}
 use lib.Signed.{nonNeg}
-use lib.Dec.{eqb, leb}
+use lib.Dec.{leb}
 use Rattle.words.specs.Num.{top, wordSize}
-use Rattle.countsketch_l2_norm.proofs.Norms.{length-norms}
-use Rattle.heap_moves.proofs.Views.{length-cands}
 use Rattle.header.specs.declared.Mode.{Mode}
 use Rattle.header.specs.declared.Header.{Header}
 use Rattle.header.specs.declared.Answered.{Answered}
 use Rattle.header.specs.Header.{clash, begun, beginOf, headerOk}
 use Rattle.header.proofs.Bottoms.{bottom-lt}
-use Rattle.header.proofs.Ranges.{Ranged, ranged-of, len-few}
+use Rattle.header.proofs.Ranges.{ranged-of}
 use Rattle.layer.specs.Layer.{Layer}
 use Rattle.univmon.specs.declared.Kind.{Kind}
 use Rattle.univmon.specs.declared.Kind.the-variants as kind
-use Rattle.univmon.specs.State.{State, layerAt, allLayers, overLayers, withHead, sizesOk}
-use Rattle.univmon.specs.Slices.{Lent, lent, lentOk, normsIn, view}
+use Rattle.univmon.specs.State.{State, layerAt, allLayers, overLayers, withHead}
+use Rattle.univmon.specs.Slices.{Lent, lent, lentOk, view}
 use Rattle.univmon.specs.Judged.{Out, refused, done, unsound}
 use Rattle.univmon.specs.Updates.{recordLength, modeOf, firstSent, manySent, bottomBy, updateTests, updated, update}
 use Rattle.univmon.specs.Calls.{Outcome, left, leftBy, outcomeOf, updateCall}
-use Rattle.univmon.specs.Needs.{Sizes, Standing, SendsReady, JudgeReady, UpdateReady, readsAt, fitsAt, addsAt, judgedAt}
-use Rattle.univmon.proofs.Lengths.{sizes-of}
+use Rattle.univmon.specs.Needs.{Standing, SendsReady, JudgeReady, UpdateReady, readsAt, fitsAt, addsAt, judgedAt}
+use Rattle.univmon.proofs.Lengths.{standing-of, sized-view}
 use Rattle.univmon.proofs.Flatten.{lent-is}
 
 -- ---- header and lengths
 
-pub standing-of : (r : Lent) → headerOk (r .head) ≡ true → lentOk r ≡ true → Standing r
-standing-of r h z =
-    let q = ranged-of (r .head) h in
-    record { accepted = q .accepted; sizes = sizes-of (r .head .shape) _ _ _ _ z; lens = len-few (r .head) q }
-
-sizes-right : (r : Lent) → Standing r → sizesOk (view r) ≡ true
-unfolding sizesOk view
-sizes-right r z =
-    simp (
-      eq-eqb _ _ (z .sizes .cells),
-      eq-eqb _ _ (length-norms (r .norms) (normsIn (r .head .shape))),
-      eq-eqb _ _ (length-cands (r .entries) (r .counts) ∙ z .sizes .counts),
-    )
-
-pub sound-of : (r : Lent) → headerOk (r .head) ≡ true → Standing r → unsound (view r) ≡ false
+pub sound-of : (r : Lent) → headerOk (r .head) ≡ true → lentOk r ≡ true → unsound (view r) ≡ false
 unfolding view
-sound-of r h z = simp (h, sizes-right r z)
+sound-of r h z = simp (h, sized-view r z)
 
 -- ---- a header that begins an update changes no layer
 
@@ -92,7 +76,7 @@ sized-call k r words w h = simp h
 pub unrecorded : (k : Kind) (r : Lent) (words : List ℕ) (w : ℤ) → headerOk (r .head) ≡ true → lentOk r ≡ true → (length words ≡ recordLength (r .head .shape .layers) → ⊥) → left 12 r ≡ leftBy r (updateCall k r words w)
 unfolding update updateTests view
 unrecorded k r words w h z n =
-    sym (simp (sound-of r h (standing-of r h z), ne-eqb _ _ n)) ∙ sized-call k r words w z
+    sym (simp (sound-of r h z, ne-eqb _ _ n)) ∙ sized-call k r words w z
 
 -- ---- the stages, of a record of the right length in a lent state that is right
 
@@ -112,7 +96,7 @@ module _ (k : Kind) (r : Lent) (words : List ℕ) (w : ℤ) (p : UpdateReady r w
       (cond (clash (r .head .mode) (modeOf k)) (refused 6)
       (cond (not (leb (r .head .weight + natAbs w) top)) (refused 7) (cond (not reads) (refused 9) (cond (not fits) (refused 11) (done (updated k (view r) words w))))))
   unfolding update updateTests view
-  begins = simp (sound-of r (p .ranged) (standing-of r (p .ranged) (p .sized)), eq-eqb _ _ (p .recorded))
+  begins = simp (sound-of r (p .ranged) (p .sized), eq-eqb _ _ (p .recorded))
 
   -- 5, 6 or 7
   pub not-begun : (a : Answered) → a ≡ beginOf (r .head) w (modeOf k) → (a .refusal ≡ 0 → ⊥) → left (a .refusal) (lent (a .header) (r .counters) (r .norms) (r .entries) (r .counts)) ≡ leftBy r (outcomeOf (update k (view r) words w))

@@ -1,6 +1,7 @@
 // UnivMon: the calls that change a state. A state is a `Header` by value and four slices that the
 // caller lends: counters, norms, entries and counts.
 pub mod calls;
+pub mod delta;
 pub mod fresh;
 mod judge;
 pub mod marks;
