@@ -1,4 +1,5 @@
-pub mod Decimals
-pub mod Hex
-pub mod Signs
+pub mod Letters
 pub mod Words
+pub mod Decimals
+pub mod Signs
+pub mod Hex

@@ -17,10 +17,10 @@ pub enum Num {
 pub fn is_digit(b: u8) -> bool
     ensures { λ r. ⌜ r ≡ isDigit b ⌝ }
 {
-    if b < 48 {
+    if b < b'0' {
         return false;
     }
-    b <= 57
+    b <= b'9'
 }
 
 // The digits from a place on, as many as there are.
@@ -52,7 +52,7 @@ pub fn decimal(s: &[u8], at: usize) -> Num
         return Num::Bad;
     }
     let b = s[at];
-    if b == 48 {
+    if b == b'0' {
         return Num::At(0, at + 1);
     }
     if !is_digit(b) {

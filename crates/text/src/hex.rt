@@ -11,32 +11,32 @@ ghost use Rattle.text.specs.Hex.{isHex, nibbleOf, hexOkAt, hexAt, hexGly
 pub fn is_hex(b: u8) -> bool
     ensures { λ r. ⌜ r ≡ isHex b ⌝ }
 {
-    if b < 48 {
+    if b < b'0' {
         return false;
     }
-    if b <= 57 {
+    if b <= b'9' {
         return true;
     }
-    if b < 65 {
+    if b < b'A' {
         return false;
     }
-    b <= 70
+    b <= b'F'
 }
 
 // The value of a digit; 0 for any other byte.
 fn nibble(b: u8) -> u64
     ensures { λ r. ⌜ (r ≡ nibbleOf b) × (r < 16) ⌝ }
 {
-    if b < 48 {
+    if b < b'0' {
         return 0;
     }
-    if b <= 57 {
+    if b <= b'9' {
         return wide(b) - 48;
     }
-    if b < 65 {
+    if b < b'A' {
         return 0;
     }
-    if b <= 70 {
+    if b <= b'F' {
         return wide(b) - 55;
     }
     0

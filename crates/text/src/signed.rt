@@ -72,7 +72,7 @@ pub fn signed_field(s: &[u8], at: usize, stop: u8) -> Int
     if s.len() <= at {
         return Int::Bad;
     }
-    if s[at] == 45 {
+    if s[at] == b'-' {
         let n = field(s, at + 1, stop);
         return negative(n);
     }
@@ -87,7 +87,7 @@ pub fn put_signed(out: &mut [u8], at: usize, x: i64) -> usize
 {
     let n = words::magnitude(x);
     if x < 0 {
-        out[at] = 45;
+        out[at] = b'-';
         return put_decimal(out, at + 1, n);
     }
     put_decimal(out, at, n)

@@ -56,7 +56,7 @@ pub fn flag_digit(f: bool) -> u8
     ensures { λ r. ⌜ r ≡ flagDigit f ⌝ }
 {
     if f {
-        return 49;
+        return b'1';
     }
-    48
+    b'0'
 }

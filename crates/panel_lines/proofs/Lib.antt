@@ -1,0 +1,4 @@
+pub mod Cases
+pub mod Tails
+pub mod Texts
+pub mod Bytes
