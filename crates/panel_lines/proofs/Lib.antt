@@ -2,3 +2,8 @@ pub mod Cases
 pub mod Tails
 pub mod Texts
 pub mod Bytes
+pub mod Pairs
+pub mod Asks
+pub mod Readable
+pub mod Chunks
+pub mod Figures
