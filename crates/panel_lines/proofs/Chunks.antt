@@ -5,7 +5,7 @@ use Prim.Native.Nat.{ℕ, suc, _+_, _≤_, _<_}
 use mathlib.Core.Path.{_≡_, refl, sym, ap, _∙_}
 use mathlib.Core.Bool.{Bool, true, false, cond}
 use mathlib.Core.List.{List, [], _∷_, _++_, map}
-use lib.ListN.{length, drop, length-append, length-drop}
+use lib.ListN.{length, drop, length-append, length-drop, drop-of-length-le}
 use lib.Seq.{take-all, take-append-le, length-take-le}
 use lib.Dec.{eqb, ltb}
 use native.Mathlib.Omega.{arith}
@@ -157,3 +157,8 @@ step-ended s h g i j e = ended-walk (drop i s) s h g i j refl e
 pub step-open : (s h g : List ℕ) (i j : ℕ) → i ≤ length s → stepOf h i (drop i s) ≡ stepped g j false
     → (chunkLines h (drop i s) ≡ []) × ((chunkHeld h (drop i s) ≡ g) × (j ≡ length s))
 step-open s h g i j l e = let z = open-walk (drop i s) h g i j e in (z .0, (z .1 .0, omega (arith, z .1 .1, length-drop i s)))
+
+-- past the chunk's end what is held stays
+pub held-end : (s h : List ℕ) (i : ℕ) → length s ≤ i → chunkHeld h (drop i s) ≡ h
+unfolding chunkHeld
+held-end s h i l = rw (drop-of-length-le s l)
