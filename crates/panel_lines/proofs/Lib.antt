@@ -7,3 +7,4 @@ pub mod Asks
 pub mod Readable
 pub mod Chunks
 pub mod Figures
+pub mod Records

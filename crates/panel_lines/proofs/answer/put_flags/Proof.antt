@@ -13,13 +13,13 @@ use Rattle.panel_lines.proofs.answer.put_flags.Statement.{statement}
 use Rattle.panel_lines.proofs.answer.put_flags.Tie as tie
 
 abbrev Inv-loop : tie.InvT-loop
-Inv-loop out₀ at flags i₀ out i = (i ≤ length flags) × ((length out ≡ length out₀) × (sets out (at + 2 * i) (flagsText (drop i flags)) ≡ sets out₀ at (flagsText flags)))
+Inv-loop out₀ at flags i₀ out i = (sets out (at + 2 * i) (flagsText (drop i flags)) ≡ sets out₀ at (flagsText flags)) × ((length out ≡ length out₀) × (i ≤ length flags))
 
 abbrev μ-loop : tie.MeasureT-loop
 μ-loop out₀ at flags i₀ out i = length flags - i
 
 loop-holds : tie.Need-loop-holds Inv-loop μ-loop
-loop-holds c = let z : c .before .before .args .at + 0 ≡ c .before .before .args .at = omega arith in (omega arith, (refl, rw z))
+loop-holds c = let z : c .before .before .args .at + 0 ≡ c .before .before .args .at = omega arith in (rw z, (refl, omega arith))
 
 mul-p : tie.Need-mul-p Inv-loop μ-loop
 mul-p c = search needs
@@ -49,7 +49,9 @@ loop-less : tie.Need-loop-less Inv-loop μ-loop
 loop-less c = omega arith
 
 loop-again : tie.Need-loop-again Inv-loop μ-loop
-loop-again c = (omega arith, (simp length-set (c .before .before .before .loop .inv .1 .0), rw (c .flag-digit .ensures) (sym (flags-step (c .before .before .before .loop .out) (now (c .before .before .before .before .before .before .args .flags)) (c .before .before .before .before .before .before .args .at) (c .before .before .before .loop .i) (c .before .before .loop-test .taken)) ∙ c .before .before .before .loop .inv .1 .1)))
+loop-again c =
+    let e = flags-step (c .before .before .before .loop .out) (now (c .before .before .before .before .before .before .args .flags)) (c .before .before .before .before .before .before .args .at) (c .before .before .before .loop .i) (c .before .before .loop-test .taken) in
+    (rw (c .flag-digit .ensures) (sym e ∙ c .before .before .before .loop .inv .0), (simp length-set (c .before .before .before .loop .inv .1 .0), omega arith))
 
 mul-result : tie.Need-mul-result Inv-loop μ-loop
 mul-result c = search needs
@@ -61,7 +63,7 @@ same-length : tie.Need-same-length Inv-loop μ-loop
 same-length c = c .before .loop .inv .1 .0
 
 returns : tie.Need-returns Inv-loop μ-loop
-returns c = (omega arith, rw (flags-end (now (c .before .before .before .before .args .flags)) (c .before .loop .i) (c .loop-test .left)) at (c .before .loop .inv .1 .1))
+returns c = (omega arith, rw (flags-end (now (c .before .before .before .before .args .flags)) (c .before .loop .i) (c .loop-test .left)) at (c .before .loop .inv .0))
 
 pub put-flags-spec : {M : Type 1} → statement M
 put-flags-spec =

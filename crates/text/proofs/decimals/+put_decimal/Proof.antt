@@ -1,22 +1,14 @@
 -- `text::decimals::put_decimal` meets its contract; n falls from call to call.
 -- Written by hand: tools/places.py does not know recursive functions. Assumes nothing.
-use Prim.Native.Nat.{ℕ, zero, suc, _+_, _-_, _*_, _/_, _%_, _^_, _≤_, _<_}
-use mathlib.Core.Path.{_≡_, refl, sym, ap, _∙_}
-use mathlib.Core.Bool.{Bool, true, false, cond, not, _&&_, _||_}
-use mathlib.Core.List.{List, [], _∷_, _++_}
-use lib.ListN.{length, getD, set, take, drop, length-set, drop-of-length-le}
-use lib.Seq.{drop-cons, getD-set-same, getD-set-other}
-use lib.Dec.{eqb, ltb, leb}
-use native.Mathlib.Omega.{arith}
-use native.Mathlib.Numerals.{add-one}
-use borrow.Author.Needs.{needs, sfits-of}
-use borrow.Author.Tests.{eq-eqb, ne-eqb, lt-ltb, le-ltb, le-leb, lt-leb, not-true, not-false, ltb-true, ltb-false, leb-true, leb-false}
-use denote.Ref.{now}
-use lib.Seq.{sets, length-sets}
 use Prim.Native.Nat.{ℕ, _<_}
+use mathlib.Core.Path.{ap, _∙_}
+use lib.ListN.{length, length-set}
+use lib.Seq.{length-sets}
+use native.Mathlib.Omega.{arith}
+use borrow.Author.Needs.{needs}
+use denote.Ref.{now}
 use borrow.Fn.Kinds.{In}
 use borrow.Fn.PlainCycle.{Measures, is, falls, and}
-use Rattle.text.specs.Decimals.{dec}
 use Rattle.text.proofs.DecTexts.{dec-small, dec-grows, dec-put}
 use Rattle.text.proofs.decimals.put_decimal.Reads as put-decimal
 use Rattle.text.proofs.decimals.put_decimal.Kinds as put-decimal-kinds
