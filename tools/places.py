@@ -103,6 +103,11 @@ def sources(crate):
     return h.hexdigest()[:12]
 
 
+def joined(text):
+    """an import that the layout broke over several lines, on one"""
+    return re.sub(r"^(use \S+\.\{)\n((?:  .*\n)+)\}$", lambda m: m.group(1) + m.group(2).replace("\n", "").replace("  ", " ").strip().rstrip(",") + "}", text, flags=re.M)
+
+
 def skeletons(output):
     """the files that the check prints under `help: write ..`"""
     lines, i, found = output.split("\n"), 0, {}
@@ -115,7 +120,7 @@ def skeletons(output):
         while i < len(lines) and (lines[i].startswith("    ") or lines[i] == ""):
             block.append(lines[i][4:])
             i += 1
-        found[m.group(1)] = "\n".join(block).rstrip() + "\n"
+        found[m.group(1)] = joined("\n".join(block).rstrip() + "\n")
     return found
 
 
@@ -294,7 +299,8 @@ def proof(crate, fn, known):
             for n in names:
                 answers[n] = (above, text)
     body, spec, shared = [], False, f"{REPO}/crates/{crate}/proofs/imports.txt"
-    lines = known["skeletons"][fn].split("\n")
+    # the printed lines are laid out: one line for each declaration again
+    lines = re.sub(r"(?<=\S)\n +(?=\S)", " ", known["skeletons"][fn]).split("\n")
     for line in lines:
         if line.startswith("use ") or line.startswith("-- src/"):
             continue
@@ -359,7 +365,8 @@ def start(crate, fns):
         path = f"{REPO}/crates/{crate}/proofs/{fn}/answers.txt"
         if os.path.exists(path) or fn not in known["skeletons"]:
             continue
-        needs = re.findall(r"^([^\s:]+)(?: \S+)* = \?$", known["skeletons"][fn], re.M)
+        joined = re.sub(r"(?<=\S)\n +(?=\S)", " ", known["skeletons"][fn])
+        needs = re.findall(r"^([^\s:]+)(?: \S+)* = \?$", joined, re.M)
         put(path, f"-- `{crate}::{fn.replace('/', '::')}` meets its contract.\n\n" + "\n\n".join(n + " = ?" for n in needs) + "\n")
         print("new", path)
 

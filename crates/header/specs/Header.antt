@@ -12,7 +12,7 @@ use Rattle.header.specs.declared.Shape.{Shape}
 use Rattle.header.specs.declared.Mode.{Mode}
 use Rattle.header.specs.declared.Mode.the-variants as mode
 use Rattle.header.specs.declared.Header.{Header}
-use Rattle.header.specs.declared.Begun.{Begun}
+use Rattle.header.specs.declared.Answered.{Answered}
 
 -- ---- headers from nothing
 
@@ -79,7 +79,7 @@ settled m = joined m mode.Standard
 abbrev pub begun : Header → ℕ → Mode → Header
 begun h w m = withMode (withWeight h (h .weight + w)) (joined (h .mode) m)
 
-unfoldable pub beginOf : Header → ℤ → Mode → Begun
+unfoldable pub beginOf : Header → ℤ → Mode → Answered
 beginOf h w m =
     cond (not (nonNeg w)) (record { refusal = 5; header = h })
     (cond (clash (h .mode) m) (record { refusal = 6; header = h })

@@ -61,8 +61,8 @@ pub struct Header {
     pub lens: [usize; 19],
 }
 
-// A header that an update began with, or a refusal and the header as it was.
-pub struct Begun {
+// What a call on a header answers: a refusal and the header as it was, or 0 and the new header.
+pub struct Answered {
     pub refusal: u64,
     pub header: Header,
 }
@@ -291,33 +291,33 @@ impl Header {
     }
 
     // Weight and mode of an update: 5, 6 or 7, or the header that it begins with.
-    pub fn begin_update(self, weight: i64, mode: Mode) -> Begun
+    pub fn begin_update(self, weight: i64, mode: Mode) -> Answered
         requires { ⌜ self .weight ≤ top ⌝ }
         ensures { λ r. ⌜ r ≡ beginOf self weight mode ⌝ }
     {
         if weight < 0 {
-            return Begun {
+            return Answered {
                 refusal: 5,
                 header: self,
             };
         }
         let had = self.mode;
         if clashes(had, mode) {
-            return Begun {
+            return Answered {
                 refusal: 6,
                 header: self,
             };
         }
         let w = weight as u64;
         if TOP - self.weight < w {
-            return Begun {
+            return Answered {
                 refusal: 7,
                 header: self,
             };
         }
         let sum = self.weight + w;
         let header = self.with_weight(sum).with_mode(join(had, mode));
-        Begun { refusal: 0, header }
+        Answered { refusal: 0, header }
     }
 
     // Whether dimensions, weight, lengths and flags are in range.

@@ -1,0 +1,45 @@
+-- What the stores of an update need, by name.
+use Prim.Native.Nat.{ℕ, _+_, _*_, _≤_, _<_}
+use mathlib.Core.Path.{_≡_}
+use mathlib.Core.Bool.{true}
+use mathlib.Core.List.{List}
+use lib.ListN.{length}
+use lib.IntN.{ℤ, natAbs, _+ℤ_}
+use Rattle.words.specs.Num.{top, squareCap, capped}
+use Rattle.matrix_storage.specs.Bits.{Shaped, maxRows, maxCols}
+use Rattle.countsketch_l2_norm.specs.Norms.{normAt}
+use Rattle.countsketch_l2_norm.specs.Sketch.{sketchOf, cellAt, cellRead, cellFits, rowsRead, rowsFit}
+
+pub record Ready (rows cols h w : ℕ) (xs : List ℤ) (ws : List ℕ) : Type 0 where
+  pub shaped : Shaped rows cols
+  pub room : rows * cols ≤ length xs
+  pub pairs : 2 * rows ≤ length ws
+  pub light : w ≤ top
+  pub read : rowsRead cols h (sketchOf xs ws rows) rows 0 ≡ true
+  pub fit : rowsFit cols h w xs rows 0 ≡ true
+
+-- of one counter and its row's norm
+pub record CellReady (at r : ℕ) (d : ℤ) (xs : List ℤ) (ws : List ℕ) : Type 0 where
+  pub inside : at < length xs
+  pub few : r < maxRows
+  pub pair : 2 * r + 1 < length ws
+  pub small : natAbs d ≤ top
+  pub cellIn : natAbs (cellAt xs at) ≤ top
+  pub sumIn : natAbs (cellAt xs at +ℤ d) ≤ top
+  pub holds : capped (cellAt xs at) ≤ normAt ws r
+  pub normIn : normAt ws r ≤ maxCols * squareCap
+
+-- a row and a column within the counters
+pub record Placed (rows cols row col : ℕ) (xs : List ℤ) : Type 0 where
+  pub shaped : Shaped rows cols
+  pub room : rows * cols ≤ length xs
+  pub below : row < rows
+  pub inside : col < cols
+
+-- of a delta there
+pub record DeltaReady (rows cols row col : ℕ) (d : ℤ) (xs : List ℤ) (ws : List ℕ) : Type 0 where
+  pub placed : Placed rows cols row col xs
+  pub pairs : 2 * rows ≤ length ws
+  pub small : natAbs d ≤ top
+  pub read : cellRead cols (row * cols + col) row (sketchOf xs ws rows) ≡ true
+  pub fit : cellFits (row * cols + col) d xs ≡ true

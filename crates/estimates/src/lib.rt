@@ -1,0 +1,1 @@
+// What a state answers: norms, sums over candidates, cardinality.

@@ -1,0 +1,40 @@
+-- A delta on one counter of a layer.
+use Prim.Native.Nat.{ℕ, _+_, _*_}
+use mathlib.Core.Bool.{Bool, _&&_}
+use lib.IntN.{ℤ}
+use Rattle.countsketch_l2_norm.specs.Sketch.{Sketch, addCell, cellRead, cellFits}
+use Rattle.countsketch_l2_norm.specs.Estimate.{cellsIn}
+use Rattle.heap_moves.specs.declared.Who.{Who}
+use Rattle.heap.specs.Offer.{Offered, kept}
+use Rattle.layer.specs.declared.Dims.{Dims}
+use Rattle.layer.specs.Layer.{Layer, hashBy, offerTo, countsRead}
+
+-- the counter that a delta names, what it adds, whose it is, and whether every insert was promoted
+pub record Delta : Type 0 where
+  pub row : ℕ
+  pub col : ℕ
+  pub count : ℤ
+  pub who : Who
+  pub every : Bool
+
+abbrev pub delta : ℕ → ℕ → ℤ → Who → Bool → Delta
+delta row col n who every = record { row = row; col = col; count = n; who = who; every = every }
+
+abbrev pub placeBy : Dims → Delta → ℕ
+placeBy d u = u .row * d .cols + u .col
+
+-- the counter takes the count, then the key is offered with its estimate; the flag falls where a key was lost or not every insert was promoted
+unfoldable pub deltaLayer : Dims → Delta → Layer → Layer
+deltaLayer d u l =
+    let s : Sketch = addCell (placeBy d u) (u .row) (u .count) (l .sketch) in
+    let o : Offered = offerTo d (u .who) (s .cells) (l .table) in
+    record { sketch = s; table = o .table; flag = l .flag && (kept o && u .every) }
+
+-- what it reads is in range: its cell and norm, the cells of the key's estimate, and the candidates
+unfoldable pub deltaReads : Dims → Delta → Layer → Bool
+deltaReads d u l =
+    cellRead (d .cols) (placeBy d u) (u .row) (l .sketch) && cellsIn (d .cols) (hashBy (u .who)) (l .sketch .cells) (d .rows) 0 && countsRead (l .table)
+
+-- its counter does not leave the range
+unfoldable pub deltaFits : Dims → Delta → Layer → Bool
+deltaFits d u l = cellFits (placeBy d u) (u .count) (l .sketch .cells)

@@ -1,0 +1,82 @@
+-- One layer whole, for any rows, columns and heap size, and an update of it.
+use Prim.Native.Nat.{ℕ, _*_}
+use mathlib.Core.Bool.{Bool, true, _&&_}
+use mathlib.Core.List.{List}
+use lib.ListN.{take, replicate}
+use lib.IntN.{ℤ, pos}
+use Rattle.words.specs.Num.{allIn}
+use Rattle.matrix_storage.specs.Bits.{hashOf}
+use Rattle.countsketch_l2_norm.specs.Sketch.{Sketch, sketchOf, addRows, rowsRead, rowsFit}
+use Rattle.countsketch_l2_norm.specs.Estimate.{estimateOf}
+use Rattle.heap_moves.specs.declared.Who.{Who}
+use Rattle.heap_moves.specs.Cands.{noCand}
+use Rattle.heap_moves.specs.Flat.{candOf, countsOf}
+use Rattle.heap.specs.Offer.{Table, Offered, offer, kept}
+use Rattle.heap.specs.Slices.{tableOf}
+use Rattle.layer.specs.declared.Dims.{Dims}
+
+-- counters and norms, candidates, and whether no key was lost
+pub record Layer : Type 0 where
+  pub sketch : Sketch
+  pub table : Table
+  pub flag : Bool
+
+-- the layer that stands in four slices
+abbrev pub layerOf : Dims → List ℤ → List ℕ → List ℕ → List ℤ → ℕ → Bool → Layer
+layerOf d xs ws es ns len flag = record { sketch = sketchOf xs ws (d .rows); table = tableOf es ns len; flag = flag }
+
+-- one update as a layer sees it: who is counted, with this layer's hash, and by how much
+pub record Item : Type 0 where
+  pub who : Who
+  pub weight : ℕ
+
+abbrev pub item : Who → ℕ → Item
+item who w = record { who = who; weight = w }
+
+-- the 128-bit hash of an entry
+abbrev pub hashBy : Who → ℕ
+hashBy w = hashOf (w .high) (w .low)
+
+-- "A count is the estimate cut toward zero.", of an entry's hash
+abbrev pub countOf : Dims → Who → List ℤ → ℤ
+countOf d w cells = estimateOf (d .rows) (d .cols) (hashBy w) cells
+
+-- ---- an update: the counters take it, then the key is offered with its new count; "Flags: cleared where the candidate update answers false"
+
+unfoldable pub addSketch : Dims → Item → Sketch → Sketch
+addSketch d u s = addRows (d .cols) (hashBy (u .who)) (u .weight) (d .rows) 0 s
+
+-- the offer of a key with its count from the counters
+abbrev pub offerTo : Dims → Who → List ℤ → Table → Offered
+offerTo d w cells t = offer (d .size) t (candOf w (countOf d w cells))
+
+unfoldable pub addLayer : Dims → Item → Layer → Layer
+addLayer d u l =
+    let s : Sketch = addSketch d u (l .sketch) in
+    let o : Offered = offerTo d (u .who) (s .cells) (l .table) in
+    record { sketch = s; table = o .table; flag = l .flag && kept o }
+
+-- "A candidate is in range if its count lies within ±2^52 .. A read candidate layer is read whole, up to its length."
+abbrev pub countsRead : Table → Bool
+countsRead t = allIn (take (t .len) (countsOf (t .cands)))
+
+-- what an update reads of a layer is in range: in each row the key's cell and the norm, and the candidates
+unfoldable pub addReads : Dims → Item → Layer → Bool
+addReads d u l = rowsRead (d .cols) (hashBy (u .who)) (l .sketch) (d .rows) 0 && countsRead (l .table)
+
+-- no counter leaves the range
+unfoldable pub addFits : Dims → Item → Layer → Bool
+addFits d u l = rowsFit (d .cols) (hashBy (u .who)) (u .weight) (l .sketch .cells) (d .rows) 0
+
+-- ---- a layer with nothing counted
+
+abbrev pub noTable : ℕ → Table
+noTable size = record { cands = replicate size noCand; len = 0 }
+
+unfoldable pub noLayer : Dims → Layer
+noLayer d =
+    record {
+      sketch = record { cells = replicate (d .rows * d .cols) (pos 0); norms = replicate (d .rows) 0 };
+      table = noTable (d .size);
+      flag = true;
+    }

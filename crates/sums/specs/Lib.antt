@@ -1,0 +1,5 @@
+pub mod Entries
+pub mod Terms
+pub mod Layers
+pub mod Terminal
+pub mod Whole

@@ -1,0 +1,89 @@
+-- The public calls: what each answers, and what it leaves of the header and the slices that it is lent.
+use Prim.Native.Nat.{ℕ}
+use mathlib.Core.Bool.{false, cond, not, _||_}
+use mathlib.Core.List.{List}
+use lib.ListN.{length, set, replicate}
+use lib.IntN.{ℤ}
+use lib.Dec.{eqb, leb, ltb}
+use Rattle.words.specs.Num.{top}
+use Rattle.header.specs.declared.Shape.{Shape}
+use Rattle.header.specs.declared.Mode.the-variants as mode
+use Rattle.header.specs.declared.Header.{Header}
+use Rattle.header.specs.declared.Answered.{Answered}
+use Rattle.header.specs.Shape.{maxLayers, shapeRefusal}
+use Rattle.header.specs.Header.{zeroHeader, withWeight, withMode, withFlags, settled, clash, headerOk}
+use Rattle.univmon.specs.declared.Kind.{Kind}
+use Rattle.univmon.specs.Judged.{Out, refused, done}
+use Rattle.univmon.specs.Updates.{update}
+use Rattle.univmon.specs.Deltas.{Arrival, applyDelta}
+use Rattle.univmon.specs.Merges.{merge}
+use Rattle.univmon.specs.Slices.{Lent, lent, lentOk, lengthsOk, view, flat, freshLent}
+
+-- ---- what a call on slices answers
+
+-- a refusal's number, or the header and slices after it
+pub data Outcome : Type 0 where
+  no : ℕ → Outcome
+  yes : Lent → Outcome
+
+abbrev pub outcomeOf : Out → Outcome
+outcomeOf (refused n) = Outcome.no n
+outcomeOf (done s) = Outcome.yes (flat s)
+
+-- the number that is answered, 0 for none, and what is left: "Header and slices remain unchanged" on a refusal
+pub record Left : Type 0 where
+  pub refusal : ℕ
+  pub lends : Lent
+
+abbrev pub left : ℕ → Lent → Left
+left n r = record { refusal = n; lends = r }
+
+abbrev pub leftBy : Lent → Outcome → Left
+leftBy r (Outcome.no n) = left n r
+leftBy r (Outcome.yes t) = left 0 t
+
+-- ---- the calls
+
+-- "`new`: 1, 2, 3, 4, 9."; "a refused `new` gives an all-zero header", and the slices stay
+unfoldable pub newCall : Shape → List ℤ → List ℕ → List ℕ → List ℤ → Left
+newCall sh xs ws es ns =
+    cond (not (eqb (shapeRefusal sh) 0)) (left (shapeRefusal sh) (lent zeroHeader xs ws es ns))
+    (cond (not (lengthsOk sh (length xs) (length ws) (length es) (length ns))) (left 9 (lent zeroHeader xs ws es ns))
+    (left 0 (freshLent sh)))
+
+unfoldable pub updateCall : Kind → Lent → List ℕ → ℤ → Outcome
+updateCall k r words w = cond (lentOk r) (outcomeOf (update k (view r) words w)) (Outcome.no 9)
+
+unfoldable pub deltaCall : Lent → List ℕ → Arrival → Outcome
+deltaCall r words a = cond (lentOk r) (outcomeOf (applyDelta (view r) words a)) (Outcome.no 9)
+
+unfoldable pub mergeCall : Lent → Lent → Outcome
+mergeCall r t = cond (not (lentOk r) || not (lentOk t)) (Outcome.no 9) (outcomeOf (merge (view r) (view t)))
+
+-- "`clear` zeroes every slice", and the header is a fresh one
+unfoldable pub clearCall : Lent → Outcome
+clearCall r = cond (not (headerOk (r .head)) || not (lentOk r)) (Outcome.no 9) (Outcome.yes (freshLent (r .head .shape)))
+
+-- ---- the calls on the header alone
+
+abbrev pub answered : ℕ → Header → Answered
+answered n h = record { refusal = n; header = h }
+
+-- 9, 6 "weight set in terminal mode", 7 "weight would pass 2^52"; an unset mode becomes standard
+unfoldable pub weightCall : Header → ℕ → Answered
+weightCall h w =
+    cond (not (headerOk h)) (answered 9 h)
+    (cond (clash (h .mode) mode.Standard) (answered 6 h)
+    (cond (ltb top w) (answered 7 h)
+    (answered 0 (withMode (withWeight h w) (settled (h .mode))))))
+
+-- every flag falls
+unfoldable pub markCall : Header → Answered
+markCall h = cond (not (headerOk h)) (answered 9 h) (answered 0 (withFlags h (replicate maxLayers false)))
+
+-- one layer's flag falls; 8 for a layer outside
+unfoldable pub markLayerCall : Header → ℕ → Answered
+markLayerCall h l =
+    cond (not (headerOk h)) (answered 9 h)
+    (cond (leb (h .shape .layers) l) (answered 8 h)
+    (answered 0 (withFlags h (set (h .flags) l false))))

@@ -1,0 +1,9 @@
+pub mod State
+pub mod Judged
+pub mod Updates
+pub mod Deltas
+pub mod Merges
+pub mod Slices
+pub mod Calls
+pub mod Needs
+pub mod Spans

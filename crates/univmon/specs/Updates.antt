@@ -1,0 +1,75 @@
+-- The two updates.
+use Prim.Native.Nat.{ℕ, _+_, _*_}
+use mathlib.Core.Bool.{Bool, not}
+use mathlib.Core.List.{List, [], _∷_}
+use lib.ListN.{length, getD}
+use lib.IntN.{ℤ, natAbs}
+use lib.Signed.{nonNeg}
+use lib.Dec.{eqb, leb}
+use Rattle.words.specs.Num.{top}
+use Rattle.heap_moves.specs.declared.Who.{Who}
+use Rattle.header.specs.declared.Mode.{Mode}
+use Rattle.header.specs.declared.Mode.the-variants as mode
+use Rattle.header.specs.Shape.{bottomOf}
+use Rattle.header.specs.Header.{clash, begun}
+use Rattle.layer.specs.Layer.{Layer, Item, addLayer, addReads, addFits}
+use Rattle.univmon.specs.declared.Kind.{Kind}
+use Rattle.univmon.specs.declared.Kind.the-variants as kind
+use Rattle.univmon.specs.State.{State, shapeOf, dimsAt, overLayers, allLayers, withHead}
+use Rattle.univmon.specs.Judged.{Out, judge, unsound}
+
+-- "a record is key, bottom hash (seed index 19), then high and low half of the 128-bit hash for each layer, 2 + 2 × layers words"
+abbrev pub recordLength : ℕ → ℕ
+recordLength layers = 2 + 2 * layers
+
+abbrev pub bottomWord : List ℕ → ℕ
+bottomWord words = getD words 1 0
+
+-- the key of a record, with layer l's hash
+abbrev pub whoAt : List ℕ → ℕ → Who
+whoAt words l = record { key = getD words 0 0; bottom = bottomWord words; high = getD words (2 + 2 * l) 0; low = getD words (3 + 2 * l) 0 }
+
+-- the update as layer l sees it
+abbrev pub itemAt : List ℕ → ℤ → ℕ → Item
+itemAt words w l = record { who = whoAt words l; weight = natAbs w }
+
+abbrev pub modeOf : Kind → Mode
+modeOf kind.Standard = mode.Standard
+modeOf kind.Terminal = mode.Terminal
+
+-- "A standard update sends a key to layers 0 to bottom, a terminal one to bottom only.": the first layer, and how many
+abbrev pub firstSent : Kind → ℕ → ℕ
+firstSent kind.Standard b = 0
+firstSent kind.Terminal b = b
+
+abbrev pub manySent : Kind → ℕ → ℕ
+manySent kind.Standard b = b + 1
+manySent kind.Terminal b = 1
+
+-- the bottom layer of a record in a state
+abbrev pub bottomBy : State → List ℕ → ℕ
+bottomBy s words = bottomOf (bottomWord words) (shapeOf s .layers)
+
+-- the touched layers pass a test; each of them is replaced
+abbrev pub sentAll : Kind → (ℕ → Layer → Bool) → State → List ℕ → Bool
+sentAll k p s words = allLayers p (manySent k (bottomBy s words)) (firstSent k (bottomBy s words)) s
+
+-- "Other calls: 9 for lengths and headers, 12, 10, 5, 8, 6, 7, 9 for what is read, 11."
+unfoldable pub updateTests : Kind → State → List ℕ → ℤ → List (Bool × ℕ)
+updateTests k s words w =
+    (unsound s, 9)
+    ∷ (not (eqb (length words) (recordLength (shapeOf s .layers))), 12)
+    ∷ (not (nonNeg w), 5)
+    ∷ (clash (s .head .mode) (modeOf k), 6)
+    ∷ (not (leb (s .head .weight + natAbs w) top), 7)
+    ∷ (not (sentAll k (λ l y. addReads (dimsAt (shapeOf s) l) (itemAt words w l) y) s words), 9)
+    ∷ (not (sentAll k (λ l y. addFits (dimsAt (shapeOf s) l) (itemAt words w l) y) s words), 11)
+    ∷ []
+
+unfoldable pub updated : Kind → State → List ℕ → ℤ → State
+updated k s words w =
+    overLayers (λ l y. addLayer (dimsAt (shapeOf s) l) (itemAt words w l) y) (manySent k (bottomBy s words)) (firstSent k (bottomBy s words))
+    (withHead s (begun (s .head) (natAbs w) (modeOf k)))
+
+unfoldable pub update : Kind → State → List ℕ → ℤ → Out
+update k s words w = judge (updateTests k s words w) (updated k s words w)
