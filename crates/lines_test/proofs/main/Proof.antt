@@ -63,24 +63,4 @@ returns-2 : tie.Need-returns-2 Inv-loop μ-loop
 returns-2 c = tt
 
 pub main-spec : {M : Type 1} → statement M
-main-spec =
-    tie.close
-    (tie.spec
-    Inv-loop
-    μ-loop
-    loop-holds
-    slice-aggregate-read
-    read-requires
-    slice-aggregate-count
-    count-requires
-    array-share-prefix-chunk
-    slice-aggregate-take-chunk
-    slice-aggregate-take-chunk-2
-    take-chunk-requires
-    sub-turns
-    loop-less
-    loop-again
-    slice-aggregate-reply
-    reply-requires
-    returns
-    returns-2)
+main-spec = tie.close (tie.spec Inv-loop μ-loop loop-holds slice-aggregate-read read-requires slice-aggregate-count count-requires array-share-prefix-chunk slice-aggregate-take-chunk slice-aggregate-take-chunk-2 take-chunk-requires sub-turns loop-less loop-again slice-aggregate-reply reply-requires returns returns-2)

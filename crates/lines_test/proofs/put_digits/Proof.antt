@@ -39,14 +39,4 @@ returns-2 : tie.Need-returns-2
 returns-2 c = search needs
 
 pub put-digits-spec : {M : Type 1} → statement M
-put-digits-spec =
-    tie.close
-    (tie.spec
-    room-requires
-    same-length
-    returns
-    slice-aggregate-put-word
-    put-word-requires
-    put-hex-requires
-    same-length-2
-    returns-2)
+put-digits-spec = tie.close (tie.spec room-requires same-length returns slice-aggregate-put-word put-word-requires put-hex-requires same-length-2 returns-2)

@@ -34,13 +34,4 @@ returns-2 : tie.Need-returns-2
 returns-2 c = search needs
 
 pub put-newline-spec : {M : Type 1} → statement M
-put-newline-spec =
-    tie.close
-    (tie.spec
-    room-requires
-    same-length
-    returns
-    slice-aggregate-put-word
-    put-word-requires
-    same-length-2
-    returns-2)
+put-newline-spec = tie.close (tie.spec room-requires same-length returns slice-aggregate-put-word put-word-requires same-length-2 returns-2)

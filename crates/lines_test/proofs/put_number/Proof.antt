@@ -40,14 +40,4 @@ returns-2 : tie.Need-returns-2
 returns-2 c = search needs
 
 pub put-number-spec : {M : Type 1} → statement M
-put-number-spec =
-    tie.close
-    (tie.spec
-    room-requires
-    same-length
-    returns
-    slice-aggregate-put-word
-    put-word-requires
-    put-decimal-requires
-    same-length-2
-    returns-2)
+put-number-spec = tie.close (tie.spec room-requires same-length returns slice-aggregate-put-word put-word-requires put-decimal-requires same-length-2 returns-2)

@@ -43,14 +43,4 @@ returns-2 : tie.Need-returns-2
 returns-2 c = search needs
 
 pub put-weight-spec : {M : Type 1} → statement M
-put-weight-spec =
-    tie.close
-    (tie.spec
-    room-requires
-    same-length
-    returns
-    slice-aggregate-put-word
-    put-word-requires
-    put-signed-requires
-    same-length-2
-    returns-2)
+put-weight-spec = tie.close (tie.spec room-requires same-length returns slice-aggregate-put-word put-word-requires put-signed-requires same-length-2 returns-2)

@@ -42,17 +42,4 @@ returns : tie.Need-returns Inv-loop μ-loop
 returns c = search needs
 
 pub say-add-spec : {M : Type 1} → statement M
-say-add-spec =
-    tie.close
-    (tie.spec
-    Inv-loop
-    μ-loop
-    put-weight-requires
-    loop-holds
-    put-nth-requires
-    add-i
-    loop-less
-    loop-again
-    put-newline-requires
-    same-length
-    returns)
+say-add-spec = tie.close (tie.spec Inv-loop μ-loop put-weight-requires loop-holds put-nth-requires add-i loop-less loop-again put-newline-requires same-length returns)

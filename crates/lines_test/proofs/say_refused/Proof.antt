@@ -34,13 +34,4 @@ returns-2 : tie.Need-returns-2
 returns-2 c = search needs
 
 pub say-refused-spec : {M : Type 1} → statement M
-say-refused-spec =
-    tie.close
-    (tie.spec
-    room-requires
-    same-length
-    returns
-    put-refused-requires
-    put-newline-requires
-    same-length-2
-    returns-2)
+say-refused-spec = tie.close (tie.spec room-requires same-length returns put-refused-requires put-newline-requires same-length-2 returns-2)

@@ -46,17 +46,4 @@ returns-2 : tie.Need-returns-2
 returns-2 c = search needs
 
 pub say-shape-spec : {M : Type 1} → statement M
-say-shape-spec =
-    tie.close
-    (tie.spec
-    room-requires
-    same-length
-    returns
-    put-ok-requires
-    put-number-requires
-    put-number-requires-2
-    put-number-requires-3
-    put-number-requires-4
-    put-newline-requires
-    same-length-2
-    returns-2)
+say-shape-spec = tie.close (tie.spec room-requires same-length returns put-ok-requires put-number-requires put-number-requires-2 put-number-requires-3 put-number-requires-4 put-newline-requires same-length-2 returns-2)

@@ -59,21 +59,4 @@ returns-2 : tie.Need-returns-2 Inv-loop μ-loop
 returns-2 c = search needs
 
 pub say-show-spec : {M : Type 1} → statement M
-say-show-spec =
-    tie.close
-    (tie.spec
-    Inv-loop
-    μ-loop
-    loop-holds
-    array-write-flags
-    add-i
-    loop-less
-    loop-again
-    room-requires
-    same-length
-    returns
-    slice-aggregate-put-show
-    put-show-requires
-    put-newline-requires
-    same-length-2
-    returns-2)
+say-show-spec = tie.close (tie.spec Inv-loop μ-loop loop-holds array-write-flags add-i loop-less loop-again room-requires same-length returns slice-aggregate-put-show put-show-requires put-newline-requires same-length-2 returns-2)

@@ -51,17 +51,4 @@ returns : tie.Need-returns Inv-loop μ-loop
 returns c = ((c .before .loop .inv .1 .0, c .before .loop .inv .1 .1 .0), sym (held-end (now (c .before .before .before .before .args .chunk)) _ (c .before .loop .at) (c .loop-test .left)) ∙ c .before .loop .inv .1 .1 .1)
 
 pub take-chunk-spec : {M : Type 1} → statement M
-take-chunk-spec =
-    tie.close
-    (tie.spec
-    Inv-loop
-    μ-loop
-    loop-holds
-    take-line-requires
-    reply-requires
-    loop-less
-    loop-again
-    loop-less-2
-    loop-again-2
-    same-length
-    returns)
+take-chunk-spec = tie.close (tie.spec Inv-loop μ-loop loop-holds take-line-requires reply-requires loop-less loop-again loop-less-2 loop-again-2 same-length returns)

@@ -66,23 +66,4 @@ returns : tie.Need-returns Inv-loop μ-loop
 returns c = (omega arith, rw (flags-end (now (c .before .before .before .before .args .flags)) (c .before .loop .i) (c .loop-test .left)) at (c .before .loop .inv .0))
 
 pub put-flags-spec : {M : Type 1} → statement M
-put-flags-spec =
-    tie.close
-    (tie.spec
-    Inv-loop
-    μ-loop
-    loop-holds
-    mul-p
-    add-p
-    shared-slice-read-flag-digit
-    flag-digit-requires
-    slice-write-out
-    add-out
-    slice-write-out-2
-    add-i
-    loop-less
-    loop-again
-    mul-result
-    add-result
-    same-length
-    returns)
+put-flags-spec = tie.close (tie.spec Inv-loop μ-loop loop-holds mul-p add-p shared-slice-read-flag-digit flag-digit-requires slice-write-out add-out slice-write-out-2 add-i loop-less loop-again mul-result add-result same-length returns)

@@ -44,13 +44,4 @@ returns c =
     (r .0, (r .1, omega (arith, dec-length (c .before .before .before .before .before .before .before .before .before .before .before .before .before .before .before .args .n), c .before .before .before .before .before .before .before .before .before .before .before .put-word .ensures .0, c .before .before .before .before .before .before .before .put-decimal .ensures .0, c .before .before .put-word2 .ensures .0)))
 
 pub put-refused-spec : {M : Type 1} → statement M
-put-refused-spec =
-    tie.close
-    (tie.spec
-    slice-aggregate-put-word
-    put-word-requires
-    put-decimal-requires
-    slice-aggregate-put-word-2
-    put-word-requires-2
-    same-length
-    returns)
+put-refused-spec = tie.close (tie.spec slice-aggregate-put-word put-word-requires put-decimal-requires slice-aggregate-put-word-2 put-word-requires-2 same-length returns)

@@ -52,19 +52,4 @@ returns c =
     (r .0, (r .1, omega (arith, c .before .before .before .before .before .before .before .before .before .before .before .before .before .before .before .before .before .before .before .before .before .before .before .before .before .before .put-item .ensures .0, c .before .before .before .before .before .before .before .before .before .before .before .before .before .before .before .before .before .before .before .before .before .put-item2 .ensures .0, c .before .before .before .before .before .before .before .before .before .before .before .before .before .before .before .before .put-item3 .ensures .0, c .before .before .before .before .before .before .before .before .before .before .before .put-word .ensures .0, c .before .before .before .before .before .before .before .put-flags .ensures .0, c .before .before .put-word2 .ensures .0)))
 
 pub put-show-spec : {M : Type 1} → statement M
-put-show-spec =
-    tie.close
-    (tie.spec
-    slice-aggregate-put-item
-    put-item-requires
-    slice-aggregate-put-item-2
-    put-item-requires-2
-    slice-aggregate-put-item-3
-    put-item-requires-3
-    slice-aggregate-put-word
-    put-word-requires
-    put-flags-requires
-    slice-aggregate-put-word-2
-    put-word-requires-2
-    same-length
-    returns)
+put-show-spec = tie.close (tie.spec slice-aggregate-put-item put-item-requires slice-aggregate-put-item-2 put-item-requires-2 slice-aggregate-put-item-3 put-item-requires-3 slice-aggregate-put-word put-word-requires put-flags-requires slice-aggregate-put-word-2 put-word-requires-2 same-length returns)

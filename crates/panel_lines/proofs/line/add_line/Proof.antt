@@ -126,30 +126,4 @@ returns-5 c =
     (simp (e0, e1, e2, e3, f), c .before .before .fill .ensures ∙ simp (e0, e1, e2, e3, c .before .before .before .before .hex-value .ensures))
 
 pub add-line-spec : {M : Type 1} → statement M
-add-line-spec =
-    tie.close
-    (tie.spec
-    field-requires
-    enum-known-a
-    enum-told
-    returns
-    signed-field-requires
-    enum-known-w
-    enum-told-2
-    returns-2
-    hex-ok-requires
-    returns-3
-    add-read-tail
-    read-tail-requires
-    enum-known-t
-    enum-told-3
-    returns-4
-    slice-write-words
-    hex-value-requires
-    slice-write-words-2
-    add-fill
-    fill-requires
-    mul-t13
-    add-t20
-    same-length
-    returns-5)
+add-line-spec = tie.close (tie.spec field-requires enum-known-a enum-told returns signed-field-requires enum-known-w enum-told-2 returns-2 hex-ok-requires returns-3 add-read-tail read-tail-requires enum-known-t enum-told-3 returns-4 slice-write-words hex-value-requires slice-write-words-2 add-fill fill-requires mul-t13 add-t20 same-length returns-5)

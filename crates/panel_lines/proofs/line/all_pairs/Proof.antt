@@ -55,17 +55,4 @@ unfolding allPairs
 returns-2 c = let z : c .before .before .before .args .n - c .before .loop .k ≡ 0 = omega arith in rw z at (c .before .loop .inv .1)
 
 pub all-pairs-spec : {M : Type 1} → statement M
-all-pairs-spec =
-    tie.close
-    (tie.spec
-    Inv-loop
-    μ-loop
-    loop-holds
-    mul-pair-ok
-    add-pair-ok
-    pair-ok-requires
-    returns
-    add-k
-    loop-less
-    loop-again
-    returns-2)
+all-pairs-spec = tie.close (tie.spec Inv-loop μ-loop loop-holds mul-pair-ok add-pair-ok pair-ok-requires returns add-k loop-less loop-again returns-2)

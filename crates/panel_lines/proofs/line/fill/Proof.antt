@@ -94,28 +94,4 @@ unfolding halves
 returns c = let z : c .before .before .before .before .args .n - c .before .loop .k ≡ 0 = omega arith in rw z at (c .before .loop .inv .1 .1)
 
 pub fill-spec : {M : Type 1} → statement M
-fill-spec =
-    tie.close
-    (tie.spec
-    Inv-loop
-    μ-loop
-    loop-holds
-    mul-p
-    add-p
-    add-hex-value
-    hex-value-requires
-    mul-words
-    add-words
-    mul-words-2
-    slice-write-words
-    add-hex-value-2
-    hex-value-requires-2
-    mul-words-3
-    add-words-2
-    mul-words-4
-    slice-write-words-2
-    add-k
-    loop-less
-    loop-again
-    same-length
-    returns)
+fill-spec = tie.close (tie.spec Inv-loop μ-loop loop-holds mul-p add-p add-hex-value hex-value-requires mul-words add-words mul-words-2 slice-write-words add-hex-value-2 hex-value-requires-2 mul-words-3 add-words-2 mul-words-4 slice-write-words-2 add-k loop-less loop-again same-length returns)

@@ -66,23 +66,4 @@ returns-6 : tie.Need-returns-6
 returns-6 c = pair-last (now (c .before .before .before .before .before .before .before .before .before .before .before .before .args .s)) (c .before .before .before .before .before .before .before .before .before .before .before .before .args .at) (c .before .before .before .before .before .before .before .before .before .if1 .left) (c .before .before .before .before .before .before .before .if2 .left) (sym (c .before .before .before .before .before .before .hex-ok .ensures) ∙ not-false _ (c .before .before .before .before .before .if3 .left)) (c .before .before .before .if4 .left) (sym (c .before .before .hex-ok2 .ensures) ∙ not-false _ (c .before .if5 .left))
 
 pub pair-ok-spec : {M : Type 1} → statement M
-pair-ok-spec =
-    tie.close
-    (tie.spec
-    shared-slice-read-if1
-    returns
-    add-if2
-    shared-slice-read-if2
-    returns-2
-    add-hex-ok
-    hex-ok-requires
-    returns-3
-    add-if4
-    shared-slice-read-if4
-    returns-4
-    add-hex-ok-2
-    hex-ok-requires-2
-    returns-5
-    add-result
-    shared-slice-read-result
-    returns-6)
+pair-ok-spec = tie.close (tie.spec shared-slice-read-if1 returns add-if2 shared-slice-read-if2 returns-2 add-hex-ok hex-ok-requires returns-3 add-if4 shared-slice-read-if4 returns-4 add-hex-ok-2 hex-ok-requires-2 returns-5 add-result shared-slice-read-result returns-6)

@@ -73,21 +73,4 @@ returns-6 : tie.Need-returns-6
 returns-6 c = refused (readOf (now (c .before .before .before .before .before .before .before .before .before .before .before .before .before .args .s))) (now (c .before .before .before .before .before .before .before .before .before .before .before .before .before .args .words)) (read-none (now (c .before .before .before .before .before .before .before .before .before .before .before .before .before .args .s)) (c .before .before .before .before .before .before .before .before .before .before .if1 .left) (no-shape (c .before .before .before .before .before .before .before)) (no-add (c .before .before .before .before)) (c .before .before .before .if4 .left) (sym (c .before .has-word3 .ensures) ∙ c .if5 .left))
 
 pub read-line-spec : {M : Type 1} → statement M
-read-line-spec =
-    tie.close
-    (tie.spec
-    returns
-    slice-aggregate-has-word
-    has-word-requires
-    shape-line-requires
-    returns-2
-    slice-aggregate-has-word-2
-    has-word-requires-2
-    add-line-requires
-    same-length
-    returns-3
-    returns-4
-    slice-aggregate-has-word-3
-    has-word-requires-3
-    returns-5
-    returns-6)
+read-line-spec = tie.close (tie.spec returns slice-aggregate-has-word has-word-requires shape-line-requires returns-2 slice-aggregate-has-word-2 has-word-requires-2 add-line-requires same-length returns-3 returns-4 slice-aggregate-has-word-3 has-word-requires-3 returns-5 returns-6)

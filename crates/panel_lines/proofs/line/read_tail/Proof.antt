@@ -43,16 +43,4 @@ unfolding tailAt
 returns-5 c = simp (lt-leb _ _ (c .before .before .before .before .before .if1 .left), eq-eqb _ 0 (c .before .before .before .before .if2 .left), sym (c .before .before .before .all-pairs .ensures) ∙ not-false _ (c .before .before .if3 .left), eq-eqb _ 41 (c .if4 .left))
 
 pub read-tail-spec : {M : Type 1} → statement M
-read-tail-spec =
-    tie.close
-    (tie.spec
-    returns
-    sub-rest
-    sub-rest-2
-    returns-2
-    all-pairs-requires
-    returns-3
-    sub-if4
-    shared-slice-read-if4
-    returns-4
-    returns-5)
+read-tail-spec = tie.close (tie.spec returns sub-rest sub-rest-2 returns-2 all-pairs-requires returns-3 sub-if4 shared-slice-read-if4 returns-4 returns-5)

@@ -68,24 +68,4 @@ unfolding shapeOf
 returns-6 c = simp (sym (c .before .before .before .before .before .before .before .before .before .before .before .before .before .before .before .before .field .ensures) ∙ c .before .before .before .before .before .before .before .before .before .before .before .before .before .before .a .given .1, sym (c .before .before .before .before .before .before .before .before .before .before .before .before .field2 .ensures) ∙ c .before .before .before .before .before .before .before .before .before .before .b .given .1, sym (c .before .before .before .before .before .before .before .before .field3 .ensures) ∙ c .before .before .before .before .before .before .c .given .1, sym (c .before .before .before .before .field4 .ensures) ∙ c .before .before .d .given .1, eq-eqb _ _ (c .if1 .left))
 
 pub shape-line-spec : {M : Type 1} → statement M
-shape-line-spec =
-    tie.close
-    (tie.spec
-    field-requires
-    enum-known-a
-    enum-told
-    returns
-    field-requires-2
-    enum-known-b
-    enum-told-2
-    returns-2
-    field-requires-3
-    enum-known-c
-    enum-told-3
-    returns-3
-    field-requires-4
-    enum-known-d
-    enum-told-4
-    returns-4
-    returns-5
-    returns-6)
+shape-line-spec = tie.close (tie.spec field-requires enum-known-a enum-told returns field-requires-2 enum-known-b enum-told-2 returns-2 field-requires-3 enum-known-c enum-told-3 returns-3 field-requires-4 enum-known-d enum-told-4 returns-4 returns-5 returns-6)

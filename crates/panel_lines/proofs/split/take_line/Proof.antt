@@ -51,19 +51,4 @@ returns-2 : tie.Need-returns-2 Inv-loop μ-loop
 returns-2 c = ((c .before .loop .inv .0 .0, (omega (arith, c .before .loop .inv .0, c .loop-test .left), (c .before .loop .inv .0 .1 .1, c .before .loop .inv .1 .0))), sym (step-end (now (c .before .before .before .before .args .chunk)) (take (c .before .loop .n) (c .before .loop .line)) (c .before .loop .i) (c .loop-test .left)) ∙ c .before .loop .inv .1 .1)
 
 pub take-line-spec : {M : Type 1} → statement M
-take-line-spec =
-    tie.close
-    (tie.spec
-    Inv-loop
-    μ-loop
-    loop-holds
-    shared-slice-read-b
-    add-t12
-    same-length
-    returns
-    keep-requires
-    add-i
-    loop-less
-    loop-again
-    same-length-2
-    returns-2)
+take-line-spec = tie.close (tie.spec Inv-loop μ-loop loop-holds shared-slice-read-b add-t12 same-length returns keep-requires add-i loop-less loop-again same-length-2 returns-2)

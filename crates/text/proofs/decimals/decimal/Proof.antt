@@ -40,14 +40,4 @@ unfolding decFrom
 returns-4 c = c .number .ensures ∙ rw (drop-cons (now (c .before .before .before .before .before .before .before .args .s)) (c .before .before .before .before .before .before .before .args .at) 0 (c .before .before .before .before .before .if1 .left), ne-eqb _ _ (c .before .before .before .if2 .left), sym (c .before .before .is-digit .ensures) ∙ not-false _ (c .before .if3 .left))
 
 pub decimal-spec : {M : Type 1} → statement M
-decimal-spec =
-    tie.close
-    (tie.spec
-    returns
-    shared-slice-read-b
-    add-t8
-    returns-2
-    is-digit-requires
-    returns-3
-    number-requires
-    returns-4)
+decimal-spec = tie.close (tie.spec returns shared-slice-read-b add-t8 returns-2 is-digit-requires returns-3 number-requires returns-4)

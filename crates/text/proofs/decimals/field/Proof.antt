@@ -40,15 +40,4 @@ unfolding fieldAt stopped
 returns-4 c = simp (sym (c .before .before .decimal .ensures) ∙ c .enum-told .given .1)
 
 pub field-spec : {M : Type 1} → statement M
-field-spec =
-    tie.close
-    (tie.spec
-    decimal-requires
-    enum-known-n
-    returns
-    shared-slice-read-if2
-    add-t12
-    returns-2
-    enum-told
-    returns-3
-    returns-4)
+field-spec = tie.close (tie.spec decimal-requires enum-known-n returns shared-slice-read-if2 add-t12 returns-2 enum-told returns-3 returns-4)

@@ -67,22 +67,4 @@ returns-3 : tie.Need-returns-3 Inv-loop μ-loop
 returns-3 c = sym (num-end _ _ _ (c .loop-test .left)) ∙ c .before .loop .inv
 
 pub number-spec : {M : Type 1} → statement M
-number-spec =
-    tie.close
-    (tie.spec
-    Inv-loop
-    μ-loop
-    loop-holds
-    shared-slice-read-b
-    is-digit-requires
-    returns
-    wide-requires
-    sub-d
-    sub-if2
-    returns-2
-    mul-v
-    add-v
-    add-i
-    loop-less
-    loop-again
-    returns-3)
+number-spec = tie.close (tie.spec Inv-loop μ-loop loop-holds shared-slice-read-b is-digit-requires returns wide-requires sub-d sub-if2 returns-2 mul-v add-v add-i loop-less loop-again returns-3)

@@ -28,6 +28,4 @@ unfolding hexGlyph
 returns-2 c = c .low-byte2 .ensures ∙ rw (le-ltb _ 10 (c .before .if1 .left))
 
 pub hex-glyph-spec : {M : Type 1} → statement M
-hex-glyph-spec =
-    tie.close
-    (tie.spec add-low-byte low-byte-requires returns add-low-byte-2 low-byte-requires-2 returns-2)
+hex-glyph-spec = tie.close (tie.spec add-low-byte low-byte-requires returns add-low-byte-2 low-byte-requires-2 returns-2)

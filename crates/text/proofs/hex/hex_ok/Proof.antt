@@ -64,20 +64,4 @@ unfolding hexOk
 returns-4 c = let e : c .before .loop .k ≡ 16 = omega arith in rw e at (c .before .loop .inv .1 .1)
 
 pub hex-ok-spec : {M : Type 1} → statement M
-hex-ok-spec =
-    tie.close
-    (tie.spec
-    Inv-loop
-    μ-loop
-    returns
-    sub-if2
-    returns-2
-    loop-holds
-    add-is-hex
-    shared-slice-read-is-hex
-    is-hex-requires
-    returns-3
-    add-k
-    loop-less
-    loop-again
-    returns-4)
+hex-ok-spec = tie.close (tie.spec Inv-loop μ-loop returns sub-if2 returns-2 loop-holds add-is-hex shared-slice-read-is-hex is-hex-requires returns-3 add-k loop-less loop-again returns-4)

@@ -70,18 +70,4 @@ unfolding hexFrom
 returns c = let e : c .before .loop .k ≡ 16 = omega arith in rw e at (c .before .loop .inv .1 .1)
 
 pub hex-value-spec : {M : Type 1} → statement M
-hex-value-spec =
-    tie.close
-    (tie.spec
-    Inv-loop
-    μ-loop
-    loop-holds
-    mul-v
-    add-nibble
-    shared-slice-read-nibble
-    nibble-requires
-    add-v
-    add-k
-    loop-less
-    loop-again
-    returns)
+hex-value-spec = tie.close (tie.spec Inv-loop μ-loop loop-holds mul-v add-nibble shared-slice-read-nibble nibble-requires add-v add-k loop-less loop-again returns)

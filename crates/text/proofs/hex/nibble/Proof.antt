@@ -40,15 +40,4 @@ unfolding nibbleOf
 returns-5 c = (simp (le-ltb _ _ (c .before .before .before .if1 .left), lt-leb _ _ (c .before .before .if2 .left), le-ltb _ _ (c .before .if3 .left), lt-leb _ _ (c .if4 .left)), omega arith)
 
 pub nibble-spec : {M : Type 1} → statement M
-nibble-spec =
-    tie.close
-    (tie.spec
-    returns
-    wide-requires
-    sub-result
-    returns-2
-    returns-3
-    wide-requires-2
-    sub-result-2
-    returns-4
-    returns-5)
+nibble-spec = tie.close (tie.spec returns wide-requires sub-result returns-2 returns-3 wide-requires-2 sub-result-2 returns-4 returns-5)

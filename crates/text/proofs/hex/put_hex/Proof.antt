@@ -55,20 +55,4 @@ returns : tie.Need-returns Inv-loop μ-loop
 returns c = let e : c .before .loop .k ≡ 0 = omega arith in let f : sets (c .before .loop .out) (c .before .loop .i) (hexDigits 0 (c .before .before .before .args .n)) ≡ sets (now (c .before .before .before .args .out)) (c .before .before .before .args .at) (hexDigits 16 (c .before .before .before .args .n)) = rw e at (c .before .loop .inv .1 .1 .1) in (omega (arith, c .before .loop .inv .1 .1 .0), rw (hex-end (c .before .before .before .args .n)) at f)
 
 pub put-hex-spec : {M : Type 1} → statement M
-put-hex-spec =
-    tie.close
-    (tie.spec
-    Inv-loop
-    μ-loop
-    loop-holds
-    sub-k
-    mul-hex-glyph
-    cast-hex-glyph
-    shr-hex-glyph
-    hex-glyph-requires
-    slice-write-out
-    add-i
-    loop-less
-    loop-again
-    same-length
-    returns)
+put-hex-spec = tie.close (tie.spec Inv-loop μ-loop loop-holds sub-k mul-hex-glyph cast-hex-glyph shr-hex-glyph hex-glyph-requires slice-write-out add-i loop-less loop-again same-length returns)

@@ -38,14 +38,4 @@ unfolding negated
 returns-4 c = simp (c .enum-told .given .1)
 
 pub negative-spec : {M : Type 1} → statement M
-negative-spec =
-    tie.close
-    (tie.spec
-    enum-known-n
-    returns
-    returns-2
-    sub-below-zero
-    below-zero-requires
-    enum-told
-    returns-3
-    returns-4)
+negative-spec = tie.close (tie.spec enum-known-n returns returns-2 sub-below-zero below-zero-requires enum-told returns-3 returns-4)

@@ -30,5 +30,4 @@ unfolding plain
 returns-3 c = simp (c .enum-told .given .1)
 
 pub not-negative-spec : {M : Type 1} → statement M
-not-negative-spec =
-    tie.close (tie.spec enum-known-n returns as-signed-requires enum-told returns-2 returns-3)
+not-negative-spec = tie.close (tie.spec enum-known-n returns as-signed-requires enum-told returns-2 returns-3)

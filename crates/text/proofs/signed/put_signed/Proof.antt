@@ -56,15 +56,4 @@ returns-2 : tie.Need-returns-2
 returns-2 c = let e = plus (c .before .before .before .before) in (rw e (c .before .before .put-decimal2 .ensures .0), c .before .before .put-decimal2 .ensures .1 ∙ rw e)
 
 pub put-signed-spec : {M : Type 1} → statement M
-put-signed-spec =
-    tie.close
-    (tie.spec
-    magnitude-requires
-    slice-write-out
-    add-put-decimal
-    put-decimal-requires
-    same-length
-    returns
-    put-decimal-requires-2
-    same-length-2
-    returns-2)
+put-signed-spec = tie.close (tie.spec magnitude-requires slice-write-out add-put-decimal put-decimal-requires same-length returns put-decimal-requires-2 same-length-2 returns-2)

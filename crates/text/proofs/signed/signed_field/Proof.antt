@@ -38,15 +38,4 @@ unfolding intAt
 returns-3 c = c .not-negative .ensures ∙ simp (lt-leb _ _ (c .before .before .before .before .if1 .left), ne-eqb _ _ (c .before .before .if2 .left), c .before .field2 .ensures)
 
 pub signed-field-spec : {M : Type 1} → statement M
-signed-field-spec =
-    tie.close
-    (tie.spec
-    returns
-    shared-slice-read-if2
-    add-field
-    field-requires
-    negative-requires
-    returns-2
-    field-requires-2
-    not-negative-requires
-    returns-3)
+signed-field-spec = tie.close (tie.spec returns shared-slice-read-if2 add-field field-requires negative-requires returns-2 field-requires-2 not-negative-requires returns-3)

@@ -56,18 +56,4 @@ returns-3 : tie.Need-returns-3 Inv-loop μ-loop
 returns-3 c = sym (prefix-end (now (c .before .before .args .word)) (now (c .before .before .args .s)) (c .before .loop .i) (c .before .loop .p) (c .loop-test .left)) ∙ c .before .loop .inv
 
 pub has-word-spec : {M : Type 1} → statement M
-has-word-spec =
-    tie.close
-    (tie.spec
-    Inv-loop
-    μ-loop
-    loop-holds
-    returns
-    shared-slice-read-if2
-    shared-slice-read-if2-2
-    returns-2
-    add-p
-    add-i
-    loop-less
-    loop-again
-    returns-3)
+has-word-spec = tie.close (tie.spec Inv-loop μ-loop loop-holds returns shared-slice-read-if2 shared-slice-read-if2-2 returns-2 add-p add-i loop-less loop-again returns-3)

@@ -49,18 +49,4 @@ returns : tie.Need-returns Inv-loop μ-loop
 returns c = let e : drop (c .before .loop .i) (now (c .before .before .args .word)) ≡ [] = drop-of-length-le _ (c .loop-test .left) in (omega arith, rw e at (c .before .loop .inv .1 .1))
 
 pub put-word-spec : {M : Type 1} → statement M
-put-word-spec =
-    tie.close
-    (tie.spec
-    Inv-loop
-    μ-loop
-    loop-holds
-    shared-slice-read-out
-    add-out
-    slice-write-out
-    add-i
-    loop-less
-    loop-again
-    add-result
-    same-length
-    returns)
+put-word-spec = tie.close (tie.spec Inv-loop μ-loop loop-holds shared-slice-read-out add-out slice-write-out add-i loop-less loop-again add-result same-length returns)
