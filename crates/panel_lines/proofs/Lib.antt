@@ -1,0 +1,10 @@
+pub mod Cases
+pub mod Tails
+pub mod Texts
+pub mod Bytes
+pub mod Pairs
+pub mod Asks
+pub mod Readable
+pub mod Chunks
+pub mod Figures
+pub mod Records

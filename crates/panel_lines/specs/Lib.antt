@@ -1,0 +1,4 @@
+pub mod Line
+pub mod Ask
+pub mod Answers
+pub mod Split

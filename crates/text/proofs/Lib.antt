@@ -1,0 +1,9 @@
+pub mod Walks
+pub mod Puts
+pub mod Spots
+pub mod DecTexts
+pub mod DecReads
+pub mod DecSound
+pub mod IntTexts
+pub mod IntReads
+pub mod HexTexts

@@ -1,0 +1,5 @@
+pub mod Letters
+pub mod Words
+pub mod Decimals
+pub mod Signs
+pub mod Hex
