@@ -103,6 +103,11 @@ def sources(crate):
     return h.hexdigest()[:12]
 
 
+def joined(text):
+    """an import that the layout broke over several lines, on one"""
+    return re.sub(r"^(use \S+\.\{)\n((?:  .*\n)+)\}$", lambda m: m.group(1) + m.group(2).replace("\n", "").replace("  ", " ").strip().rstrip(",") + "}", text, flags=re.M)
+
+
 def skeletons(output):
     """the files that the check prints under `help: write ..`"""
     lines, i, found = output.split("\n"), 0, {}
@@ -115,7 +120,7 @@ def skeletons(output):
         while i < len(lines) and (lines[i].startswith("    ") or lines[i] == ""):
             block.append(lines[i][4:])
             i += 1
-        found[m.group(1)] = "\n".join(block).rstrip() + "\n"
+        found[m.group(1)] = joined("\n".join(block).rstrip() + "\n")
     return found
 
 

@@ -8,7 +8,7 @@ use lib.IntN.{ℤ, natAbs, _+ℤ_}
 use Rattle.words.specs.Num.{top, squareCap, capped}
 use Rattle.matrix_storage.specs.Bits.{Shaped, maxRows, maxCols}
 use Rattle.countsketch_l2_norm.specs.Norms.{normAt}
-use Rattle.countsketch_l2_norm.specs.Sketch.{sketchOf, cellAt, rowsRead, rowsFit}
+use Rattle.countsketch_l2_norm.specs.Sketch.{sketchOf, cellAt, cellRead, cellFits, rowsRead, rowsFit}
 
 pub record Ready (rows cols h w : ℕ) (xs : List ℤ) (ws : List ℕ) : Type 0 where
   pub shaped : Shaped rows cols
@@ -28,3 +28,18 @@ pub record CellReady (at r : ℕ) (d : ℤ) (xs : List ℤ) (ws : List ℕ) : Ty
   pub sumIn : natAbs (cellAt xs at +ℤ d) ≤ top
   pub holds : capped (cellAt xs at) ≤ normAt ws r
   pub normIn : normAt ws r ≤ maxCols * squareCap
+
+-- a row and a column within the counters
+pub record Placed (rows cols row col : ℕ) (xs : List ℤ) : Type 0 where
+  pub shaped : Shaped rows cols
+  pub room : rows * cols ≤ length xs
+  pub below : row < rows
+  pub inside : col < cols
+
+-- of a delta there
+pub record DeltaReady (rows cols row col : ℕ) (d : ℤ) (xs : List ℤ) (ws : List ℕ) : Type 0 where
+  pub placed : Placed rows cols row col xs
+  pub pairs : 2 * rows ≤ length ws
+  pub small : natAbs d ≤ top
+  pub read : cellRead cols (row * cols + col) row (sketchOf xs ws rows) ≡ true
+  pub fit : cellFits (row * cols + col) d xs ≡ true

@@ -67,7 +67,7 @@ pub fn norm_to_f64(n: u64) -> f64
 }
 
 // A norm of two words, clamped to 2^63 - 1.
-fn norm_clamped(lo: u64, hi: u64) -> u64
+pub fn norm_clamped(lo: u64, hi: u64) -> u64
     ensures { λ r. ⌜ r ≡ min (lo + 18446744073709551616 * hi) normTop ⌝ }
 {
     if 0 < hi {

@@ -1,0 +1,151 @@
+// An update of every row with a hash and a weight, what it reads, and whether it fits.
+ghost use mathlib.Core.Path.{_≡_};
+ghost use mathlib.Core.Bool.{true, _&&_};
+ghost use Prim.Native.Nat.{ℕ, _*_, _<_, _≤_};
+ghost use lib.ListN.{length};
+ghost use lib.IntN.{ℤ, pos, natAbs, _+ℤ_};
+ghost use Rattle.words.specs.Num.{top, inRange};
+ghost use Rattle.words.specs.Wide.{valueOf};
+ghost use Rattle.matrix_storage.specs.Bits.{maxRows, maxCols, maskBits, signed, hashOf, Shaped};
+ghost use Rattle.countsketch_l2_norm.specs.Sketch.{sketchOf, cellOf, addRows, rowRead, rowsRead, rowsFit, rowsReady};
+ghost use Rattle.countsketch_l2_norm.specs.Estimate.{cellsIn};
+ghost use Rattle.countsketch_l2_norm.specs.Needs.{Ready};
+use crate::cells::add_cell;
+use crate::cells::index_of;
+use crate::cells::norm_of;
+use crate::cells::row_read;
+use words::Wide;
+
+// The index of the counter that a hash names in a row, with `bits` the mask bits of `cols`.
+pub fn place(high: u64, low: u64, bits: usize, cols: usize, r: usize) -> usize
+    requires { ⌜ (1 ≤ cols) × ((cols ≤ maxCols) × (bits ≡ maskBits cols)) ⌝ }
+    requires { ⌜ (r < maxRows) × (r * maskBits cols < 128) ⌝ }
+    ensures { λ p. ⌜ p ≡ cellOf cols (hashOf high low) r ⌝ }
+{
+    let col = matrix_storage::column_at(high, low, bits, cols, r);
+    index_of(cols, r, col)
+}
+
+// A weight with the sign of a row.
+fn delta_at(high: u64, low: u64, r: usize, weight: u64) -> i64
+    requires { ⌜ (r < maxRows) × (weight ≤ top) ⌝ }
+    ensures { λ d. ⌜ d ≡ signed (hashOf high low) r (pos weight) ⌝ }
+{
+    matrix_storage::signed_at(high, low, r, weight as i64)
+}
+
+// Adds a weight, with the row's sign, to a hash's counter in each row.
+pub fn update_weighted_with_hash(
+    counters: &mut [i64],
+    norms: &mut [u64],
+    rows: usize,
+    cols: usize,
+    high: u64,
+    low: u64,
+    weight: u64,
+)
+    requires { ⌜ Ready rows cols (hashOf high low) weight (now counters) (now norms) ⌝ }
+    ensures { λ _. ⌜ sketchOf (now (counters .exit)) (now (norms .exit)) rows
+        ≡ addRows cols (hashOf high low) weight rows 0 (sketchOf (now (counters .entry)) (now (norms .entry)) rows) ⌝ }
+{
+    let bits = matrix_storage::mask_bits(cols);
+    let mut r = 0;
+    while r < rows {
+        let at = place(high, low, bits, cols, r);
+        let delta = delta_at(high, low, r, weight);
+        add_cell(counters, norms, at, r, delta);
+        r += 1;
+    }
+}
+
+// Whether all that an update reads is in range.
+pub fn rows_read(
+    counters: &[i64],
+    norms: &[u64],
+    rows: usize,
+    cols: usize,
+    high: u64,
+    low: u64,
+) -> bool
+    requires { ⌜ Shaped rows cols ⌝ }
+    requires { ⌜ (rows * cols ≤ length (now counters)) × (2 * rows ≤ length (now norms)) ⌝ }
+    ensures { λ b. ⌜ b ≡ rowsRead cols (hashOf high low) (sketchOf (now (counters .entry)) (now (norms .entry)) rows) rows 0 ⌝ }
+{
+    let bits = matrix_storage::mask_bits(cols);
+    let mut r = 0;
+    while r < rows {
+        let at = place(high, low, bits, cols, r);
+        if !row_read(counters[at], norm_of(norms, r), cols) {
+            return false;
+        }
+        r += 1;
+    }
+    true
+}
+
+// Whether no counter would leave the range, of counters that are in range.
+pub fn rows_fit(
+    counters: &[i64],
+    rows: usize,
+    cols: usize,
+    high: u64,
+    low: u64,
+    weight: u64,
+) -> bool
+    requires { ⌜ Shaped rows cols ⌝ }
+    requires { ⌜ (rows * cols ≤ length (now counters)) × (weight ≤ top) ⌝ }
+    requires { ⌜ cellsIn cols (hashOf high low) (now counters) rows 0 ≡ true ⌝ }
+    ensures { λ b. ⌜ b ≡ rowsFit cols (hashOf high low) weight (now (counters .entry)) rows 0 ⌝ }
+{
+    let bits = matrix_storage::mask_bits(cols);
+    let mut r = 0;
+    while r < rows {
+        let at = place(high, low, bits, cols, r);
+        let delta = delta_at(high, low, r, weight);
+        let sum = counters[at] + delta;
+        if !words::in_range(sum) {
+            return false;
+        }
+        r += 1;
+    }
+    true
+}
+
+// Whether a row may take a number: what is read is in range, and so is the new counter.
+fn row_ready(x: i64, w: Wide, cols: usize, delta: i64) -> bool
+    requires { ⌜ natAbs delta ≤ top ⌝ }
+    ensures { λ b. ⌜ b ≡ rowRead x (valueOf w) cols && inRange (x +ℤ delta) ⌝ }
+{
+    if !row_read(x, w, cols) {
+        return false;
+    }
+    words::in_range(x + delta)
+}
+
+// Whether an update may be made: both questions in one pass, where it does not matter which of them
+// fails.
+pub fn rows_ready(
+    counters: &[i64],
+    norms: &[u64],
+    rows: usize,
+    cols: usize,
+    high: u64,
+    low: u64,
+    weight: u64,
+) -> bool
+    requires { ⌜ Shaped rows cols ⌝ }
+    requires { ⌜ (rows * cols ≤ length (now counters)) × ((2 * rows ≤ length (now norms)) × (weight ≤ top)) ⌝ }
+    ensures { λ b. ⌜ b ≡ rowsReady cols (hashOf high low) weight (sketchOf (now (counters .entry)) (now (norms .entry)) rows) rows 0 ⌝ }
+{
+    let bits = matrix_storage::mask_bits(cols);
+    let mut r = 0;
+    while r < rows {
+        let at = place(high, low, bits, cols, r);
+        let delta = delta_at(high, low, r, weight);
+        if !row_ready(counters[at], norm_of(norms, r), cols, delta) {
+            return false;
+        }
+        r += 1;
+    }
+    true
+}

@@ -1,0 +1,315 @@
+// Runs stored calls on one layer's Count Sketch and prints what they answer: `stdout` holds the
+// oracle's answers. A line of `stdin` is an operation, the number of its words, and the words.
+ghost use mathlib.Core.Path.{_≡_};
+ghost use mathlib.Core.Bool.{true};
+ghost use Prim.Native.Nat.{_*_, _≤_};
+ghost use Rattle.matrix_storage.specs.Bits.{Shaped};
+
+// The greatest layer that is run: 9 rows of 4,096.
+const CELLS: usize = 36864;
+
+// A refusal is printed as its number in the top byte.
+fn refused(n: u64) {
+    if n < 256 {
+        vectors::print(n * 0x100_0000_0000_0000);
+    }
+}
+
+// Whether slices of these lengths hold a layer of these rows and columns.
+fn held(rows: usize, cols: usize, cells: usize, words: usize) -> bool
+    ensures { λ b. ⌜ b ≡ true → Shaped rows cols × ((rows * cols ≤ cells) × (2 * rows ≤ words)) ⌝ }
+{
+    if matrix_storage::check_hash_bits(rows, cols) != 0 {
+        return false;
+    }
+    if cells < rows * cols {
+        return false;
+    }
+    2 * rows <= words
+}
+
+// 1: a fresh layer.
+fn clear(counters: &mut [i64]) {
+    let mut i = 0;
+    while i < counters.len() {
+        counters[i] = 0;
+        i += 1;
+    }
+}
+
+fn clear_norms(norms: &mut [u64]) {
+    let mut i = 0;
+    while i < norms.len() {
+        norms[i] = 0;
+        i += 1;
+    }
+}
+
+// 4: the estimate of a hash's count, as a float and cut.
+fn estimate(counters: &[i64], rows: usize, cols: usize, high: u64, low: u64) {
+    if !held(rows, cols, counters.len(), 40) {
+        return;
+    }
+    if !countsketch_l2_norm::cells_in(counters, rows, cols, high, low) {
+        refused(9);
+        return;
+    }
+    let x = countsketch_l2_norm::estimate_with_hash(counters, rows, cols, high, low);
+    vectors::print(float64::to_bits(x));
+    let n = countsketch_l2_norm::count_with_hash(counters, rows, cols, high, low);
+    vectors::print(vectors::unsigned(n));
+}
+
+// 2: an update, and the estimate after it. The one question that holds both is asked first, as a
+// caller in a hurry does.
+fn add(
+    counters: &mut [i64],
+    norms: &mut [u64],
+    rows: usize,
+    cols: usize,
+    high: u64,
+    low: u64,
+    weight: u64,
+) {
+    if !held(rows, cols, counters.len(), norms.len()) {
+        return;
+    }
+    if 4503599627370496 < weight {
+        refused(7);
+        return;
+    }
+    if countsketch_l2_norm::rows_ready(&*counters, &*norms, rows, cols, high, low, weight) {
+        countsketch_l2_norm::update_weighted_with_hash(
+            counters, norms, rows, cols, high, low, weight,
+        );
+        estimate(&*counters, rows, cols, high, low);
+        return;
+    }
+    if !countsketch_l2_norm::rows_read(&*counters, &*norms, rows, cols, high, low) {
+        refused(9);
+        return;
+    }
+    if !countsketch_l2_norm::rows_fit(&*counters, rows, cols, high, low, weight) {
+        refused(11);
+    }
+}
+
+// 3: a delta.
+fn delta(
+    counters: &mut [i64],
+    norms: &mut [u64],
+    rows: usize,
+    cols: usize,
+    row: usize,
+    col: usize,
+    count: i64,
+) {
+    if !held(rows, cols, counters.len(), norms.len()) {
+        return;
+    }
+    if rows <= row {
+        refused(8);
+        return;
+    }
+    if cols <= col {
+        refused(8);
+        return;
+    }
+    if !words::in_range(count) {
+        return;
+    }
+    if !countsketch_l2_norm::cell_read(&*counters, &*norms, rows, cols, row, col) {
+        refused(9);
+        return;
+    }
+    if !countsketch_l2_norm::cell_fits(&*counters, rows, cols, row, col, count) {
+        refused(11);
+        return;
+    }
+    countsketch_l2_norm::apply_delta(counters, norms, rows, cols, row, col, count);
+}
+
+// 5: L2 squared and L2.
+fn l2(norms: &[u64], rows: usize, cols: usize) {
+    if !held(rows, cols, CELLS, norms.len()) {
+        return;
+    }
+    if !countsketch_l2_norm::norms_in(norms, rows, cols) {
+        refused(9);
+        return;
+    }
+    vectors::print(float64::to_bits(countsketch_l2_norm::l2_squared(
+        norms, rows,
+    )));
+    vectors::print(float64::to_bits(countsketch_l2_norm::l2(norms, rows)));
+}
+
+// A digest of the first n counters: the polynomial of their words at 65,599, modulo the greatest
+// prime below 2^32.
+fn digest(counters: &[i64], n: usize) -> u64 {
+    let mut d: u64 = 0;
+    let mut i = 0;
+    while i < n {
+        if counters.len() <= i {
+            return d;
+        }
+        d = (d * 65599 + vectors::unsigned(counters[i]) % 4294967291) % 4294967291;
+        i += 1;
+    }
+    d
+}
+
+// 6: the state: a digest of the counters, and each row's norm, low word and high word.
+fn state(counters: &[i64], norms: &[u64], rows: usize, cols: usize) {
+    if !held(rows, cols, counters.len(), norms.len()) {
+        return;
+    }
+    let n = rows * cols;
+    vectors::print(digest(counters, n));
+    let mut i = 0;
+    while i < 2 * rows {
+        vectors::print(norms[i]);
+        i += 1;
+    }
+}
+
+// 7: the counters are set aside, to be merged later.
+fn keep(counters: &[i64], other: &mut [i64]) {
+    let mut i = 0;
+    while i < other.len() {
+        if i < counters.len() {
+            let x = counters[i];
+            other[i] = x;
+        }
+        i += 1;
+    }
+}
+
+// 8: the counters that were set aside come in.
+fn merge(counters: &mut [i64], norms: &mut [u64], other: &[i64], rows: usize, cols: usize) {
+    if !held(rows, cols, counters.len(), norms.len()) {
+        return;
+    }
+    if counters.len() != other.len() {
+        return;
+    }
+    if !countsketch_l2_norm::all_in(&*counters) {
+        refused(9);
+        return;
+    }
+    if !countsketch_l2_norm::all_in(other) {
+        refused(9);
+        return;
+    }
+    if !countsketch_l2_norm::sums_fit(&*counters, other) {
+        refused(11);
+        return;
+    }
+    countsketch_l2_norm::merge(counters, norms, other, rows, cols);
+}
+
+// 9 and 10: a counter or a word of the norms is set, to meet the refusals of what is read.
+fn set_cell(counters: &mut [i64], i: usize, x: i64) {
+    if i < counters.len() {
+        counters[i] = x;
+    }
+}
+
+fn set_word(norms: &mut [u64], i: usize, x: u64) {
+    if i < norms.len() {
+        norms[i] = x;
+    }
+}
+
+fn run(
+    op: u64,
+    text: &[u8],
+    counters: &mut [i64],
+    norms: &mut [u64],
+    other: &mut [i64],
+    rows: usize,
+    cols: usize,
+) {
+    let a = vectors::word(text, 0);
+    let b = vectors::word(text, 1);
+    let c = vectors::word(text, 2);
+    if op == 1 {
+        clear(counters);
+        clear_norms(norms);
+        return;
+    }
+    if op == 2 {
+        add(counters, norms, rows, cols, a, b, c);
+        return;
+    }
+    if op == 3 {
+        delta(
+            counters,
+            norms,
+            rows,
+            cols,
+            a as usize,
+            b as usize,
+            vectors::signed(c),
+        );
+        return;
+    }
+    if op == 4 {
+        estimate(&*counters, rows, cols, a, b);
+        return;
+    }
+    if op == 5 {
+        l2(&*norms, rows, cols);
+        return;
+    }
+    if op == 6 {
+        state(&*counters, &*norms, rows, cols);
+        return;
+    }
+    if op == 7 {
+        keep(&*counters, other);
+        return;
+    }
+    if op == 8 {
+        merge(counters, norms, &*other, rows, cols);
+        return;
+    }
+    if op == 9 {
+        set_cell(counters, a as usize, vectors::signed(b));
+        return;
+    }
+    if op == 10 {
+        set_word(norms, a as usize, b);
+    }
+}
+
+fn serve(counters: &mut [i64], norms: &mut [u64], other: &mut [i64]) {
+    let mut rows = 0;
+    let mut cols = 0;
+    let mut turns: u64 = 1000000;
+    while 0 < turns {
+        let mut head = [0u8; 34];
+        if !vectors::read(&mut head, 2) {
+            return;
+        }
+        let op = vectors::word(&head, 0);
+        let many = vectors::word(&head, 1) as usize;
+        let mut text = [0u8; 51];
+        if !vectors::read(&mut text, many) {
+            return;
+        }
+        if op == 1 {
+            rows = vectors::word(&text, 0) as usize;
+            cols = vectors::word(&text, 1) as usize;
+        }
+        run(op, &text, counters, norms, other, rows, cols);
+        turns -= 1;
+    }
+}
+
+fn main() {
+    let mut counters = [0i64; CELLS];
+    let mut norms = [0u64; 40];
+    let mut other = [0i64; CELLS];
+    serve(&mut counters, &mut norms, &mut other);
+}
