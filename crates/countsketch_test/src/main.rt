@@ -80,7 +80,13 @@ fn add(
     }
     if countsketch_l2_norm::rows_ready(&*counters, &*norms, rows, cols, high, low, weight) {
         countsketch_l2_norm::update_weighted_with_hash(
-            counters, norms, rows, cols, high, low, weight,
+            counters,
+            norms,
+            rows,
+            cols,
+            high,
+            low,
+            weight,
         );
         estimate(&*counters, rows, cols, high, low);
         return;
@@ -138,9 +144,7 @@ fn l2(norms: &[u64], rows: usize, cols: usize) {
         refused(9);
         return;
     }
-    vectors::print(float64::to_bits(countsketch_l2_norm::l2_squared(
-        norms, rows,
-    )));
+    vectors::print(float64::to_bits(countsketch_l2_norm::l2_squared(norms, rows)));
     vectors::print(float64::to_bits(countsketch_l2_norm::l2(norms, rows)));
 }
 

@@ -1,2 +1,3 @@
 pub mod Norms
 pub mod Sums
+pub mod Anew

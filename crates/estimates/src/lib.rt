@@ -1,1 +1,2 @@
 // What a state answers: norms, sums over candidates, cardinality.
+mod anew;

@@ -7,14 +7,9 @@ use native.Mathlib.Nat.{sub-zero}
 use native.Mathlib.Numerals.{add-one}
 use lib.ListN.{length}
 use lib.Ieee.{Float}
-use Rattle.sums.specs.Entries.{Entry, Space, space, at, view}
+use Rattle.sums.specs.Entries.{Entry, Space, space, at, view, listed}
 use Rattle.sums.specs.Terms.{nought, addTerm, sumOver}
 use Rattle.sums.specs.declared.Rule.{Rule}
-
--- n entries from place i on, by what stands at each place
-unfoldable pub listed : (ℕ → Entry) → ℕ → ℕ → List Entry
-listed f i zero = []
-listed f i (suc n) = f i ∷ listed f (suc i) n
 
 pub view-listed : (s : Space) (i n : ℕ) → view s i n ≡ listed (at s) i n
 unfolding view listed
