@@ -1,3 +1,4 @@
 pub mod Bottoms
 pub mod Refusals
 pub mod Steps
+pub mod Ranges

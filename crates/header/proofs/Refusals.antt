@@ -8,6 +8,7 @@ use lib.Dec.{eqb, ltb}
 use Rattle.matrix_storage.specs.Bits.{maxRows, maxCols, hashBits, maskBits, Shaped}
 use Rattle.matrix_storage.specs.Calls.{bitsRefusal}
 use Rattle.header.specs.Shape.{maxLayers, maxHeap, shapeRefusal}
+use Rattle.header.specs.Accepted.{Accepted}
 use Rattle.header.specs.declared.Shape.{Shape}
 
 -- what is left of the tests once no dimension is 0 and the layers are few
@@ -25,14 +26,6 @@ shape-rest sh p q r s t =
     go false false true d = refl
     go false false false true = refl
     go false false false false = refl
-
--- a shape that is not refused
-pub record Accepted (sh : Shape) : Type 0 where
-  pub shaped : Shaped (sh .rows) (sh .cols)
-  pub some : 1 ≤ sh .layers
-  pub few : sh .layers ≤ maxLayers
-  pub seats : 1 ≤ sh .«heap_size»
-  pub small : sh .«heap_size» ≤ maxHeap
 
 pub accepted-of : (sh : Shape) → shapeRefusal sh ≡ 0 → Accepted sh
 unfolding shapeRefusal

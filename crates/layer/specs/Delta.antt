@@ -17,6 +17,9 @@ pub record Delta : Type 0 where
   pub who : Who
   pub every : Bool
 
+abbrev pub delta : ℕ → ℕ → ℤ → Who → Bool → Delta
+delta row col n who every = record { row = row; col = col; count = n; who = who; every = every }
+
 abbrev pub placeBy : Dims → Delta → ℕ
 placeBy d u = u .row * d .cols + u .col
 

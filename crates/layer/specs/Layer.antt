@@ -30,6 +30,9 @@ pub record Item : Type 0 where
   pub who : Who
   pub weight : ℕ
 
+abbrev pub item : Who → ℕ → Item
+item who w = record { who = who; weight = w }
+
 -- the 128-bit hash of an entry
 abbrev pub hashBy : Who → ℕ
 hashBy w = hashOf (w .high) (w .low)

@@ -1,3 +1,4 @@
 pub mod Layer
 pub mod Delta
 pub mod Merge
+pub mod Needs

@@ -1,5 +1,17 @@
 // One layer whole: counters, norms and candidates in four slices, for any rows, columns and heap
 // size.
+//
+// These functions are called by the other crates of this repository, which show what they require:
+// those that answer yes or no judge, those that store do not judge again.
+mod adding;
+mod deltas;
+
+pub use adding::add;
+pub use adding::add_reads;
+pub use adding::add_ready;
+pub use deltas::apply_delta;
+pub use deltas::delta_fits;
+pub use deltas::delta_reads;
 
 // Rows, columns and heap size of a layer.
 pub struct Dims {

@@ -5,3 +5,5 @@ pub mod Deltas
 pub mod Merges
 pub mod Slices
 pub mod Calls
+pub mod Needs
+pub mod Spans

@@ -1,4 +1,8 @@
-// UnivMon: the calls that change a state.
+// UnivMon: the calls that change a state. A state is a `Header` by value and four slices that the
+// caller lends: counters, norms, entries and counts.
+pub mod fresh;
+pub mod marks;
+pub mod sizes;
 
 // How an update sends its key to layers.
 pub enum Kind {

@@ -1,0 +1,62 @@
+-- What the stores and the offer leave of a layer is the layer of the definition. Assumes nothing.
+use mathlib.Core.Path.{_≡_, refl, sym, ap, ap₂, _∙_}
+use mathlib.Core.Bool.{Bool, true, false, _&&_}
+use mathlib.Core.List.{List}
+use Prim.Native.Nat.{ℕ, _+_, _*_, _≤_}
+use native.Mathlib.Omega.{arith}
+use lib.ListN.{length}
+use lib.IntN.{ℤ}
+use Rattle.countsketch_l2_norm.specs.Sketch.{Sketch, sketchOf, addCell, addRows}
+use Rattle.countsketch_l2_norm.specs.Estimate.{estimateOf}
+use Rattle.heap_moves.specs.declared.Who.{Who}
+use Rattle.heap_moves.specs.Flat.{candOf, entriesOf, countsOf}
+use Rattle.heap.specs.declared.Answer.{Answer}
+use Rattle.heap.specs.Offer.{Table, Offered, offer, keptBy, lenBy, kept}
+use Rattle.heap.specs.Slices.{tableOf, offered}
+use Rattle.heap.proofs.Sounds.{offer-table}
+use Rattle.layer.specs.declared.Dims.{Dims}
+use Rattle.layer.specs.Layer.{Layer, layerOf, item, hashBy, countOf, offerTo, addSketch, addLayer}
+use Rattle.layer.specs.Delta.{delta, deltaLayer}
+
+-- a sketch, and the offer of a key with its count from the new counters
+module _ (d : Dims) (who : Who) (s : Sketch) (es : List ℕ) (ns : List ℤ) (len : ℕ) (xs′ : List ℤ) (ws′ es′ : List ℕ) (ns′ : List ℤ) (a : Answer) (v : ℤ)
+    (sketch : sketchOf xs′ ws′ (d .rows) ≡ s) (count : v ≡ estimateOf (d .rows) (d .cols) (hashBy who) xs′)
+    (words : es′ ≡ entriesOf (offered es ns (d .size) len who v .table .cands)) (counts : ns′ ≡ countsOf (offered es ns (d .size) len who v .table .cands))
+    (said : a ≡ offered es ns (d .size) len who v .answer) where
+  -- the offer is the definition's
+  same-offer : offered es ns (d .size) len who v ≡ offerTo d who (s .cells) (tableOf es ns len)
+  same-offer = ap (λ (n : ℤ). offer (d .size) (tableOf es ns len) (candOf who n)) (count ∙ ap (λ (t : Sketch). countOf d who (t .cells)) sketch)
+
+  pub stepped : (flag every : Bool) → layerOf d xs′ ws′ es′ ns′ (lenBy a len) (flag && (keptBy a && every))
+      ≡ record { sketch = s; table = offerTo d who (s .cells) (tableOf es ns len) .table; flag = flag && (kept (offerTo d who (s .cells) (tableOf es ns len)) && every) }
+  stepped flag every =
+      let t : tableOf es′ ns′ (lenBy a len) ≡ offerTo d who (s .cells) (tableOf es ns len) .table =
+      offer-table es ns (d .size) len who v es′ ns′ a words counts said ∙ ap (λ (o : Offered). o .table) same-offer in
+      let b : a ≡ offerTo d who (s .cells) (tableOf es ns len) .answer = said ∙ ap (λ (o : Offered). o .answer) same-offer in
+      λ i. record { sketch = sketch i; table = t i; flag = flag && (keptBy (b i) && every) }
+
+and-true : (a : Bool) → a && true ≡ a
+and-true true = refl
+and-true false = refl
+
+pub add-is : (d : Dims) (who : Who) (w : ℕ) (xs : List ℤ) (ws es : List ℕ) (ns : List ℤ) (len : ℕ) (xs′ : List ℤ) (ws′ es′ : List ℕ) (ns′ : List ℤ) (a : Answer) (v : ℤ)
+    → sketchOf xs′ ws′ (d .rows) ≡ addRows (d .cols) (hashBy who) w (d .rows) 0 (sketchOf xs ws (d .rows)) → v ≡ estimateOf (d .rows) (d .cols) (hashBy who) xs′
+    → es′ ≡ entriesOf (offered es ns (d .size) len who v .table .cands) → ns′ ≡ countsOf (offered es ns (d .size) len who v .table .cands)
+    → a ≡ offered es ns (d .size) len who v .answer
+    → (flag : Bool) → layerOf d xs′ ws′ es′ ns′ (lenBy a len) (flag && keptBy a) ≡ addLayer d (item who w) (layerOf d xs ws es ns len flag)
+unfolding addLayer addSketch
+add-is d who w xs ws es ns len xs′ ws′ es′ ns′ a v e f g h k flag =
+    let s = addRows (d .cols) (hashBy who) w (d .rows) 0 (sketchOf xs ws (d .rows)) in
+    let o = offerTo d who (s .cells) (tableOf es ns len) in
+    ap (λ (b : Bool). layerOf d xs′ ws′ es′ ns′ (lenBy a len) (flag && b)) (sym (and-true (keptBy a)))
+    ∙ stepped d who s es ns len xs′ ws′ es′ ns′ a v e f g h k flag true
+    ∙ (λ i. record { sketch = s; table = o .table; flag = flag && and-true (kept o) i })
+
+pub delta-is : (d : Dims) (row col : ℕ) (n : ℤ) (who : Who) (xs : List ℤ) (ws es : List ℕ) (ns : List ℤ) (len : ℕ) (xs′ : List ℤ) (ws′ es′ : List ℕ) (ns′ : List ℤ) (a : Answer) (v : ℤ)
+    → sketchOf xs′ ws′ (d .rows) ≡ addCell (row * d .cols + col) row n (sketchOf xs ws (d .rows)) → v ≡ estimateOf (d .rows) (d .cols) (hashBy who) xs′
+    → es′ ≡ entriesOf (offered es ns (d .size) len who v .table .cands) → ns′ ≡ countsOf (offered es ns (d .size) len who v .table .cands)
+    → a ≡ offered es ns (d .size) len who v .answer
+    → (flag every : Bool) → layerOf d xs′ ws′ es′ ns′ (lenBy a len) (flag && (keptBy a && every)) ≡ deltaLayer d (delta row col n who every) (layerOf d xs ws es ns len flag)
+unfolding deltaLayer
+delta-is d row col n who xs ws es ns len xs′ ws′ es′ ns′ a v e f g h k flag every =
+    stepped d who (addCell (row * d .cols + col) row n (sketchOf xs ws (d .rows))) es ns len xs′ ws′ es′ ns′ a v e f g h k flag every

@@ -1,0 +1,65 @@
+-- The tests of a layer, by the slices that they read. Assumes nothing.
+use mathlib.Core.Path.{_≡_, refl, sym, ap, _∙_}
+use mathlib.Core.Bool.{Bool, true, false, _&&_}
+use mathlib.Core.List.{List}
+use Prim.Native.Nat.{ℕ, zero, suc, _+_, _*_, _<_}
+use native.Mathlib.Decide.{ℕ-discrete}
+use lib.ListN.{length, getD, set, take}
+use lib.Seq.{getD-set-same, getD-set-other}
+use lib.IntN.{ℤ, pos}
+use Rattle.words.specs.Num.{allIn, inRange}
+use Rattle.words.proofs.Bools.{and-left, and-right, both}
+use Rattle.countsketch_l2_norm.specs.Sketch.{sketchOf, cellOf, cellAt, cellRead, rowsRead, rowsFit, rowsReady}
+use Rattle.countsketch_l2_norm.specs.Estimate.{cellsIn}
+use Rattle.heap_moves.specs.declared.Who.{Who}
+use Rattle.heap_moves.proofs.Rounds.{counts-cands}
+use Rattle.layer.specs.declared.Dims.{Dims}
+use Rattle.layer.specs.Layer.{layerOf, item, hashBy, addReads, addFits}
+use Rattle.layer.specs.Delta.{delta, deltaReads, deltaFits}
+
+-- ---- an update
+
+pub reads-are : (d : Dims) (who : Who) (w : ℕ) (xs : List ℤ) (ws es : List ℕ) (ns : List ℤ) (len : ℕ) (flag : Bool)
+    → addReads d (item who w) (layerOf d xs ws es ns len flag) ≡ rowsRead (d .cols) (hashBy who) (sketchOf xs ws (d .rows)) (d .rows) 0 && allIn (take len ns)
+unfolding addReads
+reads-are d who w xs ws es ns len flag = ap (λ (l : List ℤ). rowsRead (d .cols) (hashBy who) (sketchOf xs ws (d .rows)) (d .rows) 0 && allIn (take len l)) (counts-cands es ns)
+
+pub fits-are : (d : Dims) (who : Who) (w : ℕ) (xs : List ℤ) (ws es : List ℕ) (ns : List ℤ) (len : ℕ) (flag : Bool)
+    → addFits d (item who w) (layerOf d xs ws es ns len flag) ≡ rowsFit (d .cols) (hashBy who) w xs (d .rows) 0
+unfolding addFits
+fits-are d who w xs ws es ns len flag = refl
+
+-- the order of three tests
+and-turn : (a b c : Bool) → a && b && c ≡ a && c && b
+and-turn true true true = refl
+and-turn true true false = refl
+and-turn true false true = refl
+and-turn true false false = refl
+and-turn false b c = refl
+
+pub ready-are : (d : Dims) (who : Who) (w : ℕ) (xs : List ℤ) (ws es : List ℕ) (ns : List ℤ) (len : ℕ) (flag : Bool)
+    → rowsReady (d .cols) (hashBy who) w (sketchOf xs ws (d .rows)) (d .rows) 0 && allIn (take len ns)
+    ≡ addReads d (item who w) (layerOf d xs ws es ns len flag) && addFits d (item who w) (layerOf d xs ws es ns len flag)
+ready-are d who w xs ws es ns len flag =
+    rw (reads-are d who w xs ws es ns len flag, fits-are d who w xs ws es ns len flag)
+    (and-turn (rowsRead (d .cols) (hashBy who) (sketchOf xs ws (d .rows)) (d .rows) 0) (rowsFit (d .cols) (hashBy who) w xs (d .rows) 0) (allIn (take len ns)))
+
+-- ---- a delta
+
+pub delta-reads-are : (d : Dims) (row col : ℕ) (n : ℤ) (who : Who) (every : Bool) (xs : List ℤ) (ws es : List ℕ) (ns : List ℤ) (len : ℕ) (flag : Bool)
+    → deltaReads d (delta row col n who every) (layerOf d xs ws es ns len flag)
+    ≡ cellRead (d .cols) (row * d .cols + col) row (sketchOf xs ws (d .rows)) && cellsIn (d .cols) (hashBy who) xs (d .rows) 0 && allIn (take len ns)
+unfolding deltaReads
+delta-reads-are d row col n who every xs ws es ns len flag =
+    ap (λ (l : List ℤ). cellRead (d .cols) (row * d .cols + col) row (sketchOf xs ws (d .rows)) && cellsIn (d .cols) (hashBy who) xs (d .rows) 0 && allIn (take len l)) (counts-cands es ns)
+
+-- the counters that a hash names stay in range where one counter is set to a value in range
+pub cells-set : (cols h : ℕ) (xs : List ℤ) (at : ℕ) (v : ℤ) (k r : ℕ) → at < length xs → inRange v ≡ true → cellsIn cols h xs k r ≡ true → cellsIn cols h (set xs at v) k r ≡ true
+unfolding cellsIn
+cells-set cols h xs at v zero r l p e = refl
+cells-set cols h xs at v (suc k) r l p e =
+    both (go (ℕ-discrete (cellOf cols h r) at)) (cells-set cols h xs at v k (suc r) l p (and-right (inRange (cellAt xs (cellOf cols h r))) (cellsIn cols h xs k (suc r)) e))
+  where
+    go : Dec (cellOf cols h r ≡ at) → inRange (cellAt (set xs at v) (cellOf cols h r)) ≡ true
+    go (yes q) = ap (λ (i : ℕ). inRange (getD (set xs at v) i (pos 0))) q ∙ ap inRange (getD-set-same xs at v (pos 0) l) ∙ p
+    go (no q) = ap inRange (getD-set-other xs at (cellOf cols h r) v (pos 0) q) ∙ and-left (inRange (cellAt xs (cellOf cols h r))) (cellsIn cols h xs k (suc r)) e

@@ -1,0 +1,84 @@
+// An update of one layer: the counters take it, then the key is offered with its new count.
+use crate::Dims;
+use heap::Answer;
+use heap_moves::Who;
+ghost use mathlib.Core.Path.{_≡_};
+ghost use mathlib.Core.Bool.{Bool, true, _&&_};
+ghost use mathlib.Core.List.{List};
+ghost use Prim.Native.Nat.{ℕ, _≤_};
+ghost use lib.ListN.{length};
+ghost use Rattle.words.specs.Num.{top};
+ghost use Rattle.heap.specs.Offer.{keptBy, lenBy};
+ghost use Rattle.layer.specs.Layer.{layerOf, item, addLayer, addReads, addFits};
+ghost use Rattle.layer.specs.Needs.{Housed, AddReady};
+
+// Whether all that an update reads of the layer is in range.
+pub fn add_reads(
+    counters: &[i64],
+    norms: &[u64],
+    counts: &[i64],
+    d: Dims,
+    len: usize,
+    who: Who,
+) -> bool
+    requires { ⌜ Housed d (length (now counters)) (length (now norms)) (length (now counts)) len ⌝ }
+    ensures { λ r. ⌜ ((es : List ℕ) (flag : Bool) (w : ℕ) → r ≡ addReads d (item who w) (layerOf d (now (counters .entry)) (now (norms .entry)) es (now (counts .entry)) len flag)) ⌝ }
+{
+    if !countsketch_l2_norm::rows_read(counters, norms, d.rows, d.cols, who.high, who.low) {
+        return false;
+    }
+    heap::counts_in_range(counts, len)
+}
+
+// Whether an update may be made: what it reads is in range, and no counter leaves the range.
+pub fn add_ready(
+    counters: &[i64],
+    norms: &[u64],
+    counts: &[i64],
+    d: Dims,
+    len: usize,
+    who: Who,
+    weight: u64,
+) -> bool
+    requires { ⌜ Housed d (length (now counters)) (length (now norms)) (length (now counts)) len ⌝ }
+    requires { ⌜ weight ≤ top ⌝ }
+    ensures { λ r. ⌜ ((es : List ℕ) (flag : Bool) → r ≡ addReads d (item who weight) (layerOf d (now (counters .entry)) (now (norms .entry)) es (now (counts .entry)) len flag)
+        && addFits d (item who weight) (layerOf d (now (counters .entry)) (now (norms .entry)) es (now (counts .entry)) len flag)) ⌝ }
+{
+    if !countsketch_l2_norm::rows_ready(
+        counters,
+        norms,
+        d.rows,
+        d.cols,
+        who.high,
+        who.low,
+        weight,
+    ) {
+        return false;
+    }
+    heap::counts_in_range(counts, len)
+}
+
+// The update: what the candidates answered.
+pub fn add(
+    counters: &mut [i64],
+    norms: &mut [u64],
+    entries: &mut [u64],
+    counts: &mut [i64],
+    d: Dims,
+    len: usize,
+    who: Who,
+    weight: u64,
+) -> Answer
+    requires { ⌜ AddReady d len who weight (now counters) (now norms) (now entries) (now counts) ⌝ }
+    ensures { λ r. ⌜ ((flag : Bool) → layerOf d (now (counters .exit)) (now (norms .exit)) (now (entries .exit)) (now (counts .exit)) (lenBy r len) (flag && keptBy r)
+        ≡ addLayer d (item who weight) (layerOf d (now (counters .entry)) (now (norms .entry)) (now (entries .entry)) (now (counts .entry)) len flag)) ⌝ }
+{
+    let rows = d.rows;
+    let cols = d.cols;
+    let high = who.high;
+    let low = who.low;
+    countsketch_l2_norm::update_weighted_with_hash(counters, norms, rows, cols, high, low, weight);
+    let count = countsketch_l2_norm::count_with_hash(&*counters, rows, cols, high, low);
+    heap::offer(entries, counts, d.size, len, who, count)
+}

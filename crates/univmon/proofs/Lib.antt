@@ -1,0 +1,5 @@
+pub mod Offsets
+pub mod Fills
+pub mod Lengths
+pub mod States
+pub mod Views

@@ -1,0 +1,35 @@
+-- What the inner functions need, by name.
+use Prim.Native.Nat.{ℕ, _*_, _≤_, _<_}
+use mathlib.Core.Path.{_≡_}
+use mathlib.Core.Bool.{true}
+use mathlib.Core.List.{List}
+use lib.ListN.{length, getD}
+use Rattle.words.specs.Num.{top}
+use Rattle.header.specs.declared.Shape.{Shape}
+use Rattle.header.specs.Accepted.{Accepted}
+use Rattle.layer.specs.Layer.{addReads, addFits, item}
+use Rattle.univmon.specs.State.{dimsAt, layerAt}
+use Rattle.univmon.specs.Slices.{Lent, view, cellsIn, normsIn, candsIn}
+use Rattle.univmon.specs.Updates.{recordLength, whoAt}
+
+-- slices of these lengths are a shape's
+pub record Sizes (sh : Shape) (a b c d : ℕ) : Type 0 where
+  pub cells : a ≡ cellsIn sh
+  pub norms : b ≡ 2 * normsIn sh
+  pub entries : c ≡ 4 * candsIn sh
+  pub counts : d ≡ candsIn sh
+
+-- a header and slices that fit together: an accepted shape, its lengths, and no layer with more candidates than seats
+pub record Standing (r : Lent) : Type 0 where
+  pub accepted : Accepted (r .head .shape)
+  pub sizes : Sizes (r .head .shape) (length (r .counters)) (length (r .norms)) (length (r .entries)) (length (r .counts))
+  pub lens : (m : ℕ) → m < r .head .shape .layers → getD (r .head .lens) m 0 ≤ r .head .shape .«heap_size»
+
+-- what the update of layer l needs
+pub record SendReady (r : Lent) (words : List ℕ) (w l : ℕ) : Type 0 where
+  pub standing : Standing r
+  pub recorded : length words ≡ recordLength (r .head .shape .layers)
+  pub light : w ≤ top
+  pub inside : l < r .head .shape .layers
+  pub read : addReads (dimsAt (r .head .shape) l) (item (whoAt words l) w) (layerAt (view r) l) ≡ true
+  pub fit : addFits (dimsAt (r .head .shape) l) (item (whoAt words l) w) (layerAt (view r) l) ≡ true

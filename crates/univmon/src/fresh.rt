@@ -1,0 +1,120 @@
+// States with nothing counted.
+use crate::sizes::lengths_match;
+use header::Answered;
+use header::Header;
+use header::Shape;
+ghost use mathlib.Core.Path.{_≡_};
+ghost use lib.ListN.{length, replicate};
+ghost use lib.IntN.{pos};
+ghost use Rattle.univmon.specs.Slices.{lent};
+ghost use Rattle.univmon.specs.Calls.{left, leftBy, newCall, clearCall};
+
+fn zero_words(xs: &mut [u64])
+    ensures { λ _. ⌜ now (xs .exit) ≡ replicate (length (now (xs .entry))) 0 ⌝ }
+{
+    let mut i = 0;
+    while i < xs.len() {
+        xs[i] = 0;
+        i += 1;
+    }
+}
+
+fn zero_counts(xs: &mut [i64])
+    ensures { λ _. ⌜ now (xs .exit) ≡ replicate (length (now (xs .entry))) (pos 0) ⌝ }
+{
+    let mut i = 0;
+    while i < xs.len() {
+        xs[i] = 0;
+        i += 1;
+    }
+}
+
+fn zero_all(counters: &mut [i64], norms: &mut [u64], entries: &mut [u64], counts: &mut [i64])
+    ensures { λ _. ⌜ now (counters .exit) ≡ replicate (length (now (counters .entry))) (pos 0) ⌝ }
+    ensures { λ _. ⌜ now (norms .exit) ≡ replicate (length (now (norms .entry))) 0 ⌝ }
+    ensures { λ _. ⌜ now (entries .exit) ≡ replicate (length (now (entries .entry))) 0 ⌝ }
+    ensures { λ _. ⌜ now (counts .exit) ≡ replicate (length (now (counts .entry))) (pos 0) ⌝ }
+{
+    zero_counts(counters);
+    zero_words(norms);
+    zero_words(entries);
+    zero_counts(counts);
+}
+
+// A fresh state in lent slices: 1, 2, 3, 4 for the dimensions, 9 for the lengths.
+pub fn new(
+    heap_size: usize,
+    rows: usize,
+    cols: usize,
+    layers: usize,
+    counters: &mut [i64],
+    norms: &mut [u64],
+    entries: &mut [u64],
+    counts: &mut [i64],
+) -> Answered
+    ensures { λ r. ⌜ left (r .refusal) (lent (r .header) (now (counters .exit)) (now (norms .exit)) (now (entries .exit)) (now (counts .exit)))
+        ≡ newCall (record { «heap_size» = «heap_size»; rows = rows; cols = cols; layers = layers }) (now (counters .entry)) (now (norms .entry)) (now (entries .entry)) (now (counts .entry)) ⌝ }
+{
+    let shape = Shape {
+        heap_size,
+        rows,
+        cols,
+        layers,
+    };
+    let refusal = shape.refusal();
+    if refusal != 0 {
+        return Answered {
+            refusal,
+            header: Header::zero(),
+        };
+    }
+    if !lengths_match(
+        shape,
+        counters.len(),
+        norms.len(),
+        entries.len(),
+        counts.len(),
+    ) {
+        return Answered {
+            refusal: 9,
+            header: Header::zero(),
+        };
+    }
+    zero_all(counters, norms, entries, counts);
+    Answered {
+        refusal: 0,
+        header: Header::fresh(shape),
+    }
+}
+
+// Nothing counted any more: 9 for the header and the lengths.
+pub fn clear(
+    header: Header,
+    counters: &mut [i64],
+    norms: &mut [u64],
+    entries: &mut [u64],
+    counts: &mut [i64],
+) -> Answered
+    ensures { λ r. ⌜ left (r .refusal) (lent (r .header) (now (counters .exit)) (now (norms .exit)) (now (entries .exit)) (now (counts .exit)))
+        ≡ leftBy (lent header (now (counters .entry)) (now (norms .entry)) (now (entries .entry)) (now (counts .entry)))
+        (clearCall (lent header (now (counters .entry)) (now (norms .entry)) (now (entries .entry)) (now (counts .entry)))) ⌝ }
+{
+    if !header.in_range() {
+        return Answered { refusal: 9, header };
+    }
+    let shape = header.shape;
+    if !lengths_match(
+        shape,
+        counters.len(),
+        norms.len(),
+        entries.len(),
+        counts.len(),
+    ) {
+        return Answered { refusal: 9, header };
+    }
+    zero_all(counters, norms, entries, counts);
+    Answered {
+        refusal: 0,
+        header: Header::fresh(shape),
+    }
+}
