@@ -15,11 +15,12 @@ use Rattle.sums.specs.Entries.{Entry, Space, view}
 use Rattle.sums.specs.Terms.{nought, sumOver}
 use Rattle.sums.specs.Layers.{gSum}
 use Rattle.sums.specs.Up.{joined}
-use Rattle.sums.specs.Terminal.{ranked, heavy, Strata, gathered, retained, flagged, complete, squares, terminalSum}
+use Rattle.sums.specs.Terminal.{gather, ranked, heavy, Strata, gathered, retained, flagged, complete, squares, terminalSum}
 use Rattle.sums.proofs.Steps.{last-is}
 use Rattle.ranks.specs.Step.{Up, start, upOf, ruleOf, closeOf, stepOf, placeOf, levels}
 use Rattle.ranks.specs.declared.Ask.{Ask}
 use Rattle.ranks.specs.declared.Place.{Place}
+use Rattle.ranks.specs.declared.Level.{Level}
 use Rattle.ranks.proofs.Ranks.{take-some, take-all, length-view}
 
 -- ---- one layer
@@ -48,6 +49,12 @@ close-is a p s₀ s u all n whole t x y e f g e3 e4 e5 e6 =
     let e4' = rw (e2, e3) at e4 in
     let e5' = rw (e1, e4') at e5 in
     rw (e6, e5', e1, e3)
+
+-- a layer whose candidates were taken into the arrays s₁, on what stood in s₀
+pub step-is : (a : Ask) (p : Place) (own : List Entry) (s₀ s₁ s₂ : Space) (v r : Level) (all : ℕ)
+    → view s₁ 0 all ≡ gather (view s₀ 0 (v .n)) own → upOf s₂ r ≡ closeOf a p (view s₁ 0 all) (upOf s₁ v) → upOf s₂ r ≡ stepOf a p own (upOf s₀ v)
+unfolding stepOf closeOf
+step-is a p own s₀ s₁ s₂ v r all e f = f ∙ ap (λ (es : List Entry). closeOf a p es (upOf s₁ v)) e
 
 -- ---- the way up
 
