@@ -1,13 +1,13 @@
 -- What judged slices hold, and what a sum answers where they are refused, where the header decides alone, and where it reads. Assumes nothing.
-use mathlib.Core.Path.{_≡_, refl, sym, ap, ap₂, _∙_}
-use mathlib.Core.Bool.{Bool, true, false, cond, not, _&&_, _||_}
+use mathlib.Core.Path.{_≡_, refl, sym, ap, _∙_}
+use mathlib.Core.Bool.{Bool, true, false, not, _&&_, _||_}
 use mathlib.Core.List.{List}
-use Prim.Native.Nat.{ℕ, zero, suc, _+_, _*_, _≤_, _<_}
+use Prim.Native.Nat.{ℕ, zero, suc, _+_, _*_, _<_}
 use native.Mathlib.Nat.{zero-add}
 use native.Mathlib.Omega.{arith}
 use lib.ListN.{length, take}
 use lib.IntN.{ℤ}
-use lib.Dec.{eqb, leb}
+use lib.Dec.{eqb}
 use lib.Ieee.{Float}
 use borrow.Author.Tests.{eq-eqb, ne-eqb, eqb-true}
 use Rattle.words.specs.Num.{allIn}
@@ -21,9 +21,9 @@ use Rattle.header.specs.declared.Header.{Header}
 use Rattle.header.specs.declared.Mode.{Mode}
 use Rattle.header.specs.declared.Mode.the-variants as mode
 use Rattle.header.specs.Header.{headerOk}
-use Rattle.header.proofs.Ranges.{Ranged, ranged-of, len-few}
+use Rattle.header.proofs.Ranges.{ranged-of, len-few}
 use Rattle.layer.specs.Layer.{Layer}
-use Rattle.univmon.specs.State.{State, dimsAt, cellOff, normOff, candOff, layerAt, allLayers, sizesOk}
+use Rattle.univmon.specs.State.{State, dimsAt, normOff, candOff, layerAt, allLayers, sizesOk}
 use Rattle.univmon.specs.Slices.{Lent, lentOk, cellsIn, normsIn, candsIn, view}
 use Rattle.univmon.specs.Judged.{unsound}
 use Rattle.univmon.specs.Needs.{Sizes, Standing}
@@ -42,7 +42,7 @@ use Rattle.estimates.specs.Slices.{cellsAt, wordsAt, lenAt, ownIn, strat
 use Rattle.estimates.specs.Calls.{answer, refusedBy, normsLent, sumAnswer, l1Call, l2Call, sumCall, cardinalityCall, noPanel, panelCall}
 use Rattle.estimates.proofs.Spans.{seats-long}
 use Rattle.estimates.proofs.Layers.{reads-are, own-is, norm-is, flag-is}
-use Rattle.estimates.proofs.Sames.{Alike, standard-same, terminal-same}
+use Rattle.estimates.proofs.Sames.{standard-same, terminal-same}
 
 -- ---- what passed tests say
 

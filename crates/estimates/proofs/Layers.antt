@@ -6,29 +6,27 @@ use Prim.Native.Nat.{ℕ, zero, suc, _*_, _≤_, _<_}
 use native.Mathlib.Omega.{arith}
 use lib.ListN.{length, getD, take, drop}
 use lib.IntN.{ℤ}
-use lib.Ieee.{Float}
 use Rattle.words.specs.Num.{allIn}
 use Rattle.words.specs.Parts.{part}
 use Rattle.countsketch_l2_norm.specs.Norms.{normsOf}
 use Rattle.countsketch_l2_norm.specs.L2 as l2
 use Rattle.heap_moves.specs.declared.Who.{Who}
 use Rattle.heap_moves.specs.Cands.{Cand}
-use Rattle.heap_moves.specs.Flat.{whoOf, candsOf, countsOf}
+use Rattle.heap_moves.specs.Flat.{whoOf, candsOf}
 use Rattle.heap_moves.proofs.Views.{who-drop}
 use Rattle.heap_moves.proofs.Rounds.{counts-cands}
 use Rattle.heap.specs.Slices.{tableOf}
 use Rattle.header.specs.declared.Header.{Header}
 use Rattle.layer.specs.declared.Dims.{Dims}
-use Rattle.layer.specs.Layer.{Layer, layerOf, countsRead}
+use Rattle.layer.specs.Layer.{Layer, layerOf}
 use Rattle.layer.specs.Merge.{whos}
 use Rattle.univmon.specs.State.{State, dimsAt, normOff, candOff, layerAt, allLayers}
 use Rattle.univmon.specs.Slices.{Lent, normsIn, view}
 use Rattle.univmon.specs.Needs.{Standing}
 use Rattle.univmon.proofs.Views.{layer-view, norms-part}
-use Rattle.sums.specs.Entries.{Entry}
 use Rattle.estimates.specs.Norms.{l2At}
 use Rattle.estimates.specs.Sums.{entryBy, ownAt, whosRead, layerReads}
-use Rattle.estimates.specs.Anew.{entryAt, whosFrom, Readable}
+use Rattle.estimates.specs.Anew.{whosFrom, Readable}
 use Rattle.estimates.specs.Calls.{normState}
 use Rattle.estimates.specs.Slices.{cellsAt, normsAt, wordsAt, lenAt, ownIn, Counted}
 use Rattle.estimates.proofs.Places.{readable, listed-whos}

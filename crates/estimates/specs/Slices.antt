@@ -1,14 +1,14 @@
 -- The layers of a state in the slices that are lent: what the sums read of each.
 use Prim.Native.Nat.{ℕ, _*_, _≤_, _<_}
 use mathlib.Core.Path.{_≡_}
-use mathlib.Core.Bool.{Bool, true, false}
+use mathlib.Core.Bool.{true, false}
 use mathlib.Core.List.{List}
 use lib.ListN.{length, getD}
 use lib.IntN.{ℤ}
-use lib.Ieee.{Float}
+use lib.Ieee.{Float, binary64, mul}
 use Rattle.words.specs.Parts.{part}
 use Rattle.countsketch_l2_norm.specs.Norms.{normsOf}
-use Rattle.countsketch_l2_norm.specs.L2.{l2Squared, l2Of}
+use Rattle.countsketch_l2_norm.specs.L2.{l2Of}
 use Rattle.header.specs.declared.Header.{Header}
 use Rattle.header.specs.Accepted.{Accepted}
 use Rattle.univmon.specs.State.{dimsAt, cellOff, normOff, candOff}
@@ -35,6 +35,10 @@ lenAt h l = getD (h .lens) l 0
 -- its candidates with their counts estimated anew, and what a terminal sum reads
 unfoldable pub ownIn : Header → List ℤ → List ℕ → ℕ → List Entry
 ownIn h xs es l = listed (entryAt (dimsAt (h .shape) l) (cellsAt h xs l) (wordsAt h es l)) 0 (lenAt h l)
+
+-- L2 times L2 of layer l
+abbrev pub squareIn : Header → List ℕ → ℕ → Float
+squareIn h ws l = mul binary64 (l2Of (normsAt h ws l)) (l2Of (normsAt h ws l))
 
 abbrev pub strataIn : Header → List ℤ → List ℕ → List ℕ → Strata
 strataIn h xs ws es =

@@ -179,15 +179,7 @@ pub fn estimate_g_sum(
             value: 0.0,
         };
     }
-    sum_by_mode(
-        header,
-        counters,
-        norms,
-        entries,
-        counts,
-        g,
-        count_every_key,
-    )
+    sum_by_mode(header, counters, norms, entries, counts, g, count_every_key)
 }
 
 // The number of keys: g one, with every key counted.
@@ -200,15 +192,7 @@ pub fn estimate_cardinality(
 ) -> Answer
     ensures { λ r. ⌜ r ≡ cardinalityCall (lent header (now (counters .entry)) (now (norms .entry)) (now (entries .entry)) (now (counts .entry))) ⌝ }
 {
-    estimate_g_sum(
-        header,
-        counters,
-        norms,
-        entries,
-        counts,
-        G::One,
-        true,
-    )
+    estimate_g_sum(header, counters, norms, entries, counts, G::One, true)
 }
 
 // ---- the panel answer

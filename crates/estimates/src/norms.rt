@@ -1,7 +1,7 @@
 // L2 from the norms: layer 0's, or in terminal mode the root of the sum over all layers.
 ghost use mathlib.Core.Path.{_≡_};
 ghost use Prim.Native.Nat.{ℕ, _<_};
-ghost use Rattle.estimates.specs.Norms.{squaredAt, squaredBelow, l2OfState};
+ghost use Rattle.estimates.specs.Norms.{squaredAt, l2At, squaredBelow, l2OfState};
 ghost use Rattle.estimates.specs.Calls.{normState, normsReadAt, allNormsRead, l2Reads};
 ghost use Rattle.estimates.specs.Slices.{Normed};
 use header::Header;
@@ -64,7 +64,16 @@ fn squared_at(header: Header, norms: &[u64], l: usize) -> f64
     countsketch_l2_norm::l2_squared(&norms[a..b], dims.rows)
 }
 
-// Its sum over all layers, from layer 0 up.
+// L2 of layer l.
+pub fn l2_at(header: Header, norms: &[u64], l: usize) -> f64
+    requires { ⌜ Normed header (now norms) ⌝ }
+    requires { ⌜ l < header .shape .layers ⌝ }
+    ensures { λ r. ⌜ r ≡ l2At (normState header (now (norms .entry))) l ⌝ }
+{
+    float64::sqrt(squared_at(header, norms, l))
+}
+
+// L2 squared summed over all layers, from layer 0 up.
 fn squared_total(header: Header, norms: &[u64]) -> f64
     requires { ⌜ Normed header (now norms) ⌝ }
     ensures { λ r. ⌜ r ≡ squaredBelow (normState header (now (norms .entry))) (header .shape .layers) ⌝ }
@@ -79,14 +88,15 @@ fn squared_total(header: Header, norms: &[u64]) -> f64
     sum
 }
 
+// L2 by the state's mode.
 pub fn l2_of(header: Header, norms: &[u64]) -> f64
     requires { ⌜ Normed header (now norms) ⌝ }
     ensures { λ r. ⌜ r ≡ l2OfState (normState header (now (norms .entry))) ⌝ }
 {
     let mode = header.mode;
     match mode {
-        Mode::Unset => float64::sqrt(squared_at(header, norms, 0)),
-        Mode::Standard => float64::sqrt(squared_at(header, norms, 0)),
+        Mode::Unset => l2_at(header, norms, 0),
+        Mode::Standard => l2_at(header, norms, 0),
         Mode::Terminal => float64::sqrt(squared_total(header, norms)),
     }
 }

@@ -1,46 +1,28 @@
 // The terminal sum: from the last layer up, each layer's candidates join those that the layer below
 // retained.
 ghost use mathlib.Core.Path.{_≡_};
-ghost use mathlib.Core.Bool.{Bool};
-ghost use Prim.Native.Nat.{ℕ, _+_, _*_, _<_, _≤_};
-ghost use lib.ListN.{length};
-ghost use lib.Ieee.{Float, binary64, mul};
-ghost use Rattle.matrix_storage.specs.Bits.{maxRows};
-ghost use Rattle.countsketch_l2_norm.specs.Norms.{normsOf};
-ghost use Rattle.countsketch_l2_norm.specs.L2.{l2Of};
+ghost use Prim.Native.Nat.{ℕ, _<_, _≤_};
 ghost use Rattle.sums.specs.Entries.{space, view};
 ghost use Rattle.sums.specs.Terminal.{gather, terminalSum};
 ghost use Rattle.ranks.specs.Room.{Within};
 ghost use Rattle.ranks.specs.Step.{upOf, stepOf, placeOf};
-ghost use Rattle.estimates.specs.Slices.{normsAt, ownIn, strataIn, Counted, Normed};
+ghost use Rattle.estimates.specs.Slices.{ownIn, squareIn, strataIn, Counted, Normed};
 use crate::anew::absorb;
+use crate::norms::l2_at;
 use header::Header;
 use ranks::Ask;
 use ranks::Level;
 use ranks::Place;
 use sums::G;
 
-// A layer's L2 times its L2: the Rust sums these, and not L2 squared as it was before the root.
-fn square_of(norms: &[u64], rows: usize) -> f64
-    requires { ⌜ (1 ≤ rows) × ((rows ≤ maxRows) × (2 * rows ≤ length (now norms))) ⌝ }
-    ensures { λ r. ⌜ r ≡ mul binary64 (l2Of (normsOf (now (norms .entry)) rows)) (l2Of (normsOf (now (norms .entry)) rows)) ⌝ }
-{
-    let l2 = countsketch_l2_norm::l2(norms, rows);
-    l2 * l2
-}
-
-// The same of layer l of a state.
+// Layer l's L2 times its L2: the Rust sums these, and not L2 squared as it was before the root.
 fn square_at(header: Header, norms: &[u64], l: usize) -> f64
     requires { ⌜ Normed header (now norms) ⌝ }
     requires { ⌜ l < header .shape .layers ⌝ }
-    ensures { λ r. ⌜ r ≡ mul binary64 (l2Of (normsAt header (now (norms .entry)) l)) (l2Of (normsAt header (now (norms .entry)) l)) ⌝ }
+    ensures { λ r. ⌜ r ≡ squareIn header (now (norms .entry)) l ⌝ }
 {
-    let shape = header.shape;
-    let dims = univmon::sizes::dims(shape, l);
-    let s = univmon::sizes::span_of(shape, l);
-    let a = s.norms;
-    let b = s.norms_end;
-    square_of(&norms[a..b], dims.rows)
+    let l2 = l2_at(header, norms, l);
+    l2 * l2
 }
 
 // Takes layer l's candidates into the working space, behind the first `have`.
