@@ -300,7 +300,8 @@ def proof(crate, fn, known):
             for n in names:
                 answers[n] = (above, text)
     body, spec, shared = [], False, f"{REPO}/crates/{crate}/proofs/imports.txt"
-    lines = known["skeletons"][fn].split("\n")
+    # the printed lines are laid out: one line for each declaration again
+    lines = re.sub(r"(?<=\S)\n +(?=\S)", " ", known["skeletons"][fn]).split("\n")
     for line in lines:
         if line.startswith("use ") or line.startswith("-- src/"):
             continue
@@ -365,7 +366,8 @@ def start(crate, fns):
         path = f"{REPO}/crates/{crate}/proofs/{fn}/answers.txt"
         if os.path.exists(path) or fn not in known["skeletons"]:
             continue
-        needs = re.findall(r"^([^\s:]+)(?: \S+)* = \?$", known["skeletons"][fn], re.M)
+        joined = re.sub(r"(?<=\S)\n +(?=\S)", " ", known["skeletons"][fn])
+        needs = re.findall(r"^([^\s:]+)(?: \S+)* = \?$", joined, re.M)
         put(path, f"-- `{crate}::{fn.replace('/', '::')}` meets its contract.\n\n" + "\n\n".join(n + " = ?" for n in needs) + "\n")
         print("new", path)
 

@@ -17,7 +17,7 @@ fn refused(n: u64) {
 
 // Whether slices of these lengths hold a layer of these rows and columns.
 fn held(rows: usize, cols: usize, cells: usize, words: usize) -> bool
-    ensures { λ b. ⌜ b ≡ true → Shaped rows cols × ((rows * cols ≤ cells) × (2 * rows ≤ words)) ⌝ }
+    ensures { λ b. ⌜ (b ≡ true → Shaped rows cols × ((rows * cols ≤ cells) × (2 * rows ≤ words))) ⌝ }
 {
     if matrix_storage::check_hash_bits(rows, cols) != 0 {
         return false;
@@ -178,13 +178,17 @@ fn state(counters: &[i64], norms: &[u64], rows: usize, cols: usize) {
 }
 
 // 7: the counters are set aside, to be merged later.
-fn keep(counters: &[i64], other: &mut [i64]) {
+fn keep(op: u64, counters: &[i64], other: &mut [i64]) {
+    if op != 7 {
+        return;
+    }
     let mut i = 0;
     while i < other.len() {
-        if i < counters.len() {
-            let x = counters[i];
-            other[i] = x;
+        if counters.len() <= i {
+            return;
         }
+        let x = counters[i];
+        other[i] = x;
         i += 1;
     }
 }
@@ -225,65 +229,97 @@ fn set_word(norms: &mut [u64], i: usize, x: u64) {
     }
 }
 
-fn run(
+// An operation and its words; operation 0 is the end of the input.
+struct Call {
     op: u64,
-    text: &[u8],
-    counters: &mut [i64],
-    norms: &mut [u64],
-    other: &mut [i64],
-    rows: usize,
-    cols: usize,
-) {
-    let a = vectors::word(text, 0);
-    let b = vectors::word(text, 1);
-    let c = vectors::word(text, 2);
+    a: u64,
+    b: u64,
+    c: u64,
+}
+
+fn next() -> Call {
+    let mut head = [0u8; 34];
+    if !vectors::read(&mut head, 2) {
+        return Call {
+            op: 0,
+            a: 0,
+            b: 0,
+            c: 0,
+        };
+    }
+    let op = vectors::word(&head, 0);
+    let many = vectors::word(&head, 1) as usize;
+    let mut text = [0u8; 51];
+    let got = vectors::read(&mut text, many);
+    Call {
+        op: if got { op } else { 0 },
+        a: vectors::word(&text, 0),
+        b: vectors::word(&text, 1),
+        c: vectors::word(&text, 2),
+    }
+}
+
+// The operations that change nothing.
+fn ask(call: Call, counters: &[i64], norms: &[u64], rows: usize, cols: usize) {
+    let op = call.op;
+    if op == 4 {
+        estimate(counters, rows, cols, call.a, call.b);
+    }
+    if op == 5 {
+        l2(norms, rows, cols);
+    }
+    if op == 6 {
+        state(counters, norms, rows, cols);
+    }
+}
+
+// Those that set counters and norms by hand.
+fn set(call: Call, counters: &mut [i64], norms: &mut [u64]) {
+    let op = call.op;
     if op == 1 {
         clear(counters);
         clear_norms(norms);
         return;
     }
+    if op == 9 {
+        set_cell(counters, call.a as usize, vectors::signed(call.b));
+        return;
+    }
+    if op == 10 {
+        set_word(norms, call.a as usize, call.b);
+    }
+}
+
+// Those that the layer has.
+fn change(
+    call: Call,
+    counters: &mut [i64],
+    norms: &mut [u64],
+    other: &[i64],
+    rows: usize,
+    cols: usize,
+) {
+    let op = call.op;
     if op == 2 {
-        add(counters, norms, rows, cols, a, b, c);
+        add(counters, norms, rows, cols, call.a, call.b, call.c);
         return;
     }
     if op == 3 {
+        let row = call.a as usize;
+        let col = call.b as usize;
         delta(
             counters,
             norms,
             rows,
             cols,
-            a as usize,
-            b as usize,
-            vectors::signed(c),
+            row,
+            col,
+            vectors::signed(call.c),
         );
         return;
     }
-    if op == 4 {
-        estimate(&*counters, rows, cols, a, b);
-        return;
-    }
-    if op == 5 {
-        l2(&*norms, rows, cols);
-        return;
-    }
-    if op == 6 {
-        state(&*counters, &*norms, rows, cols);
-        return;
-    }
-    if op == 7 {
-        keep(&*counters, other);
-        return;
-    }
     if op == 8 {
-        merge(counters, norms, &*other, rows, cols);
-        return;
-    }
-    if op == 9 {
-        set_cell(counters, a as usize, vectors::signed(b));
-        return;
-    }
-    if op == 10 {
-        set_word(norms, a as usize, b);
+        merge(counters, norms, other, rows, cols);
     }
 }
 
@@ -292,21 +328,19 @@ fn serve(counters: &mut [i64], norms: &mut [u64], other: &mut [i64]) {
     let mut cols = 0;
     let mut turns: u64 = 1000000;
     while 0 < turns {
-        let mut head = [0u8; 34];
-        if !vectors::read(&mut head, 2) {
-            return;
-        }
-        let op = vectors::word(&head, 0);
-        let many = vectors::word(&head, 1) as usize;
-        let mut text = [0u8; 51];
-        if !vectors::read(&mut text, many) {
+        let call = next();
+        let op = call.op;
+        if op == 0 {
             return;
         }
         if op == 1 {
-            rows = vectors::word(&text, 0) as usize;
-            cols = vectors::word(&text, 1) as usize;
+            rows = call.a as usize;
+            cols = call.b as usize;
         }
-        run(op, &text, counters, norms, other, rows, cols);
+        keep(op, &*counters, other);
+        ask(call, &*counters, &*norms, rows, cols);
+        set(call, counters, norms);
+        change(call, counters, norms, &*other, rows, cols);
         turns -= 1;
     }
 }

@@ -8,15 +8,19 @@ use lib.ListN.{length}
 use lib.IntN.{ℤ}
 use Rattle.countsketch_l2_norm.specs.Sketch.{Sketch, sketchOf, addCell, addRows}
 use Rattle.countsketch_l2_norm.specs.Estimate.{estimateOf}
+use Rattle.countsketch_l2_norm.proofs.After.{length-rows, length-rows-norms}
 use Rattle.heap_moves.specs.declared.Who.{Who}
 use Rattle.heap_moves.specs.Flat.{candOf, entriesOf, countsOf}
 use Rattle.heap.specs.declared.Answer.{Answer}
-use Rattle.heap.specs.Offer.{Table, Offered, offer, keptBy, lenBy, kept}
+use Rattle.heap_moves.specs.Cands.{Cand}
+use Rattle.heap.specs.Offer.{Table, Offered, offer, rescore, seat, replaceRoot, keptBy, lenBy, kept}
+use Rattle.heap.proofs.Cases.{offer-cases}
 use Rattle.heap.specs.Slices.{tableOf, offered}
-use Rattle.heap.proofs.Sounds.{offer-table}
+use Rattle.heap.proofs.Sounds.{offer-table, offer-long}
 use Rattle.layer.specs.declared.Dims.{Dims}
-use Rattle.layer.specs.Layer.{Layer, layerOf, item, hashBy, countOf, offerTo, addSketch, addLayer}
-use Rattle.layer.specs.Delta.{delta, deltaLayer}
+use Rattle.layer.specs.Layer.{Layer, Item, layerOf, item, hashBy, countOf, offerTo, addSketch, addLayer}
+use Rattle.layer.specs.Needs.{Fits}
+use Rattle.layer.specs.Delta.{Delta, delta, deltaLayer}
 
 -- a sketch, and the offer of a key with its count from the new counters
 module _ (d : Dims) (who : Who) (s : Sketch) (es : List ℕ) (ns : List ℤ) (len : ℕ) (xs′ : List ℤ) (ws′ es′ : List ℕ) (ns′ : List ℤ) (a : Answer) (v : ℤ)
@@ -60,3 +64,28 @@ pub delta-is : (d : Dims) (row col : ℕ) (n : ℤ) (who : Who) (xs : List ℤ) 
 unfolding deltaLayer
 delta-is d row col n who xs ws es ns len xs′ ws′ es′ ns′ a v e f g h k flag every =
     stepped d who (addCell (row * d .cols + col) row n (sketchOf xs ws (d .rows))) es ns len xs′ ws′ es′ ns′ a v e f g h k flag every
+
+-- ---- no more candidates than seats
+
+offer-few : (size : ℕ) (t : Table) (c : Cand) → t .len ≤ size → offer size t c .table .len ≤ size
+unfolding rescore seat replaceRoot
+offer-few size t c h = offer-cases size t c (λ (o : Offered). o .table .len ≤ size) (λ p. h) (λ p q. omega arith) (λ p q e. h) (λ p q e. h)
+
+pub add-few : (d : Dims) (u : Item) (l : Layer) → l .table .len ≤ d .size → addLayer d u l .table .len ≤ d .size
+unfolding addLayer
+add-few d u l h = offer-few (d .size) (l .table) _ h
+
+pub delta-few : (d : Dims) (u : Delta) (l : Layer) → l .table .len ≤ d .size → deltaLayer d u l .table .len ≤ d .size
+unfolding deltaLayer
+delta-few d u l h = offer-few (d .size) (l .table) _ h
+
+-- ---- a layer keeps its lengths
+
+pub add-lengths : (d : Dims) (u : Item) (l : Layer) → Fits d l → Fits d (addLayer d u l)
+unfolding addLayer addSketch
+add-lengths d u l f =
+    record {
+      cells = length-rows (d .cols) (hashBy (u .who)) (u .weight) (d .rows) 0 (l .sketch) ∙ f .cells;
+      norms = length-rows-norms (d .cols) (hashBy (u .who)) (u .weight) (d .rows) 0 (l .sketch) ∙ f .norms;
+      cands = offer-long (d .size) (l .table) _ ∙ f .cands;
+    }

@@ -10,7 +10,7 @@ use Rattle.matrix_storage.specs.Bits.{Shaped}
 use Rattle.heap_moves.specs.declared.Who.{Who}
 use Rattle.heap.specs.Offer.{mostCands}
 use Rattle.layer.specs.declared.Dims.{Dims}
-use Rattle.layer.specs.Layer.{layerOf, item, addReads, addFits}
+use Rattle.layer.specs.Layer.{Layer, layerOf, item, addReads, addFits}
 use Rattle.layer.specs.Delta.{delta, deltaReads, deltaFits}
 
 -- slices of nx counters, nw norm words and nc counts are a layer's, with len candidates
@@ -40,3 +40,9 @@ pub record DeltaReady (d : Dims) (len row col : ℕ) (n : ℤ) (who : Who) (xs :
   pub small : natAbs n ≤ top
   pub read : deltaReads d (delta row col n who true) (layerOf d xs ws es ns len false) ≡ true
   pub fit : deltaFits d (delta row col n who true) (layerOf d xs ws es ns len false) ≡ true
+
+-- a layer with the lengths of its dimensions
+pub record Fits (d : Dims) (y : Layer) : Type 0 where
+  pub cells : length (y .sketch .cells) ≡ d .rows * d .cols
+  pub norms : length (y .sketch .norms) ≡ d .rows
+  pub cands : length (y .table .cands) ≡ d .size

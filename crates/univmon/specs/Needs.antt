@@ -1,14 +1,14 @@
 -- What the inner functions need, by name.
-use Prim.Native.Nat.{ℕ, _*_, _≤_, _<_}
+use Prim.Native.Nat.{ℕ, _+_, _*_, _≤_, _<_}
 use mathlib.Core.Path.{_≡_}
-use mathlib.Core.Bool.{true}
+use mathlib.Core.Bool.{Bool, true}
 use mathlib.Core.List.{List}
 use lib.ListN.{length, getD}
 use Rattle.words.specs.Num.{top}
 use Rattle.header.specs.declared.Shape.{Shape}
 use Rattle.header.specs.Accepted.{Accepted}
-use Rattle.layer.specs.Layer.{addReads, addFits, item}
-use Rattle.univmon.specs.State.{dimsAt, layerAt}
+use Rattle.layer.specs.Layer.{Layer, addLayer, addReads, addFits, item}
+use Rattle.univmon.specs.State.{dimsAt, layerAt, allLayers}
 use Rattle.univmon.specs.Slices.{Lent, view, cellsIn, normsIn, candsIn}
 use Rattle.univmon.specs.Updates.{recordLength, whoAt}
 
@@ -33,3 +33,22 @@ pub record SendReady (r : Lent) (words : List ℕ) (w l : ℕ) : Type 0 where
   pub inside : l < r .head .shape .layers
   pub read : addReads (dimsAt (r .head .shape) l) (item (whoAt words l) w) (layerAt (view r) l) ≡ true
   pub fit : addFits (dimsAt (r .head .shape) l) (item (whoAt words l) w) (layerAt (view r) l) ≡ true
+
+-- the tests and the step of an update at each layer, by a shape
+abbrev pub readsAt : Shape → List ℕ → ℕ → ℕ → Layer → Bool
+readsAt sh words w l y = addReads (dimsAt sh l) (item (whoAt words l) w) y
+
+abbrev pub fitsAt : Shape → List ℕ → ℕ → ℕ → Layer → Bool
+fitsAt sh words w l y = addFits (dimsAt sh l) (item (whoAt words l) w) y
+
+abbrev pub addsAt : Shape → List ℕ → ℕ → ℕ → Layer → Layer
+addsAt sh words w l y = addLayer (dimsAt sh l) (item (whoAt words l) w) y
+
+-- what the update of many layers from the first on needs
+pub record SendsReady (r : Lent) (words : List ℕ) (w many first : ℕ) : Type 0 where
+  pub standing : Standing r
+  pub recorded : length words ≡ recordLength (r .head .shape .layers)
+  pub light : w ≤ top
+  pub inside : first + many ≤ r .head .shape .layers
+  pub read : allLayers (readsAt (r .head .shape) words w) many first (view r) ≡ true
+  pub fit : allLayers (fitsAt (r .head .shape) words w) many first (view r) ≡ true

@@ -3,6 +3,7 @@
 pub mod fresh;
 pub mod marks;
 pub mod sizes;
+pub mod update;
 
 // How an update sends its key to layers.
 pub enum Kind {

@@ -64,17 +64,4 @@ returns-3 c =
     (zeroed (a .header .shape) _ _ _ _ (sizes-of (a .header .shape) _ _ _ _ (sized (c .before .before .before .before .before .before .before .before .before .before .before .before))))
 
 pub clear-spec : {M : Type 1} → statement M
-clear-spec =
-    tie.close
-    (tie.spec
-    in-range-requires
-    returns
-    lengths-match-requires
-    returns-2
-    zero-all-requires
-    fresh-requires
-    same-length
-    same-length-2
-    same-length-3
-    same-length-4
-    returns-3)
+clear-spec = tie.close (tie.spec in-range-requires returns lengths-match-requires returns-2 zero-all-requires fresh-requires same-length same-length-2 same-length-3 same-length-4 returns-3)

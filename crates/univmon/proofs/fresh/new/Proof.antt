@@ -81,19 +81,4 @@ returns-3 c =
     (zeroed (shape-of (c .before .before .before .before .before .before .before .before .before .before .before .before .before .before .before .before .before .before)) _ _ _ _ (sizes-of (shape-of (c .before .before .before .before .before .before .before .before .before .before .before .before .before .before .before .before .before .before)) _ _ _ _ (sized (c .before .before .before .before .before .before .before .before .before .before .before .before))))
 
 pub new-spec : {M : Type 1} → statement M
-new-spec =
-    tie.close
-    (tie.spec
-    refusal-requires
-    zero-requires
-    returns
-    lengths-match-requires
-    zero-requires-2
-    returns-2
-    zero-all-requires
-    fresh-requires
-    same-length
-    same-length-2
-    same-length-3
-    same-length-4
-    returns-3)
+new-spec = tie.close (tie.spec refusal-requires zero-requires returns lengths-match-requires zero-requires-2 returns-2 zero-all-requires fresh-requires same-length same-length-2 same-length-3 same-length-4 returns-3)

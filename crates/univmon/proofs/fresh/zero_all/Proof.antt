@@ -32,15 +32,4 @@ returns : tie.Need-returns
 returns c = (c .before .before .before .before .before .before .before .before .before .before .before .before .zero-counts .ensures, (c .before .before .before .before .before .before .before .before .before .zero-words .ensures, (c .before .before .before .before .before .zero-words2 .ensures, c .before .zero-counts2 .ensures)))
 
 pub zero-all-spec : {M : Type 1} → statement M
-zero-all-spec =
-    tie.close
-    (tie.spec
-    zero-counts-requires
-    zero-words-requires
-    zero-words-requires-2
-    zero-counts-requires-2
-    same-length
-    same-length-2
-    same-length-3
-    same-length-4
-    returns)
+zero-all-spec = tie.close (tie.spec zero-counts-requires zero-words-requires zero-words-requires-2 zero-counts-requires-2 same-length same-length-2 same-length-3 same-length-4 returns)

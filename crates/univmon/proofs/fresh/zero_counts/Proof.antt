@@ -42,16 +42,4 @@ returns : tie.Need-returns Inv-loop μ-loop
 returns c = fill-end (pos 0) (pos 0) _ (c .before .loop .i) (c .before .loop .xs) (let f = c .before .loop .inv .long in omega (arith, c .loop-test .left)) (c .before .loop .inv)
 
 pub zero-counts-spec : {M : Type 1} → statement M
-zero-counts-spec =
-    tie.close
-    (tie.spec
-    Inv-loop
-    μ-loop
-    loop-holds
-    mul-xs
-    slice-set-of-xs
-    add-i
-    loop-less
-    loop-again
-    same-length
-    returns)
+zero-counts-spec = tie.close (tie.spec Inv-loop μ-loop loop-holds mul-xs slice-set-of-xs add-i loop-less loop-again same-length returns)

@@ -41,16 +41,4 @@ returns : tie.Need-returns Inv-loop μ-loop
 returns c = fill-end 0 0 _ (c .before .loop .i) (c .before .loop .xs) (let f = c .before .loop .inv .long in omega (arith, c .loop-test .left)) (c .before .loop .inv)
 
 pub zero-words-spec : {M : Type 1} → statement M
-zero-words-spec =
-    tie.close
-    (tie.spec
-    Inv-loop
-    μ-loop
-    loop-holds
-    mul-xs
-    slice-write-xs
-    add-i
-    loop-less
-    loop-again
-    same-length
-    returns)
+zero-words-spec = tie.close (tie.spec Inv-loop μ-loop loop-holds mul-xs slice-write-xs add-i loop-less loop-again same-length returns)

@@ -22,5 +22,4 @@ unfolding markCall
 returns-2 c = simp (sym (c .before .before .in-range .ensures) ∙ not-false _ (c .before .if1 .left), c .clear-flags .ensures)
 
 pub mark-candidates-incomplete-spec : {M : Type 1} → statement M
-mark-candidates-incomplete-spec =
-    tie.close (tie.spec in-range-requires returns clear-flags-requires returns-2)
+mark-candidates-incomplete-spec = tie.close (tie.spec in-range-requires returns clear-flags-requires returns-2)

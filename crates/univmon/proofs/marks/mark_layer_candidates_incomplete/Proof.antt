@@ -34,5 +34,4 @@ unfolding markLayerCall
 returns-3 c = simp (in-range (c .before .before .before), lt-leb _ _ (c .before .if2 .left), c .clear-flag .ensures)
 
 pub mark-layer-candidates-incomplete-spec : {M : Type 1} → statement M
-mark-layer-candidates-incomplete-spec =
-    tie.close (tie.spec in-range-requires returns returns-2 clear-flag-requires returns-3)
+mark-layer-candidates-incomplete-spec = tie.close (tie.spec in-range-requires returns returns-2 clear-flag-requires returns-3)

@@ -53,15 +53,4 @@ returns-4 c =
     )
 
 pub set-total-weight-spec : {M : Type 1} → statement M
-set-total-weight-spec =
-    tie.close
-    (tie.spec
-    in-range-requires
-    returns
-    clashes-requires
-    returns-2
-    returns-3
-    join-requires
-    with-weight-requires
-    with-mode-requires
-    returns-4)
+set-total-weight-spec = tie.close (tie.spec in-range-requires returns clashes-requires returns-2 returns-3 join-requires with-weight-requires with-mode-requires returns-4)

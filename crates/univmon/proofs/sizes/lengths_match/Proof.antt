@@ -56,6 +56,4 @@ returns-4 c =
     rw (cells-are s (s .layers), norm-off s (s .layers), cand-off s (s .layers), eq-eqb _ _ (c .before .before .if1 .left), eq-eqb _ _ (c .before .if2 .left), eq-eqb _ _ (c .if3 .left))
 
 pub lengths-match-spec : {M : Type 1} → statement M
-lengths-match-spec =
-    tie.close
-    (tie.spec mul-rows mul-seats mul-if1 returns mul-if2 returns-2 mul-if3 returns-3 returns-4)
+lengths-match-spec = tie.close (tie.spec mul-rows mul-seats mul-if1 returns mul-if2 returns-2 mul-if3 returns-3 returns-4)

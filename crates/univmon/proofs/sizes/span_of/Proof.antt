@@ -65,19 +65,4 @@ returns c =
     simp (cell-off s l, norm-off s l, cand-off s l)
 
 pub span-of-spec : {M : Type 1} → statement M
-span-of-spec =
-    tie.close
-    (tie.spec
-    mul-table
-    mul-cells
-    add-cells-end
-    mul-row-start
-    mul-norms
-    mul-norms-end
-    add-norms-end
-    mul-seats
-    add-seats-end
-    mul-words
-    mul-words-end
-    add-words-end
-    returns)
+span-of-spec = tie.close (tie.spec mul-table mul-cells add-cells-end mul-row-start mul-norms mul-norms-end add-norms-end mul-seats add-seats-end mul-words mul-words-end add-words-end returns)

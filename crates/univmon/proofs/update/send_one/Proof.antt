@@ -1,0 +1,168 @@
+-- `univmon::update::send_one` meets its contract.
+-- Written by tools/places.py from answers.txt; assumes nothing.
+use Prim.Native.Nat.{_≤_}
+use mathlib.Core.Path.{_≡_, sym, ap, _∙_}
+use mathlib.Core.Bool.{false, _&&_}
+use lib.ListN.{length, getD}
+use native.Mathlib.Omega.{arith}
+use borrow.Author.Needs.{needs}
+use denote.Ref.{now}
+use Rattle.header.specs.Header.{withLayer}
+use Rattle.univmon.specs.Slices.{lent, view, Lent}
+use Rattle.univmon.proofs.Offsets.{cand-off, seats-few}
+use Rattle.layer.specs.Layer.{Layer, layerOf, item, addLayer}
+use Rattle.layer.proofs.Steps.{add-few}
+use Rattle.univmon.specs.State.{dimsAt, layerAt}
+use Rattle.univmon.specs.Updates.{whoAt}
+use Rattle.heap.specs.Offer.{keptBy, lenBy}
+use Rattle.univmon.proofs.Sends.{Spanned, spanned-of, cells-room, norms-room, words-room, seats-room, send-ready, handed-is, Back, back-view, back-standing}
+use Rattle.univmon.proofs.update.send_one.Statement.{statement}
+use Rattle.univmon.proofs.update.send_one.Tie as tie
+
+-- the state that is lent, and where its layer stands
+abbrev lent-of : tie.Start → Lent
+lent-of c = lent (c .args .h) (now (c .args .counters)) (now (c .args .norms)) (now (c .args .entries)) (now (c .args .counts))
+
+spanned : (c : tie.After-span-of) → let s = c .span-of .result in Spanned (c .before .before .before .before .before .args .h .shape) (c .before .before .before .before .before .args .l) (s .cells) (s .«cells_end») (s .norms) (s .«norms_end») (s .words) (s .«words_end») (s .seats) (s .«seats_end»)
+spanned c = spanned-of (c .before .before .before .before .before .args .h .shape) (c .before .before .before .before .before .args .l) (c .span-of .result) (c .span-of .ensures)
+
+cells-ok : (c : tie.After-span-of) → (c .span-of .result .cells ≤ c .span-of .result .«cells_end») × (c .span-of .result .«cells_end» ≤ length (now (c .before .before .before .before .before .args .counters)))
+cells-ok c = let s = spanned c in (omega (arith, s .cellsEnd), cells-room (lent-of (c .before .before .before .before .before)) (c .before .before .before .before .before .pre .standing) (c .before .before .before .before .before .args .l) (c .before .before .before .before .before .pre .inside) _ _ _ _ _ _ _ _ s)
+
+norms-ok : (c : tie.After-span-of) → (c .span-of .result .norms ≤ c .span-of .result .«norms_end») × (c .span-of .result .«norms_end» ≤ length (now (c .before .before .before .before .before .args .norms)))
+norms-ok c = let s = spanned c in (omega (arith, s .normsEnd), norms-room (lent-of (c .before .before .before .before .before)) (c .before .before .before .before .before .pre .standing) (c .before .before .before .before .before .args .l) (c .before .before .before .before .before .pre .inside) _ _ _ _ _ _ _ _ s)
+
+words-ok : (c : tie.After-span-of) → (c .span-of .result .words ≤ c .span-of .result .«words_end») × (c .span-of .result .«words_end» ≤ length (now (c .before .before .before .before .before .args .entries)))
+words-ok c = let s = spanned c in (omega (arith, s .wordsEnd), words-room (lent-of (c .before .before .before .before .before)) (c .before .before .before .before .before .pre .standing) (c .before .before .before .before .before .args .l) (c .before .before .before .before .before .pre .inside) _ _ _ _ _ _ _ _ s)
+
+seats-ok : (c : tie.After-span-of) → (c .span-of .result .seats ≤ c .span-of .result .«seats_end») × (c .span-of .result .«seats_end» ≤ length (now (c .before .before .before .before .before .args .counts)))
+seats-ok c = let s = spanned c in (omega (arith, s .seatsEnd), seats-room (lent-of (c .before .before .before .before .before)) (c .before .before .before .before .before .pre .standing) (c .before .before .before .before .before .args .l) (c .before .before .before .before .before .pre .inside) _ _ _ _ _ _ _ _ s)
+
+span-of-requires : tie.Need-span-of-requires
+span-of-requires c κs = (c .before .before .before .before .pre .standing .accepted, c .before .before .before .before .pre .inside)
+
+dims-requires : tie.Need-dims-requires
+dims-requires c κs = search needs
+
+who-in-requires : tie.Need-who-in-requires
+who-in-requires c κs = let p = c .before .before .before .before .before .before .pre in (omega (arith, p .inside, p .standing .accepted .few), omega (arith, p .inside, p .recorded))
+
+mul-len : tie.Need-mul-len
+mul-len c = let p = c .before .before .before .before .before .before .before .before .pre in let q = p .standing .accepted .few in let i = p .inside in search needs
+
+array-read-len : tie.Need-array-read-len
+array-read-len c = let p = c .before .before .before .before .before .before .before .before .pre in let q = p .standing .accepted .few in let i = p .inside in search needs
+
+mul-add : tie.Need-mul-add
+mul-add c = let b = cells-ok (c .before .before .before) in search needs
+
+sub-add : tie.Need-sub-add
+sub-add c = let b = cells-ok (c .before .before .before) in search needs
+
+part-add-start : tie.Need-part-add-start
+part-add-start c = let b = cells-ok (c .before .before .before) in search needs
+
+part-add-end : tie.Need-part-add-end
+part-add-end c = let b = cells-ok (c .before .before .before) in search needs
+
+mul-add-2 : tie.Need-mul-add-2
+mul-add-2 c = let b = norms-ok (c .before .before .before .before) in search needs
+
+sub-add-2 : tie.Need-sub-add-2
+sub-add-2 c = let b = norms-ok (c .before .before .before .before) in search needs
+
+part-add-start-2 : tie.Need-part-add-start-2
+part-add-start-2 c = let b = norms-ok (c .before .before .before .before) in search needs
+
+part-add-end-2 : tie.Need-part-add-end-2
+part-add-end-2 c = let b = norms-ok (c .before .before .before .before) in search needs
+
+mul-add-3 : tie.Need-mul-add-3
+mul-add-3 c = let b = words-ok (c .before .before .before .before .before) in search needs
+
+sub-add-3 : tie.Need-sub-add-3
+sub-add-3 c = let b = words-ok (c .before .before .before .before .before) in search needs
+
+part-add-start-3 : tie.Need-part-add-start-3
+part-add-start-3 c = let b = words-ok (c .before .before .before .before .before) in search needs
+
+part-add-end-3 : tie.Need-part-add-end-3
+part-add-end-3 c = let b = words-ok (c .before .before .before .before .before) in search needs
+
+mul-add-4 : tie.Need-mul-add-4
+mul-add-4 c =
+    let z = c .before .before .before .before .before .before .before .before .before .before .before .pre in
+    record { fits = omega (arith, (spanned (c .before .before .before .before .before .before)) .seats, cand-off (c .before .before .before .before .before .before .before .before .before .before .before .args .h .shape) (c .before .before .before .before .before .before .before .before .before .before .before .args .l), seats-few (c .before .before .before .before .before .before .before .before .before .before .before .args .h .shape) (z .standing .accepted) (c .before .before .before .before .before .before .before .before .before .before .before .args .l) (omega (arith, z .inside))) }
+
+sub-add-4 : tie.Need-sub-add-4
+sub-add-4 c = let b = seats-ok (c .before .before .before .before .before .before) in search needs
+
+part-add-start-4 : tie.Need-part-add-start-4
+part-add-start-4 c = let b = seats-ok (c .before .before .before .before .before .before) in search needs
+
+part-add-end-4 : tie.Need-part-add-end-4
+part-add-end-4 c = let b = seats-ok (c .before .before .before .before .before .before) in search needs
+
+add-requires : tie.Need-add-requires
+add-requires c κs =
+    let a = c .before .before .before .before .before .before .before .before .before .before .before .before .args in
+    rw (c .before .before .before .before .before .before .dims .ensures, c .before .before .before .before .before .who-in .ensures) (send-ready (lent-of (c .before .before .before .before .before .before .before .before .before .before .before .before)) (now (a .words)) (a .weight) (a .l) (c .before .before .before .before .before .before .before .before .before .before .before .before .pre) _ _ _ _ _ _ _ _ (spanned (c .before .before .before .before .before .before .before)))
+
+len-after-requires : tie.Need-len-after-requires
+len-after-requires c κs = let z = c .before .before .before .before .before .before .before .before .before .before .before .before .before .before .before .before .before .before .before .pre .standing in omega (arith, z .lens (c .before .before .before .before .before .before .before .before .before .before .before .before .before .before .before .before .before .before .before .args .l) (c .before .before .before .before .before .before .before .before .before .before .before .before .before .before .before .before .before .before .before .pre .inside), z .accepted .small)
+
+kept-requires : tie.Need-kept-requires
+kept-requires c κs = search needs
+
+touched-requires : tie.Need-touched-requires
+touched-requires c κs = let p = c .before .before .before .before .before .before .before .before .before .before .before .before .before .before .before .before .before .before .before .before .before .pre in omega (arith, p .inside, p .standing .accepted .few)
+
+same-length : tie.Need-same-length
+same-length c = search needs
+
+same-length-2 : tie.Need-same-length-2
+same-length-2 c = search needs
+
+same-length-3 : tie.Need-same-length-3
+same-length-3 c = search needs
+
+same-length-4 : tie.Need-same-length-4
+same-length-4 c = search needs
+
+-- the parts that came back
+back : (c : tie.After-counts) → let s = c .before .before .before .before .before .before .before .before .before .before .before .before .before .before .span-of .result in let l = c .before .before .before .before .before .before .add .last in
+    Back (lent-of (c .before .before .before .before .before .before .before .before .before .before .before .before .before .before .before .before .before .before .before)) (c .before .before .before .before .before .before .before .before .before .before .before .before .before .before .before .before .before .before .before .pre .standing) (c .before .before .before .before .before .before .before .before .before .before .before .before .before .before .before .before .before .before .before .args .l) (c .before .before .before .before .before .before .before .before .before .before .before .before .before .before .before .before .before .before .before .pre .inside) (s .cells) (s .«cells_end») (s .norms) (s .«norms_end») (s .words) (s .«words_end») (s .seats) (s .«seats_end») (spanned (c .before .before .before .before .before .before .before .before .before .before .before .before .before .before)) (l .0) (l .1 .0) (l .1 .1 .0) (l .1 .1 .1 .0)
+back c = record { cells = c .before .before .before .before .before .counters .given .0; norms = c .before .before .before .before .norms .given .0; words = c .before .before .entries .given .0; seats = c .counts .given .0 }
+
+-- the layer as it came back
+layer-now : (c : tie.After-add) → let a = c .before .before .before .before .before .before .before .before .before .before .before .before .before .args in let l = c .add .last in let f = getD (a .h .flags) (a .l) false in
+    layerOf (dimsAt (a .h .shape) (a .l)) (l .0) (l .1 .0) (l .1 .1 .0) (l .1 .1 .1 .0) (lenBy (c .add .result) (getD (a .h .lens) (a .l) 0)) (f && keptBy (c .add .result))
+    ≡ addLayer (dimsAt (a .h .shape) (a .l)) (item (whoAt (now (a .words)) (a .l)) (a .weight)) (layerAt (view (lent-of (c .before .before .before .before .before .before .before .before .before .before .before .before .before))) (a .l))
+layer-now c =
+    let a = c .before .before .before .before .before .before .before .before .before .before .before .before .before .args in
+    rw (c .before .before .before .before .before .before .before .dims .ensures, c .before .before .before .before .before .before .who-in .ensures) at (c .add .ensures (getD (a .h .flags) (a .l) false))
+    ∙ ap (addLayer (dimsAt (a .h .shape) (a .l)) (item (whoAt (now (a .words)) (a .l)) (a .weight))) (sym (handed-is (lent-of (c .before .before .before .before .before .before .before .before .before .before .before .before .before)) (c .before .before .before .before .before .before .before .before .before .before .before .before .before .pre .standing) (a .l) (c .before .before .before .before .before .before .before .before .before .before .before .before .before .pre .inside) _ _ _ _ _ _ _ _ (spanned (c .before .before .before .before .before .before .before .before))))
+
+-- the header as it is handed back
+header-now : (c : tie.After-touched) → let a = c .before .before .before .before .before .before .before .before .before .before .before .before .before .before .before .before .before .before .before .before .before .before .args in
+    c .touched .result ≡ withLayer (a .h) (a .l) (getD (a .h .flags) (a .l) false && keptBy (c .before .before .before .before .before .before .before .before .before .add .result)) (lenBy (c .before .before .before .before .before .before .before .before .before .add .result) (getD (a .h .lens) (a .l) 0))
+header-now c = rw (c .before .before .len-after .ensures, c .before .kept .ensures) at (c .touched .ensures)
+
+-- no more candidates than seats
+few : (c : tie.After-add) → lenBy (c .add .result) (getD (c .before .before .before .before .before .before .before .before .before .before .before .before .before .args .h .lens) (c .before .before .before .before .before .before .before .before .before .before .before .before .before .args .l) 0) ≤ dimsAt (c .before .before .before .before .before .before .before .before .before .before .before .before .before .args .h .shape) (c .before .before .before .before .before .before .before .before .before .before .before .before .before .args .l) .size
+unfolding layerAt view
+few c =
+    let a = c .before .before .before .before .before .before .before .before .before .before .before .before .before .args in
+    rw (ap (λ (y : Layer). y .table .len) (layer-now c))
+    (add-few (dimsAt (a .h .shape) (a .l)) (item (whoAt (now (a .words)) (a .l)) (a .weight)) (layerAt (view (lent-of (c .before .before .before .before .before .before .before .before .before .before .before .before .before))) (a .l)) (c .before .before .before .before .before .before .before .before .before .before .before .before .before .pre .standing .lens (a .l) (c .before .before .before .before .before .before .before .before .before .before .before .before .before .pre .inside)))
+
+returns : tie.Need-returns
+returns c =
+    let a = c .before .before .before .before .before .before .before .before .before .before .before .before .before .before .before .before .before .before .before .before .before .before .args in
+    let r = lent-of (c .before .before .before .before .before .before .before .before .before .before .before .before .before .before .before .before .before .before .before .before .before .before) in (
+      rw (header-now c) (back-view r (c .before .before .before .before .before .before .before .before .before .before .before .before .before .before .before .before .before .before .before .before .before .before .pre .standing) (a .l) (c .before .before .before .before .before .before .before .before .before .before .before .before .before .before .before .before .before .before .before .before .before .before .pre .inside) _ _ _ _ _ _ _ _ (spanned (c .before .before .before .before .before .before .before .before .before .before .before .before .before .before .before .before .before)) _ _ _ _ _ _ _ (back (c .before .before .before)) (layer-now (c .before .before .before .before .before .before .before .before .before))),
+      rw (header-now c) (back-standing r (c .before .before .before .before .before .before .before .before .before .before .before .before .before .before .before .before .before .before .before .before .before .before .pre .standing) (a .l) (c .before .before .before .before .before .before .before .before .before .before .before .before .before .before .before .before .before .before .before .before .before .before .pre .inside) _ _ _ _ _ _ _ _ (spanned (c .before .before .before .before .before .before .before .before .before .before .before .before .before .before .before .before .before)) _ _ _ _ _ _ (back (c .before .before .before)) (few (c .before .before .before .before .before .before .before .before .before))),
+    )
+
+pub send-one-spec : {M : Type 1} → statement M
+send-one-spec = tie.close (tie.spec span-of-requires dims-requires who-in-requires mul-len array-read-len mul-add sub-add part-add-start part-add-end mul-add-2 sub-add-2 part-add-start-2 part-add-end-2 mul-add-3 sub-add-3 part-add-start-3 part-add-end-3 mul-add-4 sub-add-4 part-add-start-4 part-add-end-4 add-requires len-after-requires kept-requires touched-requires same-length same-length-2 same-length-3 same-length-4 returns)

@@ -1,0 +1,100 @@
+// Both updates: everything is judged before anything is written.
+use crate::sizes::dims;
+use crate::sizes::span_of;
+use header::Header;
+use heap_moves::Who;
+ghost use mathlib.Core.Path.{_≡_};
+ghost use mathlib.Core.Bool.{Bool, true, _&&_};
+ghost use Prim.Native.Nat.{ℕ, _+_, _*_, _≤_, _<_};
+ghost use lib.ListN.{length};
+ghost use Rattle.words.specs.Num.{top};
+ghost use Rattle.layer.specs.Layer.{item, addLayer, addReads, addFits};
+ghost use Rattle.univmon.specs.State.{dimsAt, layerAt, putLayer, overLayers, allLayers};
+ghost use Rattle.univmon.specs.Slices.{lent, view};
+ghost use Rattle.univmon.specs.Updates.{whoAt};
+ghost use Rattle.univmon.specs.Needs.{Standing, SendReady, SendsReady, readsAt, fitsAt, addsAt};
+
+// Who a record names, with the hash of a layer.
+fn who_in(words: &[u64], l: usize) -> Who
+    requires { ⌜ (l < 19) × (4 + 2 * l ≤ length (now words)) ⌝ }
+    ensures { λ r. ⌜ r ≡ whoAt (now (words .entry)) l ⌝ }
+{
+    let at = 2 + 2 * l;
+    Who {
+        key: words[0],
+        bottom: words[1],
+        high: words[at],
+        low: words[at + 1],
+    }
+}
+
+// Sends an update to one layer.
+fn send_one(
+    h: Header,
+    counters: &mut [i64],
+    norms: &mut [u64],
+    entries: &mut [u64],
+    counts: &mut [i64],
+    words: &[u64],
+    weight: u64,
+    l: usize,
+) -> Header
+    requires { ⌜ SendReady (lent h (now counters) (now norms) (now entries) (now counts)) (now words) weight l ⌝ }
+    ensures { λ r. ⌜ view (lent r (now (counters .exit)) (now (norms .exit)) (now (entries .exit)) (now (counts .exit)))
+        ≡ putLayer (view (lent h (now (counters .entry)) (now (norms .entry)) (now (entries .entry)) (now (counts .entry)))) l
+        (addLayer (dimsAt (h .shape) l) (item (whoAt (now (words .entry)) l) weight) (layerAt (view (lent h (now (counters .entry)) (now (norms .entry)) (now (entries .entry)) (now (counts .entry)))) l)) ⌝ }
+    ensures { λ r. ⌜ Standing (lent r (now (counters .exit)) (now (norms .exit)) (now (entries .exit)) (now (counts .exit))) ⌝ }
+{
+    let shape = h.shape;
+    let s = span_of(shape, l);
+    let d = dims(shape, l);
+    let who = who_in(words, l);
+    let lens = h.lens;
+    let len = lens[l];
+    let ca = s.cells;
+    let ce = s.cells_end;
+    let na = s.norms;
+    let ne = s.norms_end;
+    let ea = s.words;
+    let ee = s.words_end;
+    let ta = s.seats;
+    let te = s.seats_end;
+    let answer = layer::add(
+        &mut counters[ca..ce],
+        &mut norms[na..ne],
+        &mut entries[ea..ee],
+        &mut counts[ta..te],
+        d,
+        len,
+        who,
+        weight,
+    );
+    h.touched(l, heap::len_after(len, answer), heap::kept(answer))
+}
+
+// Sends an update to many layers from the first on.
+fn send(
+    h: Header,
+    counters: &mut [i64],
+    norms: &mut [u64],
+    entries: &mut [u64],
+    counts: &mut [i64],
+    words: &[u64],
+    weight: u64,
+    first: usize,
+    many: usize,
+) -> Header
+    requires { ⌜ SendsReady (lent h (now counters) (now norms) (now entries) (now counts)) (now words) weight many first ⌝ }
+    ensures { λ r. ⌜ view (lent r (now (counters .exit)) (now (norms .exit)) (now (entries .exit)) (now (counts .exit)))
+        ≡ overLayers (addsAt (h .shape) (now (words .entry)) weight) many first (view (lent h (now (counters .entry)) (now (norms .entry)) (now (entries .entry)) (now (counts .entry)))) ⌝ }
+    ensures { λ r. ⌜ Standing (lent r (now (counters .exit)) (now (norms .exit)) (now (entries .exit)) (now (counts .exit))) ⌝ }
+{
+    let end = first + many;
+    let mut header = h;
+    let mut l = first;
+    while l < end {
+        header = send_one(header, counters, norms, entries, counts, words, weight, l);
+        l += 1;
+    }
+    header
+}
