@@ -104,7 +104,8 @@ def sources(crate):
 
 
 def joined(text):
-    """an import that the layout broke over several lines, on one"""
+    """an import, or a hole, that the layout broke over several lines, on one"""
+    text = re.sub(r" =\n    \?$", " = ?", text, flags=re.M)
     return re.sub(r"^(use \S+\.\{)\n((?:  .*\n)+)\}$", lambda m: m.group(1) + m.group(2).replace("\n", "").replace("  ", " ").strip().rstrip(",") + "}", text, flags=re.M)
 
 

@@ -1,0 +1,5 @@
+pub mod Places
+pub mod Spans
+pub mod Layers
+pub mod Sames
+pub mod Judges

@@ -1,0 +1,4 @@
+pub mod Sizes
+pub mod Ranks
+pub mod Gathers
+pub mod Levels

@@ -1,0 +1,35 @@
+// The working space of a terminal sum: three arrays, with a place in each for a candidate's key,
+// bottom hash and count. Candidates are taken in, put in order, cut and summed.
+//
+// These functions are called by the other crates of this repository, which show what they require.
+mod order;
+mod step;
+
+pub use order::absorb_one;
+pub use order::rank;
+pub use step::close;
+use sums::G;
+
+// What is asked: g, whether every key counts, and the heap size.
+pub struct Ask {
+    pub g: G,
+    pub every: bool,
+    pub size: usize,
+}
+
+// A layer: its flag, its L2 times its L2, whether it is the last one, and the bit that signs.
+pub struct Place {
+    pub flag: bool,
+    pub square: f64,
+    pub last: bool,
+    pub bit: u32,
+}
+
+// What a layer hands up: how many candidates it retained, which stand in the working space, whether
+// no flag fell so far, the squares and the sum so far.
+pub struct Level {
+    pub n: usize,
+    pub whole: bool,
+    pub squares: f64,
+    pub sum: f64,
+}
