@@ -1,3 +1,5 @@
 pub mod Keys
 pub mod Tables
 pub mod MergedTables
+pub mod SketchLaws
+pub mod Counters
