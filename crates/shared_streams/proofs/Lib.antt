@@ -3,3 +3,5 @@ pub mod Tables
 pub mod MergedTables
 pub mod SketchLaws
 pub mod Counters
+pub mod Ranges
+pub mod Layers
