@@ -5,3 +5,4 @@ pub mod SketchLaws
 pub mod Counters
 pub mod Ranges
 pub mod Layers
+pub mod States
