@@ -6,3 +6,6 @@ pub mod Counters
 pub mod Ranges
 pub mod Layers
 pub mod States
+pub mod BookLaws
+pub mod Relays
+pub mod Refusals
