@@ -9,3 +9,5 @@ pub mod States
 pub mod BookLaws
 pub mod Relays
 pub mod Refusals
+pub mod Reorders
+pub mod Values

@@ -53,15 +53,15 @@ layer-path : {c c′ : List ℤ} {n n′ : List ℕ} {t t′ : List Cand} {k k�
 layer-path p q r s t = λ i. record { sketch = record { cells = p i; norms = q i }; table = record { cands = r i; len = s i }; flag = t i }
 
 module _ (s : State) (z : Sized s) where
-  cell-room : (l : ℕ) → l < s .head .shape .layers → cellOff (s .head .shape) l + dimsAt (s .head .shape) l .rows * dimsAt (s .head .shape) l .cols ≤ length (s .counters)
+  pub cell-room : (l : ℕ) → l < s .head .shape .layers → cellOff (s .head .shape) l + dimsAt (s .head .shape) l .rows * dimsAt (s .head .shape) l .cols ≤ length (s .counters)
   unfolding cellOff
   cell-room l h = omega (arith, z .counters, off-step (λ m. dimsAt (s .head .shape) m .rows * dimsAt (s .head .shape) m .cols) l (s .head .shape .layers) h)
 
-  norm-room : (l : ℕ) → l < s .head .shape .layers → normOff (s .head .shape) l + dimsAt (s .head .shape) l .rows ≤ length (s .norms)
+  pub norm-room : (l : ℕ) → l < s .head .shape .layers → normOff (s .head .shape) l + dimsAt (s .head .shape) l .rows ≤ length (s .norms)
   unfolding normOff
   norm-room l h = omega (arith, z .norms, off-step (λ m. dimsAt (s .head .shape) m .rows) l (s .head .shape .layers) h)
 
-  cand-room : (l : ℕ) → l < s .head .shape .layers → candOff (s .head .shape) l + dimsAt (s .head .shape) l .size ≤ length (s .cands)
+  pub cand-room : (l : ℕ) → l < s .head .shape .layers → candOff (s .head .shape) l + dimsAt (s .head .shape) l .size ≤ length (s .cands)
   unfolding candOff
   cand-room l h = omega (arith, z .cands, off-step (λ m. dimsAt (s .head .shape) m .size) l (s .head .shape .layers) h)
 
