@@ -11,3 +11,4 @@ pub mod Relays
 pub mod Refusals
 pub mod Reorders
 pub mod Values
+pub mod Same

@@ -65,7 +65,7 @@ flat-lengths s z =
     (eq-eqb (length (countsOf (s .cands))) (candsIn (s .head .shape)) (length-counts (s .cands) ∙ z .cands))
 
 -- a norm's two words
-word-at : (ns : List ℕ) (i : ℕ) → i < length ns → normAt (wordsOf ns) i ≡ getD ns i 0
+pub word-at : (ns : List ℕ) (i : ℕ) → i < length ns → normAt (wordsOf ns) i ≡ getD ns i 0
 word-at ns i h = sym (norm-at (wordsOf ns) (length ns) i h) ∙ ap (λ (l : List ℕ). getD l i 0) (norms-words ns)
 
 -- the keys of n entries
