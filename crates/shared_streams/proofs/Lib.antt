@@ -12,3 +12,5 @@ pub mod Refusals
 pub mod Reorders
 pub mod Values
 pub mod Same
+pub mod Calls
+pub mod Takes
