@@ -14,3 +14,4 @@ pub mod Values
 pub mod Same
 pub mod Calls
 pub mod Takes
+pub mod Runs
