@@ -15,3 +15,4 @@ pub mod Same
 pub mod Calls
 pub mod Takes
 pub mod Runs
+pub mod Cardinality
