@@ -160,3 +160,7 @@ distinct-right (x ∷ xs) ys = omega (arith, distinct-right xs ys, distinct-more
 pub distinct-left : (xs ys : List ℕ) → distinct xs ≤ distinct (xs ++ ys)
 distinct-left xs ys =
     omega (arith, distinct-right ys xs, distinct-same (xs ++ ys) (ys ++ xs) (λ k. omega (arith, times-append k xs ys, times-append k ys xs)))
+
+-- a part of the keys is no more
+pub distinct-sub : (xs ys : List ℕ) → ((k : ℕ) → min 1 (times k xs) ≤ min 1 (times k ys)) → distinct xs ≤ distinct ys
+distinct-sub xs ys h = omega (arith, distinct-left xs ys, distinct-same (xs ++ ys) ys (λ k. omega (arith, times-append k xs ys, h k)))

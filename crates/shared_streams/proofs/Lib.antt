@@ -16,3 +16,6 @@ pub mod Calls
 pub mod Takes
 pub mod Runs
 pub mod Cardinality
+pub mod Depths
+pub mod Counting
+pub mod Sent
