@@ -19,3 +19,6 @@ pub mod Cardinality
 pub mod Depths
 pub mod Counting
 pub mod Sent
+pub mod Standard
+pub mod Gathered
+pub mod Terminal
