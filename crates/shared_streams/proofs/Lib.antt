@@ -22,3 +22,5 @@ pub mod Sent
 pub mod Standard
 pub mod Gathered
 pub mod Terminal
+pub mod Claims
+pub mod SharedStreams

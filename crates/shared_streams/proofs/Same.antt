@@ -1,4 +1,4 @@
--- Two states of one shape that are as a book says, and as that book reordered, have the same counters, norms, weight and flags. Assumes nothing.
+-- A state that is as a book says, and one that is as that book reordered says, hold the same counters, norms, weight and flags. Assumes nothing.
 use mathlib.Core.Path.{_≡_, refl, sym, ap, ap₂, _∙_, subst}
 use Prim.Native.Nat.{ℕ, zero, suc, _+_, _-_, _*_, _/_, _%_, _≤_, _<_, min}
 use native.Mathlib.Omega.{arith}
@@ -16,12 +16,12 @@ use Rattle.countsketch_l2_norm.specs.Merge.{sumBelow}
 use Rattle.header.specs.declared.Shape.{Shape}
 use Rattle.header.proofs.Refusals.{Accepted}
 use Rattle.univmon.specs.State.{State, rowsAt, colsAt, dimsAt, cellOff, normOff}
-use Rattle.univmon.specs.Slices.{flat}
-use Rattle.shared_streams.specs.Books.{Book, counterBy, normBy, flagBy, keysSent, Holds, Reordered}
+use Rattle.univmon.specs.Slices.{Lent, flat}
+use Rattle.shared_streams.specs.Books.{Book, counterBy, times, keysSent, Holds, Reordered}
 use Rattle.shared_streams.specs.SharedStreams.{SameValues}
 use Rattle.shared_streams.proofs.Keys.{distinct-same}
 use Rattle.shared_streams.proofs.SketchLaws.{sum-same}
-use Rattle.shared_streams.proofs.States.{off-step}
+use Rattle.shared_streams.proofs.States.{Sized, off-step}
 use Rattle.shared_streams.proofs.Relays.{wide, RelayBy}
 use Rattle.shared_streams.proofs.Reorders.{reordered-cells, reordered-times, reordered-weight}
 use Rattle.shared_streams.proofs.Values.{word-at, holds-by}
@@ -54,69 +54,79 @@ module _ {A : Type 0} (d : A) where
       (λ j l. let s : Spot f n j = spot f n j (subst (λ (m : ℕ). j < m) p l) in
       subst (λ (k : ℕ). getD xs k d ≡ getD ys k d) (sym (s .is)) (h (s .layer) (s .at) (s .below) (s .inside)))
 
--- ---- the values
+-- ---- the values by a book that is reordered
 
-module _ (sh : Shape) (v : Accepted sh) (a b : Book) (s t : State) (p : RelayBy sh a s) (q : RelayBy sh b t) (o : Reordered a b) where
-  long : (u : State) → u .head .shape ≡ sh → (f : Shape → ℕ) (n : ℕ) → n ≡ f (u .head .shape) → n ≡ f sh
-  long u e f n h = h ∙ ap f e
+pub holds-reordered : (sh : Shape) (a b : Book) (r : Lent) → Reordered a b → Holds sh b r → Holds sh a r
+holds-reordered sh a b r o h =
+    record {
+      counters = λ l i c hl hi hc. h .counters l i c hl hi hc ∙ sym (cells l i c);
+      norms = λ l i hl hi.
+          h .norms l i hl hi
+          ∙ sym (sum-same (colsAt sh l) (λ c. capped (counterBy sh b l i c)) (λ c. capped (counterBy sh a l i c)) (λ c hc. ap capped (cells l i c)));
+      weight = h .weight ∙ sym (reordered-weight o);
+      flags = λ l hl. h .flags l hl ∙ ap (λ (n : ℕ). leb n (sh .«heap_size»)) (sym (distinct-same (keysSent sh l a) (keysSent sh l b) (λ k. ap (min 1) (keys l k))));
+      candidates = λ l hl e k. h .candidates l hl e k ∙ ap (min 1) (sym (keys l k));
+    }
+  where
+    cells : (l i c : ℕ) → counterBy sh a l i c ≡ counterBy sh b l i c
+    cells l i c = reordered-cells (colsAt sh l) (sh .layers) l o i c
 
-  holds-a : Holds sh a (flat s)
-  holds-a = holds-by sh a s p
+    keys : (l k : ℕ) → times k (keysSent sh l a) ≡ times k (keysSent sh l b)
+    keys l k = reordered-times (sh .layers) l k o
 
-  holds-b : Holds sh b (flat t)
-  holds-b = holds-by sh b t q
+-- ---- two states that hold one book's values
 
-  same-counter : (l i c : ℕ) → l < sh .layers → i < rowsAt sh l → c < colsAt sh l
-      → getD (s .counters) (cellOff sh l + (i * colsAt sh l + c)) (pos 0) ≡ getD (t .counters) (cellOff sh l + (i * colsAt sh l + c)) (pos 0)
-  unfolding flat
-  same-counter l i c hl hi hc = holds-a .counters l i c hl hi hc ∙ reordered-cells (colsAt sh l) (sh .layers) l o i c ∙ sym (holds-b .counters l i c hl hi hc)
-
+module _ (sh : Shape) (v : Accepted sh) (a : Book) (s t : State) (z : Sized s) (y : Sized t) (p : s .head .shape ≡ sh) (q : t .head .shape ≡ sh)
+    (h : Holds sh a (flat s)) (k : Holds sh a (flat t)) where
   same-counters : s .counters ≡ t .counters
-  unfolding cellOff
+  unfolding flat cellOff
   same-counters =
       layers-same (pos 0) (λ m. rowsAt sh m * colsAt sh m) (sh .layers) (s .counters) (t .counters)
-      (long s (p .shape) (λ (z : Shape). cellOff z (z .layers)) (length (s .counters)) (p .sized .counters))
-      (long t (q .shape) (λ (z : Shape). cellOff z (z .layers)) (length (t .counters)) (q .sized .counters))
-      (λ l i hl hi. subst (λ (k : ℕ). getD (s .counters) (cellOff sh l + k) (pos 0) ≡ getD (t .counters) (cellOff sh l + k) (pos 0)) (div-add-mod' i (colsAt sh l))
-      (same-counter l (i / colsAt sh l) (i % colsAt sh l) hl (div-lt-iff-lt-mul (wide sh v l) .1 hi) (mod-lt i (wide sh v l))))
-
-  norms-long : (u : State) (c : Book) → RelayBy sh c u → length (u .norms) ≡ normOff sh (sh .layers)
-  norms-long u c r = long u (r .shape) (λ (z : Shape). normOff z (z .layers)) (length (u .norms)) (r .sized .norms)
-
-  same-norm : (l i : ℕ) → l < sh .layers → i < rowsAt sh l → normAt (wordsOf (s .norms)) (normOff sh l + i) ≡ normAt (wordsOf (t .norms)) (normOff sh l + i)
-  unfolding flat
-  same-norm l i hl hi =
-      holds-a .norms l i hl hi
-      ∙ sum-same (colsAt sh l) (λ c. capped (counterBy sh b l i c)) (λ c. capped (counterBy sh a l i c)) (λ c hc. ap capped (reordered-cells (colsAt sh l) (sh .layers) l o i c))
-      ∙ sym (holds-b .norms l i hl hi)
+      (z .counters ∙ ap (λ (x : Shape). cellOff x (x .layers)) p) (y .counters ∙ ap (λ (x : Shape). cellOff x (x .layers)) q)
+      (λ l i hl hi. subst (λ (j : ℕ). getD (s .counters) (cellOff sh l + j) (pos 0) ≡ getD (t .counters) (cellOff sh l + j) (pos 0)) (div-add-mod' i (colsAt sh l))
+      (one l (i / colsAt sh l) (i % colsAt sh l) hl (div-lt-iff-lt-mul (wide sh v l) .1 hi) (mod-lt i (wide sh v l))))
+    where
+      one : (l i c : ℕ) → l < sh .layers → i < rowsAt sh l → c < colsAt sh l
+          → getD (s .counters) (cellOff sh l + (i * colsAt sh l + c)) (pos 0) ≡ getD (t .counters) (cellOff sh l + (i * colsAt sh l + c)) (pos 0)
+      one l i c hl hi hc = h .counters l i c hl hi hc ∙ sym (k .counters l i c hl hi hc)
 
   same-norms : s .norms ≡ t .norms
-  unfolding normOff
+  unfolding flat normOff
   same-norms =
-      layers-same 0 (λ m. rowsAt sh m) (sh .layers) (s .norms) (t .norms) (norms-long s a p) (norms-long t b q)
-      (λ l i hl hi. sym (word-at (s .norms) (normOff sh l + i) (room l i s a p hl hi)) ∙ same-norm l i hl hi ∙ word-at (t .norms) (normOff sh l + i) (room l i t b q hl hi))
+      layers-same 0 (λ m. rowsAt sh m) (sh .layers) (s .norms) (t .norms) long-s long-t
+      (λ l i hl hi. sym (word-at (s .norms) (normOff sh l + i) (room l i (s .norms) long-s hl hi)) ∙ h .norms l i hl hi
+      ∙ sym (sym (word-at (t .norms) (normOff sh l + i) (room l i (t .norms) long-t hl hi)) ∙ k .norms l i hl hi))
     where
-      room : (l i : ℕ) (u : State) (c : Book) → RelayBy sh c u → l < sh .layers → i < rowsAt sh l → normOff sh l + i < length (u .norms)
-      room l i u c r hl hi = omega (arith, norms-long u c r, off-step (λ m. rowsAt sh m) l (sh .layers) hl)
+      long-s : length (s .norms) ≡ normOff sh (sh .layers)
+      long-s = z .norms ∙ ap (λ (x : Shape). normOff x (x .layers)) p
 
-  same-flags : s .head .flags ≡ t .head .flags
+      long-t : length (t .norms) ≡ normOff sh (sh .layers)
+      long-t = y .norms ∙ ap (λ (x : Shape). normOff x (x .layers)) q
+
+      room : (l i : ℕ) (ns : List ℕ) → length ns ≡ normOff sh (sh .layers) → l < sh .layers → i < rowsAt sh l → normOff sh l + i < length ns
+      room l i ns e hl hi = omega (arith, e, off-step (λ m. rowsAt sh m) l (sh .layers) hl)
+
+  same-flags : ((l : ℕ) → sh .layers ≤ l → getD (s .head .flags) l false ≡ getD (t .head .flags) l false) → s .head .flags ≡ t .head .flags
   unfolding flat
-  same-flags =
-      ext-getD false (s .head .flags) (t .head .flags) (p .sized .flags ∙ sym (q .sized .flags)) (λ l h. go l (decLt l (sh .layers)))
+  same-flags past = ext-getD false (s .head .flags) (t .head .flags) (z .flags ∙ sym (y .flags)) (λ l m. go l (decLt l (sh .layers)))
     where
       go : (l : ℕ) → Dec (l < sh .layers) → getD (s .head .flags) l false ≡ getD (t .head .flags) l false
-      go l (yes h) =
-          holds-a .flags l h
-          ∙ ap (λ (n : ℕ). leb n (sh .«heap_size»)) (distinct-same (keysSent sh l a) (keysSent sh l b) (λ k. ap (min 1) (reordered-times (sh .layers) l k o)))
-          ∙ sym (holds-b .flags l h)
-      go l (no h) = p .pastFlags l (omega arith) ∙ sym (q .pastFlags l (omega arith))
+      go l (yes m) = h .flags l m ∙ sym (k .flags l m)
+      go l (no m) = past l (omega arith)
 
-  pub same-values : SameValues (flat s) (flat t)
-  unfolding flat
-  same-values =
-      record {
-        counters = same-counters;
-        norms = ap wordsOf same-norms;
-        weight = p .weight ∙ reordered-weight o ∙ sym (q .weight);
-        flags = same-flags;
-      }
+-- a fresh relay that took the book in another order
+pub same-values : (sh : Shape) → Accepted sh → (a b : Book) (s t : State) → RelayBy sh a s → RelayBy sh b t → Reordered a b → SameValues (flat t) (flat s)
+unfolding flat
+same-values sh v a b s t p q o =
+    record {
+      counters = same-counters sh v a t s (q .sized) (p .sized) (q .shape) (p .shape) k h;
+      norms = ap wordsOf (same-norms sh v a t s (q .sized) (p .sized) (q .shape) (p .shape) k h);
+      weight = k .weight ∙ sym (h .weight);
+      flags = same-flags sh v a t s (q .sized) (p .sized) (q .shape) (p .shape) k h (λ l m. q .pastFlags l m ∙ sym (p .pastFlags l m));
+    }
+  where
+    h : Holds sh a (flat s)
+    h = holds-by sh a s p
+
+    k : Holds sh a (flat t)
+    k = holds-reordered sh a b (flat t) o (holds-by sh b t q)
