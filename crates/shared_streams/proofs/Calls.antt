@@ -1,6 +1,6 @@
 -- One accepted call on headers and slices that are as their books say. Assumes nothing.
-use mathlib.Core.Path.{_≡_, refl, sym, ap, ap₂, _∙_, subst}
-use Prim.Native.Nat.{ℕ, zero, suc, _+_, _*_, _≤_}
+use mathlib.Core.Path.{_≡_, refl, sym, ap, _∙_, subst}
+use Prim.Native.Nat.{ℕ, zero, suc, _+_, _*_}
 use native.Mathlib.Omega.{arith}
 use mathlib.Core.Bool.{Bool, true, false, cond, not, _||_}
 use mathlib.Core.List.{List, [], _∷_, _++_}
@@ -10,10 +10,9 @@ use lib.Dec.{leb, eqb}
 use borrow.Author.Tests.{leb-true, eqb-true, not-false}
 use Rattle.words.specs.Num.{top}
 use Rattle.countsketch_l2_norm.specs.Norms.{wordsOf}
-use Rattle.heap_moves.specs.Cands.{Cand, noCand}
+use Rattle.heap_moves.specs.Cands.{noCand}
 use Rattle.heap_moves.specs.Flat.{entriesOf, countsOf}
 use Rattle.header.specs.declared.Shape.{Shape}
-use Rattle.header.specs.declared.Header.{Header}
 use Rattle.header.specs.Shape.{shapeRefusal}
 use Rattle.header.specs.Header.{freshHeader}
 use Rattle.header.proofs.Refusals.{accepted-of}

@@ -1,27 +1,25 @@
 -- For crate `sums`, whose own branch has it too: to be cited from there once that has landed.
 -- With every key counted as one the float recursion is the whole one, and this counts the keys of layer 0 that lost none. Assumes nothing.
-use Prim.Native.Nat.{ℕ, zero, suc, _+_, _-_, _*_, _/_, _%_, _^_, _≤_, _<_}
+use Prim.Native.Nat.{ℕ, zero, suc, _+_, _*_, _/_, _%_, _^_, _≤_, _<_}
 use mathlib.Core.Path.{_≡_, refl, sym, ap, _∙_}
 use mathlib.Core.Bool.{Bool, true, false, cond}
 use mathlib.Core.List.{List, [], _∷_}
 use native.Mathlib.Omega.{arith}
 use lib.ListN.{length}
-use lib.Pow.{pow-pos, pow-mono}
-use native.Mathlib.Nat.{pow-suc, add-zero, add-suc}
+use lib.Pow.{pow-mono}
+use native.Mathlib.Nat.{pow-suc}
 use lib.IntN.{ℤ, pos, negsuc, natAbs, subℕ, _+ℤ_, _*ℤ_, +ℤ-assoc, +ℤ-comm, +ℤ-idl, +ℤ-idr}
-use lib.Dec.{eqb, ltb, leb}
-use borrow.Author.Tests.{eq-eqb, ne-eqb, le-ltb, eqb-true}
+use lib.Dec.{eqb}
+use borrow.Author.Tests.{eq-eqb, le-ltb, eqb-true}
 use lib.Ieee.{Float, binary64, add, sub, mul, ofInt, ofBits}
 use Rattle.float64.specs.Values.{two}
-use Rattle.float64.proofs.Ints.{add-int, term-int, step-int, one-is, two-is, nought-is}
+use Rattle.float64.proofs.Ints.{add-int, term-int, step-int, one-is, nought-is}
 use Rattle.words.proofs.Signed.{abs-add, abs-mul}
 use Rattle.sums.specs.Entries.{Entry}
 use Rattle.sums.specs.Terms.{nought, one, gOf, factor, counted, addTerm, sumOver}
 use Rattle.sums.specs.Layers.{ruleAt, gSum}
 use Rattle.sums.specs.Whole.{bitOff, bitSum, keySum, onward, times}
-use Rattle.sums.specs.declared.G.{G}
 use Rattle.sums.specs.declared.G.the-variants.{One}
-use Rattle.sums.specs.declared.Rule.{Rule}
 
 -- the factor of a bit that is 0, and of one that is 1
 factor-off : sub binary64 one (mul binary64 two (ofInt binary64 (pos 0))) ≡ ofInt binary64 (pos 1)

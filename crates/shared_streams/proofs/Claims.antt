@@ -1,12 +1,11 @@
 -- What is claimed of a relay that is as its book says. Assumes nothing.
 use mathlib.Core.Path.{_≡_, refl, sym, ap, _∙_, subst}
-use Prim.Native.Nat.{ℕ, suc, _+_, _-_, _≤_, _<_, min}
+use Prim.Native.Nat.{ℕ, suc, _-_, _≤_, min}
 use native.Mathlib.Omega.{arith}
-use mathlib.Core.Bool.{Bool, true, false, cond, and-false}
+use mathlib.Core.Bool.{Bool, true, cond, and-false}
 use mathlib.Core.List.{List, []}
-use lib.ListN.{length}
 use lib.IntN.{pos}
-use lib.Dec.{eqb, leb}
+use lib.Dec.{eqb}
 use lib.Ieee.{binary64, ofInt}
 use borrow.Author.Tests.{le-leb}
 use Rattle.header.specs.declared.Shape.{Shape}
@@ -23,7 +22,7 @@ use Rattle.univmon.specs.Calls.{Outcome}
 use Rattle.sums.specs.Terminal.{terminalSum, heavy}
 use Rattle.sums.specs.Layers.{standardSum}
 use Rattle.sums.specs.declared.G.the-variants as g
-use Rattle.estimates.specs.Sums.{ownAt, strataOf, sumBy, gSumOf, cardinalityOf, sumRefusal}
+use Rattle.estimates.specs.Sums.{strataOf, sumBy, gSumOf, cardinalityOf, sumRefusal}
 use Rattle.shared_streams.specs.Books.{Book, bookKeys, keysSent, times, distinct, OneRecord, Reordered, Holds}
 use Rattle.shared_streams.specs.Relays.{Relay, takes}
 use Rattle.shared_streams.specs.SharedStreams.{SameValues, Alone, Claimed}

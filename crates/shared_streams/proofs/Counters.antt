@@ -15,10 +15,10 @@ use Rattle.words.specs.Num.{capped}
 use Rattle.matrix_storage.specs.Bits.{column, signed}
 use Rattle.matrix_storage.proofs.Cells.{column-lt}
 use Rattle.countsketch_l2_norm.specs.Sketch.{Sketch, cellOf, cellAt, addCell, addRow, addRows}
-use Rattle.countsketch_l2_norm.specs.Merge.{sumBelow, squaresFrom, rowNorm, rowNorms, sums, mergeSketch}
+use Rattle.countsketch_l2_norm.specs.Merge.{sumBelow, squaresFrom, rowNorms, sums, mergeSketch}
 use Rattle.layer.specs.Layer.{Item, hashBy}
 use Rattle.shared_streams.specs.Books.{cellSum}
-use Rattle.shared_streams.proofs.SketchLaws.{place-lt, same-row, same-col, length-rowNorms, row-at, length-sums, length-cell, Kept, kept-rows}
+use Rattle.shared_streams.proofs.SketchLaws.{place-lt, same-row, same-col, length-rowNorms, row-at, length-sums, Kept, kept-rows}
 
 pub record SketchBy (rows cols : ℕ) (us : List Item) (s : Sketch) : Type 0 where
   pub long : length (s .cells) ≡ rows * cols

@@ -1,7 +1,7 @@
 -- The recursion counts the keys of a layer whose list, and those of the layers below, hold just the keys that go so deep, each once. Assumes nothing.
 use mathlib.Core.Path.{_≡_, refl, sym, ap, _∙_}
 use mathlib.Core.Logic.{_⊎_, inl, inr}
-use Prim.Native.Nat.{ℕ, zero, suc, _+_, _/_, _%_, _^_, _≤_, _<_, min}
+use Prim.Native.Nat.{ℕ, suc, _+_, _≤_, _<_, min}
 use native.Mathlib.Omega.{arith}
 use mathlib.Core.Bool.{true≢false, Bool, true, false, cond, not, _&&_}
 use mathlib.Core.List.{List, [], _∷_, map}

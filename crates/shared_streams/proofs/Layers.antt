@@ -1,8 +1,8 @@
 -- A layer by the updates that were sent to it: none, one more, two layers merged, another order; and no call on such a layer is refused. Assumes nothing.
 use mathlib.Core.Path.{_≡_, refl, sym, ap, _∙_}
-use Prim.Native.Nat.{ℕ, _+_, _*_, _≤_, _<_, min}
+use Prim.Native.Nat.{ℕ, _+_, _≤_, _<_, min}
 use native.Mathlib.Omega.{arith}
-use mathlib.Core.Bool.{Bool, true, false, not, _&&_, _||_}
+use mathlib.Core.Bool.{Bool, true, false, not, _||_}
 use mathlib.Core.List.{List, [], _∷_, _++_, map, List·Memᴰ}
 use lib.ListN.{getD, length-replicate}
 use lib.IntN.{ℤ}
@@ -16,7 +16,6 @@ use Rattle.countsketch_l2_norm.specs.L2.{normsIn}
 use Rattle.heap_moves.specs.declared.Who.{Who}
 use Rattle.heap_moves.specs.Cands.{noCand}
 use Rattle.heap_moves.specs.Totals.{total}
-use Rattle.heap.specs.Offer.{Table}
 use Rattle.heap.specs.Keys.{held}
 use Rattle.layer.specs.declared.Dims.{Dims}
 use Rattle.layer.specs.Layer.{Item, Layer, hashBy, countOf, addSketch, addLayer, countsRead, addReads, addFits, noLayer}

@@ -13,7 +13,7 @@ use Rattle.heap_moves.specs.declared.Who.{Who}
 use Rattle.heap_moves.specs.Cands.{Cand, noCand}
 use Rattle.heap_moves.specs.Flat.{candOf}
 use Rattle.heap_moves.specs.Totals.{total, Each}
-use Rattle.heap.specs.Offer.{Table, Offered, offer}
+use Rattle.heap.specs.Offer.{Table, Offered}
 use Rattle.heap.specs.Keys.{hit, held, gainedBy, lostBy}
 use Rattle.heap.proofs.Effects.{Effect, rescored, seated, displaced, turned-away, offer-effect, offer-held}
 use Rattle.heap.proofs.Sounds.{offer-long}

@@ -1,32 +1,32 @@
 -- No call on relays that are as their books say is refused, but for a clash of modes, a weight that is too large, or a record of the wrong length. Assumes nothing.
-use mathlib.Core.Path.{_≡_, refl, sym, ap, ap₂, _∙_, subst}
-use Prim.Native.Nat.{ℕ, zero, suc, _+_, _*_, _≤_, _<_}
+use mathlib.Core.Path.{_≡_, refl, sym, ap, subst}
+use Prim.Native.Nat.{ℕ, zero, suc, _+_, _≤_}
 use native.Mathlib.Omega.{arith}
 use mathlib.Core.Bool.{Bool, true, false, cond, not, _&&_, _||_}
 use mathlib.Core.List.{List, [], _∷_}
 use lib.ListN.{length, getD}
-use lib.IntN.{ℤ, pos}
+use lib.IntN.{pos}
 use lib.Dec.{eqb, leb, ltb}
 use borrow.Author.Tests.{le-leb, eq-eqb, ltb-true, ltb-false}
 use Rattle.words.specs.Num.{top}
 use Rattle.words.proofs.Bools.{both}
 use Rattle.header.specs.declared.Shape.{Shape}
-use Rattle.header.specs.Shape.{maxLayers, shapeRefusal, bottomOf}
-use Rattle.header.specs.Header.{clash, layerOk, lensFrom, headerOk}
+use Rattle.header.specs.Shape.{maxLayers, shapeRefusal}
+use Rattle.header.specs.Header.{clash, lensFrom, headerOk}
 use Rattle.header.proofs.Bottoms.{bottom-lt}
 use Rattle.header.proofs.Refusals.{Accepted, accepted-of}
 use Rattle.layer.specs.Layer.{Item, addReads, addFits}
 use Rattle.layer.specs.Merge.{mergeReads, mergeFits}
 use Rattle.univmon.specs.declared.Kind.{Kind}
 use Rattle.univmon.specs.State.{State, dimsAt, cellOff, normOff, candOff, layerAt, allLayers, sizesOk}
-use Rattle.univmon.specs.Judged.{Out, refused, done, judge, unsound}
+use Rattle.univmon.specs.Judged.{refused, done, judge, unsound}
 use Rattle.univmon.specs.Updates.{recordLength, bottomWord, bottomBy, itemAt, modeOf, firstSent, manySent, sentAll, updateTests, updated, update}
 use Rattle.univmon.specs.Merges.{sameShape, mergeTests, merged, merge}
 use Rattle.estimates.specs.Norms.{isTerminal}
 use Rattle.estimates.specs.Sums.{layerReads, sumReads, sumRefusal, headerAlone}
 use Rattle.shared_streams.specs.Books.{Book, sent}
 use Rattle.shared_streams.proofs.Ranges.{weights}
-use Rattle.shared_streams.proofs.Layers.{LayerBy, layer-reads, layer-fits, merge-reads, merge-fits, sum-reads}
+use Rattle.shared_streams.proofs.Layers.{layer-reads, layer-fits, merge-reads, merge-fits, sum-reads}
 use Rattle.shared_streams.proofs.States.{all-layers}
 use Rattle.shared_streams.proofs.BookLaws.{sent-room, sent-weights}
 use Rattle.shared_streams.proofs.Relays.{wide, RelayBy}

@@ -1,21 +1,21 @@
 -- A state that is as a book says, and one that is as that book reordered says, hold the same counters, norms, weight and flags. Assumes nothing.
-use mathlib.Core.Path.{_≡_, refl, sym, ap, ap₂, _∙_, subst}
+use mathlib.Core.Path.{_≡_, sym, ap, _∙_, subst}
 use Prim.Native.Nat.{ℕ, zero, suc, _+_, _-_, _*_, _/_, _%_, _≤_, _<_, min}
 use native.Mathlib.Omega.{arith}
 use native.Mathlib.Nat.{mod-lt, div-add-mod', div-lt-iff-lt-mul}
 use native.Mathlib.Decide.{decLt}
-use mathlib.Core.Bool.{Bool, false}
+use mathlib.Core.Bool.{false}
 use mathlib.Core.List.{List}
 use lib.ListN.{length, getD}
 use lib.Seq.{ext-getD}
-use lib.IntN.{ℤ, pos}
+use lib.IntN.{pos}
 use lib.Dec.{leb}
 use Rattle.words.specs.Num.{capped}
-use Rattle.countsketch_l2_norm.specs.Norms.{wordsOf, normAt}
+use Rattle.countsketch_l2_norm.specs.Norms.{wordsOf}
 use Rattle.countsketch_l2_norm.specs.Merge.{sumBelow}
 use Rattle.header.specs.declared.Shape.{Shape}
 use Rattle.header.proofs.Refusals.{Accepted}
-use Rattle.univmon.specs.State.{State, rowsAt, colsAt, dimsAt, cellOff, normOff}
+use Rattle.univmon.specs.State.{State, rowsAt, colsAt, cellOff, normOff}
 use Rattle.univmon.specs.Slices.{Lent, flat}
 use Rattle.shared_streams.specs.Books.{Book, counterBy, times, keysSent, Holds, Reordered}
 use Rattle.shared_streams.specs.SharedStreams.{SameValues}

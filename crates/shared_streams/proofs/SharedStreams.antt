@@ -1,30 +1,25 @@
 -- Demand 3, proved: the statements stand in specs/SharedStreams.antt. Assumes nothing.
 use mathlib.Core.Path.{_≡_, refl, sym, ap, ap₂, _∙_, subst}
-use Prim.Native.Nat.{ℕ, _+_, _≤_, _<_}
 use native.Mathlib.Omega.{arith}
 use mathlib.Core.Bool.{Bool, true, false, not, cond}
-use mathlib.Core.List.{List, [], _∷_, _++_, List·Memᴰ·head, List·Memᴰ·cases-cons, List·Memᴰ·not-nil, Memᴰ·append-right}
+use mathlib.Core.List.{[], _∷_, _++_, List·Memᴰ·head, List·Memᴰ·cases-cons, List·Memᴰ·not-nil, Memᴰ·append-right}
 use mathlib.Core.Logic.{_⊎_, inl, inr}
 use lib.ListN.{length}
-use lib.IntN.{ℤ}
 use lib.Dec.{eqb}
 use borrow.Author.Tests.{eqb-true, eqb-false}
-use Rattle.words.specs.Num.{top}
 use Rattle.header.specs.declared.Shape.{Shape}
-use Rattle.header.specs.declared.Mode.{Mode}
 use Rattle.header.specs.Shape.{shapeRefusal}
 use Rattle.header.specs.Header.{clash, zeroHeader}
 use Rattle.univmon.specs.declared.Kind.{Kind}
 use Rattle.univmon.specs.declared.Kind.the-variants as kind
-use Rattle.univmon.specs.State.{State}
 use Rattle.univmon.specs.Judged.{done}
 use Rattle.univmon.specs.Updates.{modeOf}
 use Rattle.univmon.specs.Merges.{merged, merge}
-use Rattle.univmon.specs.Slices.{Lent, lent, lengthsOk, view, flat, freshLent}
+use Rattle.univmon.specs.Slices.{lent, lengthsOk, view, flat, freshLent}
 use Rattle.univmon.specs.Calls.{Outcome, Left, left, newCall, mergeCall}
-use Rattle.shared_streams.specs.Books.{Update, Book, Among, weightOf, OneMode, OneRecord}
-use Rattle.shared_streams.specs.Relays.{Relay, start, relayAt, run, accepted, takes}
-use Rattle.shared_streams.specs.SharedStreams.{Theorem, Premises, Counted, Corollary, TwoShares, Fresh, Claimed}
+use Rattle.shared_streams.specs.Books.{Update, Book, Among, OneMode}
+use Rattle.shared_streams.specs.Relays.{Relay, start, relayAt, run, accepted}
+use Rattle.shared_streams.specs.SharedStreams.{Theorem, Corollary, TwoShares, Fresh, Claimed}
 use Rattle.shared_streams.proofs.BookLaws.{AllE, weight-append, bookMode}
 use Rattle.shared_streams.proofs.Relays.{RelayBy}
 use Rattle.shared_streams.proofs.Refusals.{merge-accepted}

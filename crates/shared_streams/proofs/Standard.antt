@@ -1,6 +1,6 @@
 -- A layer's own candidates by the book, with one record per key; and the standard sum with every key counted. Assumes nothing.
 use mathlib.Core.Path.{_≡_, refl, sym, ap, _∙_}
-use Prim.Native.Nat.{ℕ, zero, suc, _+_, _-_, _*_, _≤_, _<_, min}
+use Prim.Native.Nat.{ℕ, suc, _+_, _≤_, _<_, min}
 use native.Mathlib.Omega.{arith}
 use mathlib.Core.Bool.{Bool, true, false, cond}
 use mathlib.Core.List.{List, [], _∷_, map}
@@ -19,7 +19,6 @@ use Rattle.layer.specs.Merge.{whos}
 use Rattle.univmon.specs.declared.Kind.{Kind}
 use Rattle.univmon.specs.declared.Kind.the-variants as kind
 use Rattle.univmon.specs.State.{State, dimsAt, layerAt}
-use Rattle.sums.specs.Entries.{Entry}
 use Rattle.sums.specs.Layers.{gSum}
 use Rattle.sums.specs.declared.G.the-variants as g
 use Rattle.estimates.specs.Sums.{entryBy, ownAt}
@@ -29,7 +28,7 @@ use Rattle.shared_streams.proofs.Tables.{whoKeys, held-times, length-wh
 use Rattle.shared_streams.proofs.MergedTables.{AllW, allW-whos}
 use Rattle.shared_streams.proofs.BookLaws.{AllE}
 use Rattle.shared_streams.proofs.Relays.{RelayBy}
-use Rattle.shared_streams.proofs.Counting.{keysOf, AllN, Bottomed, Reaching, sum-counts}
+use Rattle.shared_streams.proofs.Counting.{keysOf, AllN, Bottomed, sum-counts}
 use Rattle.shared_streams.proofs.Sent.{Hashed, botBy, sent-times, sent-bottoms}
 
 -- ---- a layer's own candidates

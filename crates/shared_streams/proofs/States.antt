@@ -4,13 +4,11 @@ use mathlib.Core.Logic.{_≢_}
 use Prim.Native.Nat.{ℕ, zero, suc, _+_, _*_, _≤_, _<_}
 use native.Mathlib.Omega.{arith}
 use native.Mathlib.Decide.{ℕ-discrete, decLt}
-use mathlib.Core.Bool.{Bool, true, false, _&&_}
+use mathlib.Core.Bool.{Bool, true, false}
 use mathlib.Core.List.{List}
-use lib.ListN.{length, getD, set, length-set}
+use lib.ListN.{length, getD, length-set}
 use lib.Seq.{getD-set-same, getD-set-other}
 use lib.IntN.{ℤ}
-use Rattle.words.specs.Parts.{part, putPart}
-use Rattle.words.proofs.Bools.{both}
 use Rattle.words.proofs.Parts.{length-part, length-put, put-same, put-before, put-after}
 use Rattle.countsketch_l2_norm.specs.Merge.{sumBelow}
 use Rattle.heap_moves.specs.Cands.{Cand}

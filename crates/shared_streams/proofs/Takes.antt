@@ -1,9 +1,9 @@
 -- One relay takes a book's updates in turn: it is then as the book says, and it refuses none of one mode, of right lengths and of at most 2^52 in all. Assumes nothing.
 use mathlib.Core.Path.{_≡_, refl, sym, ap, ap₂, _∙_, subst}
-use Prim.Native.Nat.{ℕ, _+_, _≤_}
+use Prim.Native.Nat.{_+_, _≤_}
 use native.Mathlib.Omega.{arith}
 use mathlib.Core.Bool.{false}
-use mathlib.Core.List.{List, [], _∷_, _++_, append-nil, append-assoc}
+use mathlib.Core.List.{[], _∷_, _++_, append-nil, append-assoc}
 use lib.ListN.{length}
 use lib.IntN.{pos}
 use Rattle.words.specs.Num.{top}

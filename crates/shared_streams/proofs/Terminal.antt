@@ -1,10 +1,9 @@
 -- The terminal sum with every key counted, of a book with at most heap size distinct keys and one record per key. Assumes nothing.
 use mathlib.Core.Path.{_≡_, refl, sym, ap, _∙_, subst}
-use mathlib.Core.Logic.{_⊎_, inl, inr, _≢_}
-use Prim.Native.Nat.{ℕ, zero, suc, _+_, _-_, _≤_, _<_, min}
+use Prim.Native.Nat.{ℕ, zero, suc, _+_, _≤_, _<_, min}
 use native.Mathlib.Omega.{arith}
 use mathlib.Core.Bool.{Bool, true, false, cond}
-use mathlib.Core.List.{List, [], _∷_}
+use mathlib.Core.List.{List, []}
 use lib.ListN.{length, take, length-map, length-take}
 use lib.Seq.{take-all}
 use lib.IntN.{ℤ, pos}
@@ -19,10 +18,10 @@ use Rattle.univmon.specs.declared.Kind.the-variants as kind
 use Rattle.univmon.specs.State.{State, layerAt}
 use Rattle.sums.specs.Entries.{Entry}
 use Rattle.sums.specs.Layers.{gSum}
-use Rattle.sums.specs.Terminal.{gather, ranked, Strata, gathered, retained}
+use Rattle.sums.specs.Terminal.{gather, ranked, gathered, retained}
 use Rattle.sums.specs.declared.G.the-variants as g
 use Rattle.estimates.specs.Sums.{ownAt, strataOf}
-use Rattle.shared_streams.specs.Books.{Book, bookKeys, reaches, keysSent, times, distinct}
+use Rattle.shared_streams.specs.Books.{Book, bookKeys, keysSent, times, distinct}
 use Rattle.shared_streams.proofs.Keys.{once-length, distinct-sub}
 use Rattle.shared_streams.proofs.BookLaws.{AllE}
 use Rattle.shared_streams.proofs.Relays.{RelayBy}

@@ -1,44 +1,33 @@
 -- The header and slices of a state that is as its book says hold the book's values, and those of a reordered book are the same. Assumes nothing.
 use mathlib.Core.Path.{_≡_, refl, sym, ap, ap₂, _∙_, subst}
-use Prim.Native.Nat.{ℕ, zero, suc, _+_, _*_, _/_, _%_, _≤_, _<_, min}
+use Prim.Native.Nat.{ℕ, zero, suc, _+_, _*_, _≤_, _<_}
 use native.Mathlib.Omega.{arith}
-use native.Mathlib.Nat.{mod-lt, div-add-mod', div-lt-iff-lt-mul}
-use native.Mathlib.Decide.{decLt}
-use mathlib.Core.Bool.{Bool, true, false}
-use mathlib.Core.List.{List, [], _∷_, _++_, map}
+use mathlib.Core.Bool.{true}
+use mathlib.Core.List.{List, [], _∷_, map}
 use lib.ListN.{length, getD, take, drop}
-use lib.Seq.{take-all, take-take, take-add, drop-cons, ext-getD}
+use lib.Seq.{take-take, drop-cons}
 use lib.IntN.{ℤ, pos}
-use lib.Dec.{leb, eqb}
 use borrow.Author.Tests.{eq-eqb}
 use Rattle.words.specs.Num.{capped}
-use Rattle.words.specs.Parts.{part}
 use Rattle.words.proofs.Bools.{both}
 use Rattle.words.proofs.Parts.{part-at}
 use Rattle.countsketch_l2_norm.specs.Norms.{normsOf, wordsOf, normAt}
-use Rattle.countsketch_l2_norm.specs.Sketch.{Sketch, cellAt}
-use Rattle.countsketch_l2_norm.specs.Merge.{sumBelow, squaresFrom, rowNorm, rowNorms}
-use Rattle.heap_moves.specs.declared.Who.{Who}
+use Rattle.countsketch_l2_norm.specs.Sketch.{cellAt}
+use Rattle.countsketch_l2_norm.specs.Merge.{squaresFrom}
 use Rattle.heap_moves.specs.Cands.{Cand, noCand}
-use Rattle.heap_moves.specs.Flat.{candsOf, entriesOf, countsOf}
+use Rattle.heap_moves.specs.Flat.{entriesOf, countsOf}
 use Rattle.heap_moves.proofs.Rounds.{cands-entries, length-entries, length-counts}
 use Rattle.heap_moves.proofs.Views.{cand-at}
 use Rattle.header.specs.declared.Shape.{Shape}
 use Rattle.header.specs.declared.Header.{Header}
-use Rattle.layer.specs.Layer.{Item}
 use Rattle.layer.specs.Merge.{whos}
-use Rattle.univmon.specs.State.{State, rowsAt, colsAt, dimsAt, cellOff, normOff, candOff, layerAt}
-use Rattle.univmon.specs.Slices.{Lent, cellsIn, normsIn, candsIn, lengthsOk, lentOk, view, flat}
-use Rattle.shared_streams.specs.Books.{Book, sent, cellSum, distinct, times, itemKeys, counterBy, normBy, entryKeys, Holds, Reordered}
-use Rattle.shared_streams.specs.SharedStreams.{SameValues}
-use Rattle.shared_streams.proofs.Keys.{distinct-same}
+use Rattle.univmon.specs.State.{State, rowsAt, colsAt, cellOff, normOff, candOff, layerAt}
+use Rattle.univmon.specs.Slices.{cellsIn, normsIn, candsIn, lengthsOk, lentOk, view, flat}
+use Rattle.shared_streams.specs.Books.{Book, times, counterBy, normBy, entryKeys, Holds}
 use Rattle.shared_streams.proofs.Tables.{whoKeys, held-times}
 use Rattle.shared_streams.proofs.SketchLaws.{place-lt, norm-at, norms-words, row-at, sum-same}
-use Rattle.shared_streams.proofs.Counters.{SketchBy}
-use Rattle.shared_streams.proofs.Layers.{LayerBy}
 use Rattle.shared_streams.proofs.States.{Sized, norm-room, cand-room}
 use Rattle.shared_streams.proofs.Relays.{RelayBy}
-use Rattle.shared_streams.proofs.Reorders.{reordered-cells, reordered-times, reordered-weight}
 
 -- ---- a state and its slices
 
