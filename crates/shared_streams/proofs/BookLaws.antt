@@ -4,31 +4,20 @@ use mathlib.Core.Logic.{_⊎_, inl, inr}
 use Prim.Native.Nat.{ℕ, _+_, _≤_, _<_}
 use native.Mathlib.Omega.{arith}
 use mathlib.Core.Bool.{true≢false, Bool, true, false, cond}
-use mathlib.Core.List.{List, [], _∷_, _++_}
+use mathlib.Core.List.{List, [], _∷_, _++_, List·Memᴰ·head, Memᴰ·append-right}
+use lib.ListN.{length}
 use borrow.Author.Tests.{le-leb, lt-leb, eq-eqb, ne-eqb}
+use Rattle.header.specs.declared.Shape.{Shape}
 use Rattle.header.specs.declared.Mode.{Mode}
 use Rattle.header.specs.declared.Mode.the-variants as mode
 use Rattle.header.specs.Header.{clash, joined}
 use Rattle.layer.specs.Layer.{Item}
 use Rattle.univmon.specs.declared.Kind.{Kind}
 use Rattle.univmon.specs.declared.Kind.the-variants as kind
-use Rattle.univmon.specs.Updates.{whoAt, modeOf, firstSent, manySent}
-use Rattle.shared_streams.specs.Books.{Update, Book, reaches, sentTo, sent, weightOf}
+use Rattle.univmon.specs.Updates.{recordLength, whoAt, modeOf, firstSent, manySent}
+use Rattle.shared_streams.specs.Books.{Update, Book, OneMode, reaches, sentTo, sent, weightOf}
+use Rattle.shared_streams.proofs.Lists.{All}
 use Rattle.shared_streams.proofs.Ranges.{weights}
-
--- ---- what holds of each update of a book
-
-abbrev pub AllE : (Update → Type 0) → Book → Type 0
-AllE P [] = Unit {0}
-AllE P (e ∷ es) = P e × AllE P es
-
-pub allE-append : (P : Update → Type 0) (a b : Book) → AllE P a → AllE P b → AllE P (a ++ b)
-allE-append P [] b h k = k
-allE-append P (e ∷ a) b h k = (h .0, allE-append P a b (h .1) k)
-
-pub allE-map : (P Q : Update → Type 0) (a : Book) → ((e : Update) → P e → Q e) → AllE P a → AllE Q a
-allE-map P Q [] f h = tt
-allE-map P Q (e ∷ a) f h = (f e (h .0), allE-map P Q a f (h .1))
 
 -- ---- the layers that an update goes over are those that it sends its key to
 
@@ -64,6 +53,10 @@ sent-append n l (e ∷ a) b = go (sent-append n l a b) (sentTo n e l)
 pub sent-last : (n l : ℕ) (b : Book) (e : Update) (c : Bool) → sentTo n e l ≡ c → sent n l (b ++ (e ∷ [])) ≡ sent n l b ++ cond c (itemOf e l ∷ []) []
 unfolding sent
 sent-last n l b e c q = sent-append n l b (e ∷ []) ∙ ap (λ (z : Bool). sent n l b ++ cond z (itemOf e l ∷ []) []) q
+
+-- a record of the shape's length
+abbrev pub Fitting : Shape → Update → Type 0
+Fitting sh e = length (e .words) ≡ recordLength (sh .layers)
 
 -- ---- weights
 
@@ -119,3 +112,25 @@ joined-clear mode.Standard kind.Standard h = refl
 joined-clear mode.Standard kind.Terminal h = absurd (true≢false h)
 joined-clear mode.Terminal kind.Standard h = absurd (true≢false h)
 joined-clear mode.Terminal kind.Terminal h = refl
+
+pub unset-clear : (k : Kind) → clash (modeOf k) mode.Unset ≡ false
+unset-clear kind.Standard = refl
+unset-clear kind.Terminal = refl
+
+pub same-clear : (k : Kind) → clash (modeOf k) (modeOf k) ≡ false
+same-clear kind.Standard = refl
+same-clear kind.Terminal = refl
+
+-- a book of one mode clashes with no update of that mode
+pub no-clash : (b : Book) (m : Mode) (k : Kind) → All (OfMode m) b → modeOf k ≡ m → clash (bookMode b) (modeOf k) ≡ false
+unfolding bookMode
+no-clash [] m k a e = refl
+no-clash (x ∷ b) m k a e = ap (λ (z : Mode). clash z (modeOf k)) (a .0 ∙ sym e) ∙ same-clear k
+
+-- nor do two books of one mode
+pub books-clear : (a b : Book) → OneMode (a ++ b) → clash (bookMode a) (bookMode b) ≡ false
+unfolding bookMode
+books-clear [] b o = refl
+books-clear (e ∷ a) [] o = unset-clear (e .kind)
+books-clear (e ∷ a) (f ∷ b) o =
+    ap (λ (k : Kind). clash (modeOf (e .kind)) (modeOf k)) (sym (o e f (List·Memᴰ·head refl) (Memᴰ·append-right (e ∷ a) (List·Memᴰ·head refl)))) ∙ same-clear (e .kind)

@@ -25,7 +25,8 @@ use Rattle.univmon.specs.Slices.{Lent, normsIn, candsIn, lentOk, view, flat, fr
 use Rattle.univmon.specs.Calls.{Outcome, outcomeOf, updateCall, mergeCall}
 use Rattle.shared_streams.specs.Books.{Book}
 use Rattle.shared_streams.specs.Relays.{updateBy}
-use Rattle.shared_streams.proofs.Relays.{RelayBy, updated-by, merged-by, new-by}
+use Rattle.shared_streams.proofs.Relays.{RelayBy, updated-by, merged-by}
+use Rattle.shared_streams.proofs.Fresh.{new-by}
 use Rattle.shared_streams.proofs.Refusals.{Off, judged}
 use Rattle.shared_streams.proofs.Values.{view-flat, flat-lengths}
 

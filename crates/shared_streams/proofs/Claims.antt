@@ -27,31 +27,32 @@ use Rattle.shared_streams.specs.Books.{Book, bookKeys, keysSent, times, 
 use Rattle.shared_streams.specs.Relays.{Relay, takes}
 use Rattle.shared_streams.specs.SharedStreams.{SameValues, Alone, Claimed}
 use Rattle.shared_streams.proofs.Keys.{distinct-same}
-use Rattle.shared_streams.proofs.BookLaws.{AllE, allE-map, no-weight, bookMode, OfMode}
+use Rattle.shared_streams.proofs.BookLaws.{Fitting, no-weight, bookMode, OfMode}
 use Rattle.shared_streams.proofs.Relays.{RelayBy}
 use Rattle.shared_streams.proofs.Refusals.{sum-accepted}
 use Rattle.shared_streams.proofs.Reorders.{reordered-all, reordered-weight}
 use Rattle.shared_streams.proofs.Values.{holds-by}
 use Rattle.shared_streams.proofs.Same.{holds-reordered, same-values}
 use Rattle.shared_streams.proofs.Calls.{LentBy, lent-view, lent-lengths, lent-fresh}
-use Rattle.shared_streams.proofs.Takes.{Fitting, takes-all}
+use Rattle.shared_streams.proofs.Takes.{takes-all}
 use Rattle.shared_streams.proofs.Sent.{Hashed, hashed, botBy, sent-times}
 use Rattle.shared_streams.proofs.Standard.{standard-counts}
 use Rattle.shared_streams.proofs.Terminal.{terminal-counts}
+use Rattle.shared_streams.proofs.Lists.{all-at, All, all-map}
 
--- ---- cardinality
+-- ---- kinds and modes
 
-kind-standard : (k : Kind) → modeOf k ≡ mode.Standard → k ≡ kind.Standard
-kind-standard kind.Standard e = refl
-kind-standard kind.Terminal e = cc
-
-kind-terminal : (k : Kind) → modeOf k ≡ mode.Terminal → k ≡ kind.Terminal
-kind-terminal kind.Standard e = cc
-kind-terminal kind.Terminal e = refl
+same-kind : (j k : Kind) → modeOf j ≡ modeOf k → j ≡ k
+same-kind kind.Standard kind.Standard e = refl
+same-kind kind.Standard kind.Terminal e = cc
+same-kind kind.Terminal kind.Standard e = cc
+same-kind kind.Terminal kind.Terminal e = refl
 
 kind-unset : (k : Kind) → modeOf k ≡ mode.Unset → k ≡ kind.Standard
 kind-unset kind.Standard e = refl
 kind-unset kind.Terminal e = cc
+
+-- ---- cardinality
 
 pub counts : (sh : Shape) → shapeRefusal sh ≡ 0 → (b : Book) (s : State) → RelayBy sh b s → OneRecord b → distinct (bookKeys b) ≤ sh .«heap_size»
     → cardinalityOf s ≡ ofInt binary64 (pos (distinct (bookKeys b)))
@@ -73,24 +74,24 @@ counts sh w b s r one few = rw (and-false (eqb (s .head .weight) 0)) (go (s .hea
     last : suc (s .head .shape .layers - 1) ≡ sh .layers
     last = omega (arith, at, v .some)
 
-    kinds : (κ : Kind) (m : Mode) → s .head .mode ≡ m → ((k : Kind) → modeOf k ≡ m → k ≡ κ) → AllE (λ e. e .kind ≡ κ) b
-    kinds κ m e q = allE-map (OfMode (bookMode b)) (λ x. x .kind ≡ κ) b (λ x p. q (x .kind) (p ∙ sym (r .mode) ∙ e)) (r .kinds)
+    kinds : (κ : Kind) (m : Mode) → s .head .mode ≡ m → ((k : Kind) → modeOf k ≡ m → k ≡ κ) → All (λ e. e .kind ≡ κ) b
+    kinds κ m e q = all-map (OfMode (bookMode b)) (λ x. x .kind ≡ κ) b (λ x p. q (x .kind) (p ∙ sym (r .mode) ∙ e)) (r .kinds)
 
     -- every key is sent to layer 0
-    all : AllE (λ e. e .kind ≡ kind.Standard) b → distinct (keysSent sh 0 b) ≡ distinct (bookKeys b)
+    all : All (λ e. e .kind ≡ kind.Standard) b → distinct (keysSent sh 0 b) ≡ distinct (bookKeys b)
     all a =
         distinct-same (keysSent sh 0 b) (bookKeys b)
         (λ k. ap (min 1) (sent-times h kind.Standard (sh .layers) 0 k b a c ∙ ap (λ (x : Bool). cond x (times k (bookKeys b)) 0) (le-leb 0 (bottomOf (botBy h k) (sh .layers)) (omega arith))))
 
-    own : AllE (λ e. e .kind ≡ kind.Standard) b → sumBy mode.Standard g.One true s ≡ ofInt binary64 (pos (distinct (bookKeys b)))
+    own : All (λ e. e .kind ≡ kind.Standard) b → sumBy mode.Standard g.One true s ≡ ofInt binary64 (pos (distinct (bookKeys b)))
     own a =
         standard-counts sh v h b s r a c (λ k l. pos 0) (s .head .shape .layers - 1) 0 (omega (arith, last)) (omega (arith, all a, few))
         ∙ ap (λ (n : ℕ). ofInt binary64 (pos n)) (all a)
 
     go : (m : Mode) → s .head .mode ≡ m → sumBy m g.One true s ≡ ofInt binary64 (pos (distinct (bookKeys b)))
     go mode.Unset e = own (kinds kind.Standard mode.Unset e kind-unset)
-    go mode.Standard e = own (kinds kind.Standard mode.Standard e kind-standard)
-    go mode.Terminal e = terminal-counts sh v h b s r (kinds kind.Terminal mode.Terminal e kind-terminal) c few (heavy (strataOf s)) (s .head .shape .layers - 1) last
+    go mode.Standard e = own (kinds kind.Standard mode.Standard e (λ k. same-kind k kind.Standard))
+    go mode.Terminal e = terminal-counts sh v h b s r (kinds kind.Terminal mode.Terminal e (λ k. same-kind k kind.Terminal)) c few (heavy (strataOf s)) (s .head .shape .layers - 1) last
 
 -- ---- a fresh relay that takes the book in any order
 
@@ -117,7 +118,9 @@ module _ (sh : Shape) (v : shapeRefusal sh ≡ 0) (r : Relay) (x : LentBy sh (r 
         alone = alone;
         lengths = lent-lengths sh (r .book) (r .lends) x;
         answered = subst (λ (z : Shape). shapeRefusal z ≡ 0 → RelayBy z (r .book) (view (r .lends)) → sumRefusal (view (r .lends)) true ≡ 0) (by .shape) (sum-accepted (view (r .lends)) (r .book)) v by;
-        counted = counts sh v (r .book) (view (r .lends)) by;
+        counted = λ one few. counts sh v (r .book) (view (r .lends)) by one few;
+        mode = λ e f m n. same-kind (e .kind) (f .kind) (all-at (OfMode (bookMode (r .book))) (r .book) (by .kinds) e m ∙ sym (all-at (OfMode (bookMode (r .book))) (r .book) (by .kinds) f n));
+        light = by .light;
       }
     where
       by : RelayBy sh (r .book) (view (r .lends))

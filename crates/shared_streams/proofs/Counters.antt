@@ -19,6 +19,7 @@ use Rattle.countsketch_l2_norm.specs.Merge.{sumBelow, squaresFrom, rowNorms, su
 use Rattle.layer.specs.Layer.{Item, hashBy}
 use Rattle.shared_streams.specs.Books.{cellSum}
 use Rattle.shared_streams.proofs.SketchLaws.{place-lt, same-row, same-col, length-rowNorms, row-at, length-sums, Kept, kept-rows}
+use Rattle.shared_streams.proofs.Lists.{getD-all}
 
 pub record SketchBy (rows cols : ℕ) (us : List Item) (s : Sketch) : Type 0 where
   pub long : length (s .cells) ≡ rows * cols
@@ -127,17 +128,12 @@ unfolding sumBelow
 sum-none zero f h = refl
 sum-none (suc n) f h = omega (arith, sum-none n f h, h n)
 
-zeros-at : (n i : ℕ) → cellAt (replicate n (pos 0)) i ≡ pos 0
-zeros-at zero i = refl
-zeros-at (suc n) zero = refl
-zeros-at (suc n) (suc i) = zeros-at n i
-
 pub sketch-none : (rows cols : ℕ) → SketchBy rows cols [] (record { cells = replicate (rows * cols) (pos 0); norms = replicate rows 0 })
 unfolding cellSum squaresFrom capped
 sketch-none rows cols =
     record {
       long = length-replicate (rows * cols) (pos 0);
-      cell = λ r c hr hc. zeros-at (rows * cols) (r * cols + c);
+      cell = λ r c hr hc. getD-all (pos 0) (rows * cols) (r * cols + c);
       kept = ext-getD 0 (replicate rows 0) (rowNorms cols cells rows 0) (length-replicate rows 0 ∙ sym (length-rowNorms cols cells rows 0))
           (λ i h. norm i (subst (λ (n : ℕ). i < n) (length-replicate rows 0) h));
     }
@@ -146,4 +142,4 @@ sketch-none rows cols =
     cells = replicate (rows * cols) (pos 0)
 
     norm : (i : ℕ) → i < rows → getD (replicate rows 0) i 0 ≡ getD (rowNorms cols cells rows 0) i 0
-    norm i h = getD-replicate rows i 0 0 h ∙ sym (row-at cols cells rows i h ∙ sum-none cols _ (λ c. ap capped (zeros-at (rows * cols) (i * cols + c))))
+    norm i h = getD-replicate rows i 0 0 h ∙ sym (row-at cols cells rows i h ∙ sum-none cols _ (λ c. ap capped (getD-all (pos 0) (rows * cols) (i * cols + c))))

@@ -20,6 +20,7 @@ use Rattle.shared_streams.specs.Books.{times, distinct}
 use Rattle.shared_streams.proofs.Keys.{hit-or, once-length}
 use Rattle.shared_streams.proofs.Depths.{bitOff, deeper}
 use Rattle.shared_streams.proofs.Cardinality.{cardinality-exact}
+use Rattle.shared_streams.proofs.Lists.{All}
 
 abbrev pub keysOf : List Entry → List ℕ
 keysOf es = map (λ (e : Entry). e .key) es
@@ -34,16 +35,11 @@ times-keys k (e ∷ es) = go (times-keys k es) (eqb (e .key) k)
     go ih true = omega (arith, ih)
     go ih false = omega (arith, ih)
 
--- what holds of each of a list
-abbrev pub AllN : (Entry → Type 0) → List Entry → Type 0
-AllN P [] = Unit {0}
-AllN P (e ∷ es) = P e × AllN P es
-
 -- a candidate with the bottom hash that its key has
 abbrev pub Bottomed : (ℕ → ℕ) → Entry → Type 0
 Bottomed bot e = e .bottom ≡ bot (e .key)
 
-onward-times : (bot : ℕ → ℕ) (l k : ℕ) (es : List Entry) → AllN (Bottomed bot) es → times k (keysOf (whole.onward l es)) ≡ cond (bitOff (bot k) l) 0 (times k (keysOf es))
+onward-times : (bot : ℕ → ℕ) (l k : ℕ) (es : List Entry) → All (Bottomed bot) es → times k (keysOf (whole.onward l es)) ≡ cond (bitOff (bot k) l) 0 (times k (keysOf es))
 unfolding whole.onward times
 onward-times bot l k [] a = none (bitOff (bot k) l)
   where
@@ -64,7 +60,7 @@ onward-times bot l k (e ∷ es) a = go (onward-times bot l k es (a .1)) (bitOff 
 -- The list at layer m of n holds, each once, those of the keys ks that go down to m, with their bottom hashes.
 pub record Reaching (n : ℕ) (bot : ℕ → ℕ) (ks : List ℕ) (m : ℕ) (es : List Entry) : Type 0 where
   pub keys : (k : ℕ) → times k (keysOf es) ≡ min 1 (cond (leb m (bottomOf (bot k) n)) (times k ks) 0)
-  pub bottoms : AllN (Bottomed bot) es
+  pub bottoms : All (Bottomed bot) es
 
 -- of those at m, the ones whose bit is 1 are those at the next layer
 next-times : (n : ℕ) (bot : ℕ → ℕ) (ks : List ℕ) (m : ℕ) (es fs : List Entry) → suc m < n → Reaching n bot ks m es → Reaching n bot ks (suc m) fs

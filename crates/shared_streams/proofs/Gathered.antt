@@ -13,7 +13,8 @@ use Rattle.sums.specs.Entries.{Entry}
 use Rattle.sums.specs.Terminal.{recount, gatherOne, gather, ahead, rankIn, ranked}
 use Rattle.shared_streams.specs.Books.{times}
 use Rattle.shared_streams.proofs.Keys.{hit-or, hit-le, has-times, hasnt-times}
-use Rattle.shared_streams.proofs.Counting.{keysOf, AllN, Bottomed}
+use Rattle.shared_streams.proofs.Counting.{keysOf, Bottomed}
+use Rattle.shared_streams.proofs.Lists.{All}
 
 -- ---- gathered
 
@@ -43,17 +44,17 @@ gather-times k (e ∷ es) xs h = gather-times k es (gatherOne xs e) (λ j. omega
         go false p (inr q) = omega (arith, h j)
 
 module _ (bot : ℕ → ℕ) where
-  gatherOne-all : (xs : List Entry) (e : Entry) → AllN (Bottomed bot) xs → Bottomed bot e → AllN (Bottomed bot) (gatherOne xs e)
+  gatherOne-all : (xs : List Entry) (e : Entry) → All (Bottomed bot) xs → Bottomed bot e → All (Bottomed bot) (gatherOne xs e)
   unfolding gatherOne
   gatherOne-all [] e a p = (p, tt)
   gatherOne-all (x ∷ xs) e a p = go (gatherOne-all xs e (a .1) p) (eqb (x .key) (e .key))
     where
-      go : AllN (Bottomed bot) (gatherOne xs e) → (b : Bool)
-          → AllN (Bottomed bot) (cond b (recount x (cond (ltZ (x .count) (e .count)) (e .count) (x .count)) ∷ xs) (x ∷ gatherOne xs e))
+      go : All (Bottomed bot) (gatherOne xs e) → (b : Bool)
+          → All (Bottomed bot) (cond b (recount x (cond (ltZ (x .count) (e .count)) (e .count) (x .count)) ∷ xs) (x ∷ gatherOne xs e))
       go ih true = (a .0, a .1)
       go ih false = (a .0, ih)
 
-  pub gather-all : (es xs : List Entry) → AllN (Bottomed bot) xs → AllN (Bottomed bot) es → AllN (Bottomed bot) (gather xs es)
+  pub gather-all : (es xs : List Entry) → All (Bottomed bot) xs → All (Bottomed bot) es → All (Bottomed bot) (gather xs es)
   unfolding gather
   gather-all [] xs a b = a
   gather-all (e ∷ es) xs a b = gather-all es (gatherOne xs e) (gatherOne-all xs e a (b .0)) (b .1)
@@ -76,16 +77,16 @@ ranked-times k [] = refl
 ranked-times k (x ∷ xs) = rankIn-times k x (ranked xs) ∙ ap (λ (n : ℕ). hit (x .key) k + n) (ranked-times k xs)
 
 module _ (P : Entry → Type 0) where
-  rankIn-all : (e : Entry) (xs : List Entry) → P e → AllN P xs → AllN P (rankIn e xs)
+  rankIn-all : (e : Entry) (xs : List Entry) → P e → All P xs → All P (rankIn e xs)
   unfolding rankIn
   rankIn-all e [] p a = (p, tt)
   rankIn-all e (x ∷ xs) p a = go (rankIn-all e xs p (a .1)) (ahead e x)
     where
-      go : AllN P (rankIn e xs) → (b : Bool) → AllN P (cond b (e ∷ x ∷ xs) (x ∷ rankIn e xs))
+      go : All P (rankIn e xs) → (b : Bool) → All P (cond b (e ∷ x ∷ xs) (x ∷ rankIn e xs))
       go ih true = (p, a)
       go ih false = (a .0, ih)
 
-  pub ranked-all : (xs : List Entry) → AllN P xs → AllN P (ranked xs)
+  pub ranked-all : (xs : List Entry) → All P xs → All P (ranked xs)
   unfolding ranked
   ranked-all [] a = tt
   ranked-all (x ∷ xs) a = rankIn-all x (ranked xs) (a .0) (ranked-all xs (a .1))

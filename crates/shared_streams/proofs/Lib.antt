@@ -1,3 +1,4 @@
+pub mod Lists
 pub mod Keys
 pub mod Tables
 pub mod MergedTables
@@ -8,6 +9,7 @@ pub mod Layers
 pub mod States
 pub mod BookLaws
 pub mod Relays
+pub mod Fresh
 pub mod Refusals
 pub mod Reorders
 pub mod Values
@@ -15,8 +17,8 @@ pub mod Same
 pub mod Calls
 pub mod Takes
 pub mod Runs
-pub mod Cardinality
 pub mod Depths
+pub mod Cardinality
 pub mod Counting
 pub mod Sent
 pub mod Standard

@@ -23,31 +23,24 @@ use Rattle.layer.specs.Merge.{hasKey, firsts, whos, bothWhos, offerAll}
 use Rattle.shared_streams.specs.Books.{times, distinct, itemKeys, EachOnce}
 use Rattle.shared_streams.proofs.Keys.{hit-self, times-append, once-length, distinct-left, distinct-right}
 use Rattle.shared_streams.proofs.Tables.{whoKeys, held-times, InR, offer-small, offer-each, TableBy}
+use Rattle.shared_streams.proofs.Lists.{All, all-append, map-append}
 
--- ---- what holds of each of a list
+-- ---- what holds of each
 
-abbrev pub AllW : (Who → Type 0) → List Who → Type 0
-AllW P [] = Unit {0}
-AllW P (w ∷ ws) = P w × AllW P ws
-
-pub allW-append : (P : Who → Type 0) (a b : List Who) → AllW P a → AllW P b → AllW P (a ++ b)
-allW-append P [] b h k = k
-allW-append P (w ∷ a) b h k = (h .0, allW-append P a b (h .1) k)
-
-pub allW-firsts : (P : Who → Type 0) (seen : List ℕ) (ws : List Who) → AllW P ws → AllW P (firsts seen ws)
+pub all-firsts : (P : Who → Type 0) (seen : List ℕ) (ws : List Who) → All P ws → All P (firsts seen ws)
 unfolding firsts
-allW-firsts P seen [] h = tt
-allW-firsts P seen (w ∷ ws) h = go (allW-firsts P seen ws (h .1)) (allW-firsts P (w .key ∷ seen) ws (h .1)) (hasKey (w .key) seen)
+all-firsts P seen [] h = tt
+all-firsts P seen (w ∷ ws) h = go (all-firsts P seen ws (h .1)) (all-firsts P (w .key ∷ seen) ws (h .1)) (hasKey (w .key) seen)
   where
-    go : AllW P (firsts seen ws) → AllW P (firsts (w .key ∷ seen) ws) → (b : Bool) → AllW P (cond b (firsts seen ws) (w ∷ firsts (w .key ∷ seen) ws))
+    go : All P (firsts seen ws) → All P (firsts (w .key ∷ seen) ws) → (b : Bool) → All P (cond b (firsts seen ws) (w ∷ firsts (w .key ∷ seen) ws))
     go i j true = i
     go i j false = (h .0, j)
 
-pub allW-whos : (P : Who → Type 0) (t : Table) → t .len ≤ length (t .cands) → Each (λ (c : Cand). P (c .who)) (t .len) (t .cands) → AllW P (whos t)
+pub all-whos : (P : Who → Type 0) (t : Table) → t .len ≤ length (t .cands) → Each (λ (c : Cand). P (c .who)) (t .len) (t .cands) → All P (whos t)
 unfolding whos
-allW-whos P t l h = go (t .len) (t .cands) l h
+all-whos P t l h = go (t .len) (t .cands) l h
   where
-    go : (n : ℕ) (cs : List Cand) → n ≤ length cs → Each (λ (c : Cand). P (c .who)) n cs → AllW P (map (λ (c : Cand). c .who) (take n cs))
+    go : (n : ℕ) (cs : List Cand) → n ≤ length cs → Each (λ (c : Cand). P (c .who)) n cs → All P (map (λ (c : Cand). c .who) (take n cs))
     go zero cs l h = tt
     go (suc n) [] l h = absurd (omega arith)
     go (suc n) (c ∷ cs) l h = (h 0 (omega arith), go n cs (omega arith) (λ i hi. h (suc i) (omega arith)))
@@ -89,7 +82,7 @@ pub record Sure (P : Who → Type 0) (size : ℕ) (t : Table) : Type 0 where
   pub whose : Each (Whose P) (t .len) (t .cands)
 
 module _ (d : Dims) (cells : List ℤ) (some : 0 < d .size) (good : (w : Who) → inRange (countOf d w cells) ≡ true) where
-  pub offers-sure : (P : Who → Type 0) (ws : List Who) (t : Table) → AllW P ws → Sure P (d .size) t → Sure P (d .size) (offerAll d cells ws t)
+  pub offers-sure : (P : Who → Type 0) (ws : List Who) (t : Table) → All P ws → Sure P (d .size) t → Sure P (d .size) (offerAll d cells ws t)
   unfolding offerAll
   offers-sure P [] t a s = s
   offers-sure P (w ∷ ws) t a s =
@@ -137,10 +130,6 @@ module _ (d : Dims) (cells : List ℤ) (some : 0 < d .size) (good : (w : Who) �
 
 -- ---- two tables merged
 
-pub map-append : {A B : Type 0} (f : A → B) (xs ys : List A) → map f (xs ++ ys) ≡ map f xs ++ map f ys
-map-append f [] ys = refl
-map-append {A} {B} f (x ∷ xs) ys = ap (λ (l : List B). f x ∷ l) (map-append f xs ys)
-
 pub firsts-all : (k : ℕ) (a b : List Who) → times k (whoKeys (firsts [] (a ++ b))) ≡ min 1 (times k (whoKeys a) + times k (whoKeys b))
 unfolding hasKey
 firsts-all k a b = firsts-times k [] (a ++ b) ∙ ap (λ (l : List ℕ). min 1 (times k l)) (map-append (λ (w : Who). w .key) a b) ∙ ap (min 1) (times-append k (whoKeys a) (whoKeys b))
@@ -162,19 +151,19 @@ table-merged d cells some good us vs a b f g p q =
     parts : map (λ (u : Item). u .who) (us ++ vs) ≡ map (λ (u : Item). u .who) us ++ map (λ (u : Item). u .who) vs
     parts = map-append (λ (u : Item). u .who) us vs
 
-    left : AllW Of (whos a)
+    left : All Of (whos a)
     left =
-        allW-whos Of a (omega (arith, p .long, p .small))
+        all-whos Of a (omega (arith, p .long, p .small))
         (λ i hi. subst (λ (l : List Who). List·Memᴰ (getD (a .cands) i noCand .who) l) (sym parts) (Memᴰ·append-left (map (λ (u : Item). u .who) vs) (p .from i hi)))
 
-    right : AllW Of (whos b)
+    right : All Of (whos b)
     right =
-        allW-whos Of b (omega (arith, q .long, q .small))
+        all-whos Of b (omega (arith, q .long, q .small))
         (λ i hi. subst (λ (l : List Who). List·Memᴰ (getD (b .cands) i noCand .who) l) (sym parts) (Memᴰ·append-right (map (λ (u : Item). u .who) us) (q .from i hi)))
 
     sure : Sure Of (d .size) (offerAll d cells ws (noTable (d .size)))
     sure =
-        offers-sure d cells some good Of ws (noTable (d .size)) (allW-firsts Of [] (whos a ++ whos b) (allW-append Of (whos a) (whos b) left right))
+        offers-sure d cells some good Of ws (noTable (d .size)) (all-firsts Of [] (whos a ++ whos b) (all-append Of (whos a) (whos b) left right))
         (record { long = length-replicate (d .size) noCand; small = omega arith; counts = λ i hi. absurd (omega arith); whose = λ i hi. absurd (omega arith) })
 
     all-keys : itemKeys (us ++ vs) ≡ itemKeys us ++ itemKeys vs

@@ -1,41 +1,38 @@
--- A relay's state by its book: fresh, one update more, two merged. Assumes nothing.
+-- A relay's state by its book: one update more, two merged. Assumes nothing.
 use mathlib.Core.Path.{_≡_, refl, sym, ap, ap₂, _∙_, subst}
 use mathlib.Core.Logic.{_⊎_, inl, inr}
-use Prim.Native.Nat.{ℕ, zero, suc, _+_, _-_, _*_, _≤_, _<_}
+use Prim.Native.Nat.{ℕ, _+_, _≤_, _<_}
 use native.Mathlib.Omega.{arith}
 use native.Mathlib.Decide.{decLt}
 use mathlib.Core.Bool.{true, false}
 use mathlib.Core.List.{List, [], _∷_, _++_, map, append-nil, List·Memᴰ, List·Memᴰ·append-cases, Memᴰ·append-left, Memᴰ·append-right}
-use lib.ListN.{length, getD, replicate, length-replicate, length-append, getD-replicate, List·getD-append}
-use lib.Seq.{getD-append-add}
-use lib.IntN.{ℤ, pos, natAbs, +ℤ-comm}
+use lib.ListN.{length, getD}
+use lib.IntN.{ℤ, natAbs, +ℤ-comm}
 use Rattle.words.specs.Num.{top}
-use Rattle.words.specs.Parts.{part}
-use Rattle.countsketch_l2_norm.specs.Merge.{sumBelow}
 use Rattle.heap_moves.specs.declared.Who.{Who}
-use Rattle.heap_moves.specs.Cands.{noCand}
 use Rattle.header.specs.declared.Shape.{Shape}
 use Rattle.header.specs.declared.Mode.{Mode}
-use Rattle.header.specs.Shape.{maxLayers, bottomOf}
-use Rattle.header.specs.Header.{freshFlags, freshHeader, clash, joined, begun}
+use Rattle.header.specs.Shape.{bottomOf}
+use Rattle.header.specs.Header.{clash, joined, begun}
 use Rattle.header.proofs.Bottoms.{bottom-lt}
 use Rattle.header.proofs.Refusals.{Accepted}
 use Rattle.layer.specs.declared.Dims.{Dims}
-use Rattle.layer.specs.Layer.{Item, Layer, addLayer, noLayer}
+use Rattle.layer.specs.Layer.{Item, Layer, addLayer}
 use Rattle.layer.specs.Merge.{mergeLayer}
 use Rattle.univmon.specs.declared.Kind.{Kind}
-use Rattle.univmon.specs.State.{State, rowsAt, colsAt, dimsAt, cellOff, normOff, candOff, layerAt, overLayers, newState, withHead}
+use Rattle.univmon.specs.State.{State, colsAt, dimsAt, layerAt, overLayers, withHead}
 use Rattle.univmon.specs.Updates.{recordLength, bottomWord, itemAt, modeOf, firstSent, manySent, updated}
 use Rattle.univmon.specs.Merges.{merged}
+use Rattle.shared_streams.specs.Relays.{updateBy}
 use Rattle.shared_streams.specs.Books.{Update, Book, sent, cellSum, times, itemKeys, weightOf}
 use Rattle.shared_streams.proofs.Keys.{times-append}
-use Rattle.shared_streams.proofs.MergedTables.{map-append}
 use Rattle.shared_streams.proofs.Counters.{cellSum-append}
 use Rattle.shared_streams.proofs.SketchLaws.{length-rowNorms}
 use Rattle.shared_streams.proofs.Ranges.{weights}
-use Rattle.shared_streams.proofs.Layers.{LayerBy, layer-same, layer-none, layer-added, layer-merged}
-use Rattle.shared_streams.proofs.States.{off-step, Sized, Fits, Over, over}
-use Rattle.shared_streams.proofs.BookLaws.{AllE, allE-append, allE-map, sent-room, reaches-in, reaches-not, sent-append, sent-last, weight-append, cons-weight, no-weight, sent-weights, bookMode, OfMode, joined-kind, mode-append, one-mode, joined-clear}
+use Rattle.shared_streams.proofs.Layers.{LayerBy, layer-same, layer-added, layer-merged}
+use Rattle.shared_streams.proofs.States.{Sized, Fits, Over, over}
+use Rattle.shared_streams.proofs.BookLaws.{Fitting, sent-room, reaches-in, reaches-not, sent-append, sent-last, weight-append, cons-weight, no-weight, sent-weights, bookMode, OfMode, joined-kind, mode-append, one-mode, joined-clear}
+use Rattle.shared_streams.proofs.Lists.{All, all-append, all-map, map-append}
 
 -- a layer of an accepted shape has columns
 pub wide : (sh : Shape) → Accepted sh → (l : ℕ) → 1 ≤ colsAt sh l
@@ -79,12 +76,13 @@ pub record RelayBy (sh : Shape) (b : Book) (s : State) : Type 0 where
   pub weight : s .head .weight ≡ weightOf b
   pub light : weightOf b ≤ top
   pub mode : s .head .mode ≡ bookMode b
-  pub kinds : AllE (OfMode (bookMode b)) b
-  pub words : AllE (λ e. length (e .words) ≡ recordLength (sh .layers)) b
+  pub kinds : All (OfMode (bookMode b)) b
+  pub words : All (Fitting sh) b
   pub layers : (l : ℕ) → l < sh .layers → LayerBy (dimsAt sh l) (sent (sh .layers) l b) (layerAt s l)
   pub pastLens : (l : ℕ) → sh .layers ≤ l → getD (s .head .lens) l 0 ≡ 0
   pub pastFlags : (l : ℕ) → sh .layers ≤ l → getD (s .head .flags) l false ≡ false
 
+-- the header changes first, and no layer with it
 head-layer : (s : State) (w : ℕ) (m : Mode) (l : ℕ) → layerAt (withHead s (begun (s .head) w m)) l ≡ layerAt s l
 unfolding layerAt
 head-layer s w m l = refl
@@ -92,9 +90,10 @@ head-layer s w m l = refl
 head-sized : (s : State) (w : ℕ) (m : Mode) → Sized s → Sized (withHead s (begun (s .head) w m))
 head-sized s w m z = record { counters = z .counters; norms = z .norms; cands = z .cands; flags = z .flags; lens = z .lens; few = z .few }
 
+-- an update with a record of the right length, of no other mode, and not too heavy
 pub updated-by : (k : Kind) (s : State) (b : Book) (words : List ℕ) (w : ℤ) → Accepted (s .head .shape) → RelayBy (s .head .shape) b s
     → length words ≡ recordLength (s .head .shape .layers) → clash (s .head .mode) (modeOf k) ≡ false → s .head .weight + natAbs w ≤ top
-    → RelayBy (s .head .shape) (b ++ (record { kind = k; words = words; weight = natAbs w } ∷ [])) (updated k s words w)
+    → RelayBy (s .head .shape) (b ++ (updateBy k words w ∷ [])) (updated k s words w)
 unfolding updated
 updated-by k s b words w v r long clear light =
     record {
@@ -103,9 +102,9 @@ updated-by k s b words w v r long clear light =
       weight = o .weight ∙ total;
       light = omega (arith, total, light);
       mode = o .mode ∙ modes;
-      kinds = allE-append (OfMode (bookMode (b ++ (entry ∷ [])))) b (entry ∷ [])
-          (allE-map (OfMode (bookMode b)) (OfMode (bookMode (b ++ (entry ∷ [])))) b old (r .kinds)) (new, tt);
-      words = allE-append (λ e. length (e .words) ≡ recordLength (sh .layers)) b (entry ∷ []) (r .words) (long, tt);
+      kinds = all-append (OfMode (bookMode (b ++ (entry ∷ [])))) b (entry ∷ [])
+          (all-map (OfMode (bookMode b)) (OfMode (bookMode (b ++ (entry ∷ [])))) b old (r .kinds)) (new, tt);
+      words = all-append (Fitting sh) b (entry ∷ []) (r .words) (long, tt);
       layers = λ l hl. layer l hl (decLt l F) (decLt l (F + M));
       pastLens = λ l hl. o .pastLens l hl ∙ r .pastLens l hl;
       pastFlags = λ l hl. o .pastFlags l hl ∙ r .pastFlags l hl;
@@ -114,9 +113,6 @@ updated-by k s b words w v r long clear light =
     sh : Shape
     sh = s .head .shape
 
-    n : ℕ
-    n = s .head .shape .layers
-
     F : ℕ
     F = firstSent k (bottomOf (bottomWord words) (s .head .shape .layers))
 
@@ -124,7 +120,7 @@ updated-by k s b words w v r long clear light =
     M = manySent k (bottomOf (bottomWord words) (s .head .shape .layers))
 
     entry : Update
-    entry = record { kind = k; words = words; weight = natAbs w }
+    entry = updateBy k words w
 
     s₀ : State
     s₀ = withHead s (begun (s .head) (natAbs w) (modeOf k))
@@ -176,6 +172,7 @@ updated-by k s b words w v r long clear light =
         (sym (sent-last (s .head .shape .layers) l b entry true (reaches-in k (bottomOf (bottomWord words) (s .head .shape .layers)) l (omega arith) q)))
         (subst (LayerBy (dimsAt (s .head .shape) l) (sent (s .head .shape .layers) l b ++ (itemAt words w l ∷ []))) (sym (o .inside l (omega arith) q)) (more l hl))
 
+-- a merge of two of no other mode, and not too heavy
 pub merged-by : (s t : State) (a b : Book) → Accepted (s .head .shape) → RelayBy (s .head .shape) a s → RelayBy (s .head .shape) b t
     → clash (s .head .mode) (t .head .mode) ≡ false → s .head .weight + t .head .weight ≤ top → RelayBy (s .head .shape) (a ++ b) (merged s t)
 unfolding merged
@@ -186,10 +183,10 @@ merged-by s t a b v p q clear light =
       weight = o .weight ∙ total;
       light = omega (arith, total, light);
       mode = o .mode ∙ modes;
-      kinds = allE-append (OfMode (bookMode (a ++ b))) a b
-          (allE-map (OfMode (bookMode a)) (OfMode (bookMode (a ++ b))) a left (p .kinds))
-          (allE-map (OfMode (bookMode b)) (OfMode (bookMode (a ++ b))) b right (q .kinds));
-      words = allE-append (λ e. length (e .words) ≡ recordLength (s .head .shape .layers)) a b (p .words) (q .words);
+      kinds = all-append (OfMode (bookMode (a ++ b))) a b
+          (all-map (OfMode (bookMode a)) (OfMode (bookMode (a ++ b))) a left (p .kinds))
+          (all-map (OfMode (bookMode b)) (OfMode (bookMode (a ++ b))) b right (q .kinds));
+      words = all-append (Fitting (s .head .shape)) a b (p .words) (q .words);
       layers = λ l hl.
           subst (λ (us : List Item). LayerBy (dimsAt (s .head .shape) l) us (layerAt (overLayers f (s .head .shape .layers) 0 s₀) l)) (sym (sent-append (s .head .shape .layers) l a b))
           (subst (LayerBy (dimsAt (s .head .shape) l) (sent (s .head .shape .layers) l a ++ sent (s .head .shape .layers) l b)) (sym (o .inside l (omega arith) (omega arith))) (both l hl));
@@ -230,64 +227,3 @@ merged-by s t a b v p q clear light =
     o =
         over f (s .head .shape .layers) 0 s₀ (head-sized s (t .head .weight) (t .head .mode) (p .sized)) (omega arith)
         (λ l h k. by-fits (dimsAt (s .head .shape) l) (sent (s .head .shape .layers) l a ++ sent (s .head .shape .layers) l b) (f l (layerAt s₀ l)) (both l (omega arith)))
-
--- ---- a fresh relay
-
-zero-part : {A : Type 0} (x : A) (n a m : ℕ) → a + m ≤ n → part a m (replicate n x) ≡ replicate m x
-zero-part x n zero zero h = refl
-zero-part x n (suc a) zero h = refl
-zero-part x zero a (suc m) h = absurd (omega arith)
-zero-part {A} x (suc n) zero (suc m) h = ap (λ (l : List A). x ∷ l) (zero-part x n zero m (omega arith))
-zero-part x (suc n) (suc a) (suc m) h = zero-part x n a (suc m) (omega arith)
-
-getD-all : {A : Type 0} (x : A) (n i : ℕ) → getD (replicate n x) i x ≡ x
-getD-all x zero i = refl
-getD-all x (suc n) zero = refl
-getD-all x (suc n) (suc i) = getD-all x n i
-
-new-layer : (sh : Shape) → Accepted sh → (l : ℕ) → l < sh .layers → layerAt (newState sh) l ≡ noLayer (dimsAt sh l)
-unfolding layerAt newState freshHeader noLayer cellOff normOff candOff
-new-layer sh v l h =
-    λ i. record {
-      sketch = record { cells = cells i; norms = norms i };
-      table = record { cands = cands i; len = getD-all {A = ℕ} 0 maxLayers l i };
-      flag = flag i;
-    }
-  where
-    cells : part (sumBelow l (λ m. rowsAt sh m * colsAt sh m)) (rowsAt sh l * colsAt sh l) (replicate (sumBelow (sh .layers) (λ m. rowsAt sh m * colsAt sh m)) (pos 0)) ≡ replicate (rowsAt sh l * colsAt sh l) (pos 0)
-    cells = zero-part (pos 0) (sumBelow (sh .layers) (λ m. rowsAt sh m * colsAt sh m)) (sumBelow l (λ m. rowsAt sh m * colsAt sh m)) (rowsAt sh l * colsAt sh l) (off-step (λ m. rowsAt sh m * colsAt sh m) l (sh .layers) h)
-
-    norms : part {A = ℕ} (sumBelow l (λ m. rowsAt sh m)) (rowsAt sh l) (replicate (sumBelow (sh .layers) (λ m. rowsAt sh m)) 0) ≡ replicate (rowsAt sh l) 0
-    norms = zero-part {A = ℕ} 0 (sumBelow (sh .layers) (λ m. rowsAt sh m)) (sumBelow l (λ m. rowsAt sh m)) (rowsAt sh l) (off-step (λ m. rowsAt sh m) l (sh .layers) h)
-
-    cands : part (sumBelow l (λ m. sh .«heap_size»)) (sh .«heap_size») (replicate (sumBelow (sh .layers) (λ m. sh .«heap_size»)) noCand) ≡ replicate (sh .«heap_size») noCand
-    cands = zero-part noCand (sumBelow (sh .layers) (λ m. sh .«heap_size»)) (sumBelow l (λ m. sh .«heap_size»)) (sh .«heap_size») (off-step (λ m. sh .«heap_size») l (sh .layers) h)
-
-    flag : getD (freshFlags (sh .layers)) l false ≡ true
-    flag = List·getD-append (replicate (sh .layers) true) (replicate (maxLayers - sh .layers) false) false l (omega (arith, length-replicate (sh .layers) true)) ∙ getD-replicate (sh .layers) l true false h
-
-pub new-by : (sh : Shape) → Accepted sh → RelayBy sh [] (newState sh)
-unfolding newState freshHeader weightOf bookMode sent
-new-by sh v =
-    record {
-      shape = refl;
-      sized = record {
-        counters = length-replicate (cellOff sh (sh .layers)) (pos 0);
-        norms = length-replicate {A = ℕ} (normOff sh (sh .layers)) 0;
-        cands = length-replicate (candOff sh (sh .layers)) noCand;
-        flags = length-append (replicate (sh .layers) true) (replicate (maxLayers - sh .layers) false)
-            ∙ omega (arith, length-replicate (sh .layers) true, length-replicate (maxLayers - sh .layers) false, v .few);
-        lens = length-replicate {A = ℕ} maxLayers 0;
-        few = v .few;
-      };
-      weight = refl;
-      light = omega arith;
-      mode = refl;
-      kinds = tt;
-      words = tt;
-      layers = λ l hl. subst (LayerBy (dimsAt sh l) []) (sym (new-layer sh v l hl)) (layer-none (dimsAt sh l));
-      pastLens = λ l hl. getD-all {A = ℕ} 0 maxLayers l;
-      pastFlags = λ l hl.
-          ap (λ (z : ℕ). getD (freshFlags (sh .layers)) z false) (omega (arith, length-replicate (sh .layers) true))
-          ∙ getD-append-add (replicate (sh .layers) true) (replicate (maxLayers - sh .layers) false) (l - sh .layers) false ∙ getD-all false (maxLayers - sh .layers) (l - sh .layers);
-    }

@@ -9,9 +9,10 @@ use lib.Dec.{eqb}
 use Rattle.matrix_storage.specs.Bits.{column, signed}
 use Rattle.layer.specs.Layer.{Item, hashBy}
 use Rattle.shared_streams.specs.Books.{Update, Book, sentTo, sent, cellSum, weightOf, times, itemKeys, Reordered, none, same, swap, both}
-use Rattle.shared_streams.proofs.BookLaws.{AllE, itemOf}
+use Rattle.shared_streams.proofs.BookLaws.{itemOf}
+use Rattle.shared_streams.proofs.Lists.{All}
 
-pub reordered-all : (P : Update → Type 0) {a b : Book} → Reordered a b → AllE P a → AllE P b
+pub reordered-all : (P : Update → Type 0) {a b : Book} → Reordered a b → All P a → All P b
 reordered-all P none h = tt
 reordered-all P (same p) h = (h .0, reordered-all P p (h .1))
 reordered-all P swap h = (h .1 .0, (h .0, h .1 .1))

@@ -4,7 +4,7 @@ use Prim.Native.Nat.{ℕ, _<_}
 use native.Mathlib.Omega.{arith}
 use native.Mathlib.Decide.{ℕ-discrete}
 use mathlib.Core.Bool.{Bool, true, false, cond, not, _&&_}
-use mathlib.Core.List.{List, [], _∷_, _++_, List·Memᴰ·head, List·Memᴰ·tail}
+use mathlib.Core.List.{List, [], _∷_, List·Memᴰ·head, List·Memᴰ·tail}
 use lib.ListN.{length, getD, set, length-set, length-replicate, getD-replicate}
 use lib.Seq.{getD-set-same, getD-set-other}
 use lib.Dec.{eqb, ltb}
@@ -15,13 +15,13 @@ use Rattle.header.specs.Shape.{shapeRefusal}
 use Rattle.univmon.specs.Calls.{Outcome, updateCall, mergeCall}
 use Rattle.shared_streams.specs.Books.{Update, Book, Among}
 use Rattle.shared_streams.specs.Relays.{Relay, freshRelay, start, relayAt, Call, feed, join, live, names, updateBy, fed, joinedTo, called, step, run, ifAccepted, updateOf, accepted}
-use Rattle.shared_streams.proofs.BookLaws.{AllE, allE-append}
 use Rattle.shared_streams.proofs.Calls.{LentBy, lent-fed, lent-joined, lent-fresh}
+use Rattle.shared_streams.proofs.Lists.{All, all-append, all-left, all-right}
 
 -- a relay that is as its book says, and whose book's updates meet P
 pub record Good (P : Update → Type 0) (sh : Shape) (r : Relay) : Type 0 where
   pub lent : LentBy sh (r .book) (r .lends)
-  pub all : AllE P (r .book)
+  pub all : All P (r .book)
 
 abbrev Every : (Update → Type 0) → Shape → List Relay → Type 0
 Every P sh rs = (i : ℕ) → i < length rs → Good P sh (relayAt sh rs i)
@@ -43,7 +43,7 @@ module _ (P : Update → Type 0) (sh : Shape) (v : shapeRefusal sh ≡ 0) where
 
   -- ---- one call
 
-  call-good : (rs : List Relay) (c : Call) → names sh rs c ≡ true → AllE P (updateOf sh rs c) → Every P sh rs → Every P sh (called sh rs c)
+  call-good : (rs : List Relay) (c : Call) → names sh rs c ≡ true → All P (updateOf sh rs c) → Every P sh rs → Every P sh (called sh rs c)
   unfolding called
   call-good rs (feed k i words w) n p h =
       set-good rs i (fed r e (updateCall k (r .lends) words w)) h (one (updateCall k (r .lends) words w) refl p)
@@ -57,9 +57,9 @@ module _ (P : Update → Type 0) (sh : Shape) (v : shapeRefusal sh ≡ 0) where
       own : Good P sh (relayAt sh rs i)
       own = h i (live-lt rs i n)
 
-      one : (o : Outcome) → updateCall k (relayAt sh rs i .lends) words w ≡ o → AllE P (ifAccepted (updateBy k words w) o) → Good P sh (fed (relayAt sh rs i) (updateBy k words w) o)
+      one : (o : Outcome) → updateCall k (relayAt sh rs i .lends) words w ≡ o → All P (ifAccepted (updateBy k words w) o) → Good P sh (fed (relayAt sh rs i) (updateBy k words w) o)
       one (Outcome.no m) q z = own
-      one (Outcome.yes t) q z = record { lent = lent-fed sh v k (r .book) (r .lends) t words w (own .lent) q; all = allE-append P (r .book) (e ∷ []) (own .all) z }
+      one (Outcome.yes t) q z = record { lent = lent-fed sh v k (r .book) (r .lends) t words w (own .lent) q; all = all-append P (r .book) (e ∷ []) (own .all) z }
   call-good rs (join i j) n p h = one (mergeCall (a .lends) (b .lends)) refl
     where
       a : Relay
@@ -80,36 +80,27 @@ module _ (P : Update → Type 0) (sh : Shape) (v : shapeRefusal sh ≡ 0) where
       one : (o : Outcome) → mergeCall (relayAt sh rs i .lends) (relayAt sh rs j .lends) ≡ o → Every P sh (joinedTo rs i j (relayAt sh rs i) (relayAt sh rs j) o)
       one (Outcome.no m) q = h
       one (Outcome.yes t) q =
-          set-good (set rs j (record { lends = b .lends; book = b .book; retired = true })) i (record { lends = t; book = a .book ++ b .book; retired = a .retired })
-          (set-good rs j (record { lends = b .lends; book = b .book; retired = true }) h (record { lent = second .lent; all = second .all }))
+          set-good (set rs j _) i _ (set-good rs j _ h (record { lent = second .lent; all = second .all }))
           (record {
             lent = lent-joined sh v (a .book) (b .book) (a .lends) (b .lends) t (first .lent) (second .lent) q;
-            all = allE-append P (a .book) (b .book) (first .all) (second .all);
+            all = all-append P (a .book) (b .book) (first .all) (second .all);
           })
 
-  step-good : (rs : List Relay) (c : Call) → AllE P (cond (names sh rs c) (updateOf sh rs c) []) → Every P sh rs → Every P sh (step sh rs c)
+  step-good : (rs : List Relay) (c : Call) → All P (cond (names sh rs c) (updateOf sh rs c) []) → Every P sh rs → Every P sh (step sh rs c)
   step-good rs c p h = go (names sh rs c) refl p
     where
-      go : (b : Bool) → names sh rs c ≡ b → AllE P (cond b (updateOf sh rs c) []) → Every P sh (cond b (called sh rs c) rs)
+      go : (b : Bool) → names sh rs c ≡ b → All P (cond b (updateOf sh rs c) []) → Every P sh (cond b (called sh rs c) rs)
       go true q z = call-good rs c q z h
       go false q z = h
 
   -- ---- a list
 
-  all-left : (a b : Book) → AllE P (a ++ b) → AllE P a
-  all-left [] b h = tt
-  all-left (e ∷ a) b h = (h .0, all-left a b (h .1))
-
-  all-right : (a b : Book) → AllE P (a ++ b) → AllE P b
-  all-right [] b h = h
-  all-right (e ∷ a) b h = all-right a b (h .1)
-
-  run-good : (cs : List Call) (rs : List Relay) → AllE P (accepted sh rs cs) → Every P sh rs → Every P sh (run sh rs cs)
+  run-good : (cs : List Call) (rs : List Relay) → All P (accepted sh rs cs) → Every P sh rs → Every P sh (run sh rs cs)
   unfolding run accepted
   run-good [] rs p h = h
   run-good (c ∷ cs) rs p h =
       let first = cond (names sh rs c) (updateOf sh rs c) [] in
-      run-good cs (step sh rs c) (all-right first (accepted sh (step sh rs c) cs) p) (step-good rs c (all-left first (accepted sh (step sh rs c) cs) p) h)
+      run-good cs (step sh rs c) (all-right P first (accepted sh (step sh rs c) cs) p) (step-good rs c (all-left P first (accepted sh (step sh rs c) cs) p) h)
 
   start-good : (n : ℕ) → Every P sh (start sh n)
   start-good n i hi =
@@ -139,7 +130,7 @@ run-length sh (c ∷ cs) rs = run-length sh cs (step sh rs c) ∙ step-length sh
 
 -- ---- together
 
-among-self : (b c : Book) → ((e : Update) → Among e b → Among e c) → AllE (λ e. Among e c) b
+among-self : (b c : Book) → ((e : Update) → Among e b → Among e c) → All (λ e. Among e c) b
 among-self [] c f = tt
 among-self (e ∷ b) c f = (f e (List·Memᴰ·head refl), among-self b c (λ x m. f x (List·Memᴰ·tail m)))
 

@@ -15,7 +15,8 @@ use Rattle.univmon.specs.declared.Kind.{Kind}
 use Rattle.univmon.specs.Updates.{bottomWord, whoAt}
 use Rattle.shared_streams.specs.Books.{Update, Book, Among, keyOf, bookKeys, reaches, sentTo, sent, itemKeys, times, OneRecord}
 use Rattle.shared_streams.proofs.Keys.{hit-or}
-use Rattle.shared_streams.proofs.BookLaws.{AllE, itemOf}
+use Rattle.shared_streams.proofs.BookLaws.{itemOf}
+use Rattle.shared_streams.proofs.Lists.{All}
 
 -- ---- one record per key, as a function
 
@@ -55,7 +56,7 @@ botBy h k = bottomWord (h k)
 
 -- ---- the keys sent
 
-pub sent-times : (h : ℕ → List ℕ) (κ : Kind) (n l k : ℕ) (b : Book) → AllE (λ e. e .kind ≡ κ) b → Hashed h b
+pub sent-times : (h : ℕ → List ℕ) (κ : Kind) (n l k : ℕ) (b : Book) → All (λ e. e .kind ≡ κ) b → Hashed h b
     → times k (itemKeys (sent n l b)) ≡ cond (reaches κ (bottomOf (botBy h k) n) l) (times k (bookKeys b)) 0
 unfolding sent times
 sent-times h κ n l k [] a c = none (reaches κ (bottomOf (botBy h k) n) l)

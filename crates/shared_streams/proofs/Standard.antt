@@ -25,11 +25,11 @@ use Rattle.estimates.specs.Sums.{entryBy, ownAt}
 use Rattle.shared_streams.specs.Books.{Book, bookKeys, reaches, sent, keysSent, itemKeys, times, distinct}
 use Rattle.shared_streams.proofs.Keys.{distinct-sub}
 use Rattle.shared_streams.proofs.Tables.{whoKeys, held-times, length-whos, complete-len}
-use Rattle.shared_streams.proofs.MergedTables.{AllW, allW-whos}
-use Rattle.shared_streams.proofs.BookLaws.{AllE}
+use Rattle.shared_streams.proofs.MergedTables.{all-whos}
 use Rattle.shared_streams.proofs.Relays.{RelayBy}
-use Rattle.shared_streams.proofs.Counting.{keysOf, AllN, Bottomed, sum-counts}
+use Rattle.shared_streams.proofs.Counting.{keysOf, Bottomed, sum-counts}
 use Rattle.shared_streams.proofs.Sent.{Hashed, botBy, sent-times, sent-bottoms}
+use Rattle.shared_streams.proofs.Lists.{All}
 
 -- ---- a layer's own candidates
 
@@ -37,7 +37,7 @@ own-keys : (d : Dims) (cells : List ℤ) (ws : List Who) → keysOf (map (entryB
 own-keys d cells [] = refl
 own-keys d cells (w ∷ ws) = ap (λ (l : List ℕ). w .key ∷ l) (own-keys d cells ws)
 
-own-all : (bot : ℕ → ℕ) (d : Dims) (cells : List ℤ) (ws : List Who) → AllW (λ w. w .bottom ≡ bot (w .key)) ws → AllN (Bottomed bot) (map (entryBy d cells) ws)
+own-all : (bot : ℕ → ℕ) (d : Dims) (cells : List ℤ) (ws : List Who) → All (λ w. w .bottom ≡ bot (w .key)) ws → All (Bottomed bot) (map (entryBy d cells) ws)
 own-all bot d cells [] a = tt
 own-all bot d cells (w ∷ ws) a = (a .0, own-all bot d cells ws (a .1))
 
@@ -53,7 +53,7 @@ own-short s l =
       length-take (s .head .shape .«heap_size») (drop (Rattle.univmon.specs.State.candOff (s .head .shape) l) (s .cands)),
     )
 
-module _ (sh : Shape) (h : ℕ → List ℕ) (κ : Kind) (b : Book) (s : State) (r : RelayBy sh b s) (a : AllE (λ e. e .kind ≡ κ) b) (c : Hashed h b) where
+module _ (sh : Shape) (h : ℕ → List ℕ) (κ : Kind) (b : Book) (s : State) (r : RelayBy sh b s) (a : All (λ e. e .kind ≡ κ) b) (c : Hashed h b) where
   -- a complete layer's are those that reach it
   pub own-times : (l k : ℕ) → l < sh .layers → layerAt s l .flag ≡ true → times k (keysOf (ownAt s l)) ≡ min 1 (cond (reaches κ (bottomOf (botBy h k) (sh .layers)) l) (times k (bookKeys b)) 0)
   unfolding ownAt
@@ -61,11 +61,11 @@ module _ (sh : Shape) (h : ℕ → List ℕ) (κ : Kind) (b : Book) (s : State) 
       ap (times k) (own-keys (dimsAt (s .head .shape) l) (layerAt s l .sketch .cells) (whos (layerAt s l .table)))
       ∙ sym (held-times k (layerAt s l .table)) ∙ r .layers l hl .table .once on k ∙ ap (min 1) (sent-times h κ (sh .layers) l k b a c)
 
-  pub own-bottoms : (l : ℕ) → l < sh .layers → AllN (Bottomed (botBy h)) (ownAt s l)
+  pub own-bottoms : (l : ℕ) → l < sh .layers → All (Bottomed (botBy h)) (ownAt s l)
   unfolding ownAt
   own-bottoms l hl =
       own-all (botBy h) (dimsAt (s .head .shape) l) (layerAt s l .sketch .cells) (whos (layerAt s l .table))
-      (allW-whos (λ w. w .bottom ≡ botBy h (w .key)) (layerAt s l .table) (omega (arith, r .layers l hl .table .long, r .layers l hl .table .small))
+      (all-whos (λ w. w .bottom ≡ botBy h (w .key)) (layerAt s l .table) (omega (arith, r .layers l hl .table .long, r .layers l hl .table .small))
       (λ i hi. sent-bottoms h (sh .layers) l b c (getD (layerAt s l .table .cands) i noCand .who) (r .layers l hl .table .from i hi)))
 
   -- as many as keys were sent to it
@@ -83,7 +83,7 @@ module _ (sh : Shape) (h : ℕ → List ℕ) (κ : Kind) (b : Book) (s : State) 
 -- ---- standard mode
 
 -- fewer keys are sent to deeper layers
-fewer : (h : ℕ → List ℕ) (n l m : ℕ) (b : Book) → l ≤ m → AllE (λ e. e .kind ≡ kind.Standard) b → Hashed h b → distinct (itemKeys (sent n m b)) ≤ distinct (itemKeys (sent n l b))
+fewer : (h : ℕ → List ℕ) (n l m : ℕ) (b : Book) → l ≤ m → All (λ e. e .kind ≡ kind.Standard) b → Hashed h b → distinct (itemKeys (sent n m b)) ≤ distinct (itemKeys (sent n l b))
 fewer h n l m b p a c =
     distinct-sub (itemKeys (sent n m b)) (itemKeys (sent n l b)) (λ k. go k (leb m (bottomOf (botBy h k) n)) refl (leb l (bottomOf (botBy h k) n)) refl)
   where
@@ -93,7 +93,7 @@ fewer h n l m b p a c =
     go k false e y f = omega (arith, rw e at (sent-times h kind.Standard n m k b a c))
 
 -- At a layer that no more than heap size distinct keys were sent to, the sum is their number, also where layers above have lost keys.
-pub standard-counts : (sh : Shape) → Accepted sh → (h : ℕ → List ℕ) (b : Book) (s : State) → RelayBy sh b s → AllE (λ e. e .kind ≡ kind.Standard) b → Hashed h b
+pub standard-counts : (sh : Shape) → Accepted sh → (h : ℕ → List ℕ) (b : Book) (s : State) → RelayBy sh b s → All (λ e. e .kind ≡ kind.Standard) b → Hashed h b
     → (ts : ℕ → ℕ → ℤ) (k l : ℕ) → l + suc k ≡ sh .layers → distinct (keysSent sh l b) ≤ sh .«heap_size»
     → gSum g.One true ts (λ j m. ownAt s m) k l ≡ ofInt binary64 (pos (distinct (keysSent sh l b)))
 standard-counts sh v h b s r a c ts k l e few =

@@ -1,8 +1,7 @@
 -- One relay takes a book's updates in turn: it is then as the book says, and it refuses none of one mode, of right lengths and of at most 2^52 in all. Assumes nothing.
-use mathlib.Core.Path.{_≡_, refl, sym, ap, ap₂, _∙_, subst}
+use mathlib.Core.Path.{_≡_, refl, sym, ap, _∙_, subst}
 use Prim.Native.Nat.{_+_, _≤_}
 use native.Mathlib.Omega.{arith}
-use mathlib.Core.Bool.{false}
 use mathlib.Core.List.{[], _∷_, _++_, append-nil, append-assoc}
 use lib.ListN.{length}
 use lib.IntN.{pos}
@@ -11,8 +10,6 @@ use Rattle.header.specs.declared.Shape.{Shape}
 use Rattle.header.specs.declared.Mode.{Mode}
 use Rattle.header.specs.Shape.{shapeRefusal}
 use Rattle.header.specs.Header.{clash}
-use Rattle.univmon.specs.declared.Kind.{Kind}
-use Rattle.univmon.specs.declared.Kind.the-variants as kind
 use Rattle.univmon.specs.State.{State}
 use Rattle.univmon.specs.Judged.{done}
 use Rattle.univmon.specs.Updates.{recordLength, modeOf, updated, update}
@@ -20,27 +17,14 @@ use Rattle.univmon.specs.Slices.{Lent, view, flat}
 use Rattle.univmon.specs.Calls.{Outcome, updateCall}
 use Rattle.shared_streams.specs.Books.{Update, Book, weightOf}
 use Rattle.shared_streams.specs.Relays.{andThen, takes}
-use Rattle.shared_streams.proofs.BookLaws.{AllE, allE-append, weight-append, cons-weight, no-weight, bookMode, OfMode}
+use Rattle.shared_streams.proofs.BookLaws.{no-clash, Fitting, weight-append, cons-weight, no-weight, OfMode}
 use Rattle.shared_streams.proofs.Relays.{RelayBy}
 use Rattle.shared_streams.proofs.Refusals.{update-accepted}
 use Rattle.shared_streams.proofs.Calls.{LentBy, lent-view, lent-lengths, no-yes, lent-fed, update-flat}
-
-clear-same : (k : Kind) (m : Mode) → modeOf k ≡ m → clash m m ≡ false
-clear-same kind.Standard m e = subst (λ (z : Mode). clash z z ≡ false) e refl
-clear-same kind.Terminal m e = subst (λ (z : Mode). clash z z ≡ false) e refl
-
--- a book of one mode clashes with no update of that mode
-pub no-clash : (p : Book) (m : Mode) (k : Kind) → AllE (OfMode m) p → modeOf k ≡ m → clash (bookMode p) (modeOf k) ≡ false
-unfolding bookMode
-no-clash [] m k a e = refl
-no-clash (x ∷ p) m k a e = ap₂ clash (a .0) e ∙ clear-same k m e
-
--- a record of the shape's length
-abbrev pub Fitting : Shape → Update → Type 0
-Fitting sh e = length (e .words) ≡ recordLength (sh .layers)
+use Rattle.shared_streams.proofs.Lists.{All, all-append}
 
 -- the next of the updates
-one-takes : (sh : Shape) → shapeRefusal sh ≡ 0 → (m : Mode) (e : Update) (p : Book) (r : Lent) → LentBy sh p r → AllE (OfMode m) p → OfMode m e → Fitting sh e → weightOf p + e .weight ≤ top
+one-takes : (sh : Shape) → shapeRefusal sh ≡ 0 → (m : Mode) (e : Update) (p : Book) (r : Lent) → LentBy sh p r → All (OfMode m) p → OfMode m e → Fitting sh e → weightOf p + e .weight ≤ top
     → (t : Lent) × (updateCall (e .kind) r (e .words) (pos (e .weight)) ≡ Outcome.yes t)
 one-takes sh v m e p r x a c f l =
     (flat (updated (e .kind) s (e .words) (pos (e .weight))), update-flat (e .kind) r (e .words) (pos (e .weight)) (updated (e .kind) s (e .words) (pos (e .weight))) (lent-lengths sh p r x) ok)
@@ -62,7 +46,7 @@ one-takes sh v m e p r x a c f l =
         (omega (arith, by .weight)))
         v by f
 
-pub takes-all : (sh : Shape) → shapeRefusal sh ≡ 0 → (m : Mode) (es p : Book) (r : Lent) → LentBy sh p r → AllE (OfMode m) p → AllE (OfMode m) es → AllE (Fitting sh) es
+pub takes-all : (sh : Shape) → shapeRefusal sh ≡ 0 → (m : Mode) (es p : Book) (r : Lent) → LentBy sh p r → All (OfMode m) p → All (OfMode m) es → All (Fitting sh) es
     → weightOf p + weightOf es ≤ top → (t : Lent) × (takes r es ≡ Outcome.yes t) × LentBy sh (p ++ es) t
 unfolding takes
 takes-all sh v m [] p r x a c f l = (r, refl, subst (λ (z : Book). LentBy sh z r) (sym (append-nil p)) x)
@@ -71,12 +55,12 @@ takes-all sh v m (e ∷ es) p r x a c f l = go (takes-all sh v m es (p ++ (e ∷
     now : (t : Lent) × (updateCall (e .kind) r (e .words) (pos (e .weight)) ≡ Outcome.yes t)
     now = one-takes sh v m e p r x a (c .0) (f .0) (omega (arith, cons-weight e es))
 
-    go : (LentBy sh (p ++ (e ∷ [])) (now .0) → AllE (OfMode m) (p ++ (e ∷ [])) → AllE (OfMode m) es → AllE (Fitting sh) es → weightOf (p ++ (e ∷ [])) + weightOf es ≤ top
+    go : (LentBy sh (p ++ (e ∷ [])) (now .0) → All (OfMode m) (p ++ (e ∷ [])) → All (OfMode m) es → All (Fitting sh) es → weightOf (p ++ (e ∷ [])) + weightOf es ≤ top
         → (t : Lent) × (takes (now .0) es ≡ Outcome.yes t) × LentBy sh (p ++ (e ∷ []) ++ es) t)
         → (t : Lent) × (andThen (λ s. takes s es) (updateCall (e .kind) r (e .words) (pos (e .weight))) ≡ Outcome.yes t) × LentBy sh (p ++ (e ∷ es)) t
     go ih =
         let y : (t : Lent) × (takes (now .0) es ≡ Outcome.yes t) × LentBy sh (p ++ (e ∷ []) ++ es) t =
-        ih (lent-fed sh v (e .kind) p r (now .0) (e .words) (pos (e .weight)) x (now .1)) (allE-append (OfMode m) p (e ∷ []) a (c .0, tt)) (c .1) (f .1)
+        ih (lent-fed sh v (e .kind) p r (now .0) (e .words) (pos (e .weight)) x (now .1)) (all-append (OfMode m) p (e ∷ []) a (c .0, tt)) (c .1) (f .1)
         (omega (arith, l, weight-append p (e ∷ []), cons-weight e [], cons-weight e es, no-weight)) in
         (y .0, ap (andThen (λ s. takes s es)) (now .1) ∙ y .1, subst (λ (z : Book). LentBy sh z (y .0)) (append-assoc p (e ∷ []) es) (y .2))
 

@@ -23,12 +23,12 @@ use Rattle.sums.specs.declared.G.the-variants as g
 use Rattle.estimates.specs.Sums.{ownAt, strataOf}
 use Rattle.shared_streams.specs.Books.{Book, bookKeys, keysSent, times, distinct}
 use Rattle.shared_streams.proofs.Keys.{once-length, distinct-sub}
-use Rattle.shared_streams.proofs.BookLaws.{AllE}
 use Rattle.shared_streams.proofs.Relays.{RelayBy}
-use Rattle.shared_streams.proofs.Counting.{keysOf, AllN, Bottomed, Reaching, sum-counts, all-reach}
+use Rattle.shared_streams.proofs.Counting.{keysOf, Bottomed, Reaching, sum-counts, all-reach}
 use Rattle.shared_streams.proofs.Sent.{Hashed, botBy, sent-times}
 use Rattle.shared_streams.proofs.Standard.{own-times, own-bottoms, own-on}
 use Rattle.shared_streams.proofs.Gathered.{gather-times, gather-all, ranked-times, ranked-all}
+use Rattle.shared_streams.proofs.Lists.{All}
 
 -- the keys whose bottom is l, with those that go deeper, are those that go down to l
 both-depths : (l bt n x y : ℕ) → x ≡ min 1 (cond (leb (suc l) bt) n 0) → y ≡ min 1 (cond (eqb bt l) n 0) → min 1 (x + y) ≡ min 1 (cond (leb l bt) n 0)
@@ -43,7 +43,7 @@ both-depths l bt n x y p q = go (leb (suc l) bt) refl (leb l bt) refl (eqb bt l)
     go false e false f true z = absurd (omega (arith, leb-false l bt f, eqb-true bt l z))
     go false e false f false z = omega (arith, rw e at p, rw z at q)
 
-module _ (sh : Shape) (v : Accepted sh) (h : ℕ → List ℕ) (b : Book) (s : State) (r : RelayBy sh b s) (a : AllE (λ e. e .kind ≡ kind.Terminal) b) (c : Hashed h b)
+module _ (sh : Shape) (v : Accepted sh) (h : ℕ → List ℕ) (b : Book) (s : State) (r : RelayBy sh b s) (a : All (λ e. e .kind ≡ kind.Terminal) b) (c : Hashed h b)
     (few : distinct (bookKeys b) ≤ sh .«heap_size») where
   bot : ℕ → ℕ
   bot k = botBy h k
@@ -83,7 +83,7 @@ module _ (sh : Shape) (v : Accepted sh) (h : ℕ → List ℕ) (b : Book) (s : S
 
   -- the layer's own candidates come to those of the layers below
   joined : (l : ℕ) (below : List Entry) → l < sh .layers → ((j : ℕ) → times j (keysOf below) ≡ min 1 (cond (leb (suc l) (bottomOf (botBy h j) (sh .layers))) (times j (bookKeys b)) 0))
-      → AllN (Bottomed (botBy h)) below → Reaching (sh .layers) (botBy h) (bookKeys b) l (take (strataOf s .size) (ranked (gather below (ownAt s l))))
+      → All (Bottomed (botBy h)) below → Reaching (sh .layers) (botBy h) (bookKeys b) l (take (strataOf s .size) (ranked (gather below (ownAt s l))))
   joined l below hl t p = subst (Reaching (sh .layers) (botBy h) (bookKeys b) l) (sym (whole l (ranked (gather below (ownAt s l))) both)) both
     where
       both : Reaching (sh .layers) (botBy h) (bookKeys b) l (ranked (gather below (ownAt s l)))

@@ -26,6 +26,7 @@ pub record Update : Type 0 where
   pub words : List ℕ
   pub weight : ℕ
 
+-- "It starts empty."
 abbrev pub Book : Type 0
 Book = List Update
 
@@ -37,6 +38,7 @@ Among e b = List·Memᴰ e b
 abbrev pub keyOf : Update → ℕ
 keyOf e = getD (e .words) 0 0
 
+-- the keys of a book, as often as they stand there
 abbrev pub bookKeys : Book → List ℕ
 bookKeys b = map keyOf b
 
@@ -55,6 +57,7 @@ unfoldable pub sent : ℕ → ℕ → Book → List Item
 sent layers l [] = []
 sent layers l (e ∷ es) = cond (sentTo layers e l) (record { who = whoAt (e .words) l; weight = e .weight } ∷ sent layers l es) (sent layers l es)
 
+-- the keys of those
 abbrev pub itemKeys : List Item → List ℕ
 itemKeys us = map (λ (u : Item). u .who .key) us
 
@@ -71,6 +74,7 @@ cellSum cols [] r c = pos 0
 cellSum cols (u ∷ us) r c =
     cond (eqb (column cols (hashBy (u .who)) r) c) (signed (hashBy (u .who)) r (pos (u .weight))) (pos 0) +ℤ cellSum cols us r c
 
+-- of layer l, row r, column c
 abbrev pub counterBy : Shape → Book → ℕ → ℕ → ℕ → ℤ
 counterBy sh b l r c = cellSum (colsAt sh l) (sent (sh .layers) l b) r c
 

@@ -46,6 +46,7 @@ names sh rs (join i j) = live sh rs i && live sh rs j && not (eqb i j)
 
 -- ---- what a call leaves; "Accepted means that no refusal of these papers applies": the outcome is `yes`
 
+-- an update as it goes into a book
 abbrev pub updateBy : Kind → List ℕ → ℤ → Update
 updateBy k words w = record { kind = k; words = words; weight = natAbs w }
 
@@ -60,6 +61,7 @@ joinedTo rs i j a b (Outcome.no n) = rs
 joinedTo rs i j a b (Outcome.yes s) =
     set (set rs j (record { lends = b .lends; book = b .book; retired = true })) i (record { lends = s; book = a .book ++ b .book; retired = a .retired })
 
+-- the relays after a call
 unfoldable pub called : Shape → List Relay → Call → List Relay
 called sh rs (feed k i words w) = set rs i (fed (relayAt sh rs i) (updateBy k words w) (updateCall k (relayAt sh rs i .lends) words w))
 called sh rs (join i j) = joinedTo rs i j (relayAt sh rs i) (relayAt sh rs j) (mergeCall (relayAt sh rs i .lends) (relayAt sh rs j .lends))
@@ -80,6 +82,7 @@ Listed sh rs (c ∷ cs) = (names sh rs c ≡ true) × Listed sh (step sh rs c) c
 
 -- ---- "all accepted updates of the list"
 
+-- the update of a call, if the call is one and was accepted
 abbrev pub ifAccepted : Update → Outcome → Book
 ifAccepted e (Outcome.no n) = []
 ifAccepted e (Outcome.yes s) = e ∷ []
