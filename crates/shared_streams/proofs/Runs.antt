@@ -12,9 +12,10 @@ use borrow.Author.Tests.{ltb-true}
 use Rattle.words.proofs.Bools.{and-left, and-right}
 use Rattle.header.specs.declared.Shape.{Shape}
 use Rattle.header.specs.Shape.{shapeRefusal}
+use Rattle.univmon.specs.Slices.{Lent}
 use Rattle.univmon.specs.Calls.{Outcome, updateCall, mergeCall}
 use Rattle.shared_streams.specs.Books.{Update, Book, Among}
-use Rattle.shared_streams.specs.Relays.{Relay, freshRelay, start, relayAt, Call, feed, join, live, names, updateBy, fed, joinedTo, called, step, run, ifAccepted, updateOf, accepted}
+use Rattle.shared_streams.specs.Relays.{Relay, freshRelay, start, relayAt, Call, feed, join, live, names, updateBy, fed, joinedBy, retire, joinedTo, called, step, run, ifAccepted, updateOf, accepted}
 use Rattle.shared_streams.proofs.Calls.{LentBy, lent-fed, lent-joined, lent-fresh}
 use Rattle.shared_streams.proofs.Lists.{All, all-append, all-left, all-right}
 
@@ -77,14 +78,16 @@ module _ (P : Update → Type 0) (sh : Shape) (v : shapeRefusal sh ≡ 0) where
       second : Good P sh (relayAt sh rs j)
       second = h j (live-lt rs j (and-right (live sh rs i) (live sh rs j) pair))
 
-      one : (o : Outcome) → mergeCall (relayAt sh rs i .lends) (relayAt sh rs j .lends) ≡ o → Every P sh (joinedTo rs i j (relayAt sh rs i) (relayAt sh rs j) o)
-      one (Outcome.no m) q = h
-      one (Outcome.yes t) q =
-          set-good (set rs j _) i _ (set-good rs j _ h (record { lent = second .lent; all = second .all }))
-          (record {
+      whole : (t : Lent) → mergeCall (relayAt sh rs i .lends) (relayAt sh rs j .lends) ≡ Outcome.yes t → Good P sh (joinedBy (relayAt sh rs i) (relayAt sh rs j) t)
+      whole t q =
+          record {
             lent = lent-joined sh v (a .book) (b .book) (a .lends) (b .lends) t (first .lent) (second .lent) q;
             all = all-append P (a .book) (b .book) (first .all) (second .all);
-          })
+          }
+
+      one : (o : Outcome) → mergeCall (relayAt sh rs i .lends) (relayAt sh rs j .lends) ≡ o → Every P sh (joinedTo rs i j (relayAt sh rs i) (relayAt sh rs j) o)
+      one (Outcome.no m) q = h
+      one (Outcome.yes t) q = set-good (set rs j (retire b)) i (joinedBy a b t) (set-good rs j (retire b) h (record { lent = second .lent; all = second .all })) (whole t q)
 
   step-good : (rs : List Relay) (c : Call) → All P (cond (names sh rs c) (updateOf sh rs c) []) → Every P sh rs → Every P sh (step sh rs c)
   step-good rs c p h = go (names sh rs c) refl p

@@ -55,11 +55,17 @@ abbrev pub fed : Relay → Update → Outcome → Relay
 fed r e (Outcome.no n) = r
 fed r e (Outcome.yes s) = record { lends = s; book = r .book ++ (e ∷ []); retired = r .retired }
 
--- "An accepted merge puts the second's book behind the first's", and retires the second
+-- "An accepted merge puts the second's book behind the first's."
+abbrev pub joinedBy : Relay → Relay → Lent → Relay
+joinedBy a b s = record { lends = s; book = a .book ++ b .book; retired = a .retired }
+
+-- "An accepted merge retires the second"
+abbrev pub retire : Relay → Relay
+retire b = record { lends = b .lends; book = b .book; retired = true }
+
 abbrev pub joinedTo : List Relay → ℕ → ℕ → Relay → Relay → Outcome → List Relay
 joinedTo rs i j a b (Outcome.no n) = rs
-joinedTo rs i j a b (Outcome.yes s) =
-    set (set rs j (record { lends = b .lends; book = b .book; retired = true })) i (record { lends = s; book = a .book ++ b .book; retired = a .retired })
+joinedTo rs i j a b (Outcome.yes s) = set (set rs j (retire b)) i (joinedBy a b s)
 
 -- the relays after a call
 unfoldable pub called : Shape → List Relay → Call → List Relay
