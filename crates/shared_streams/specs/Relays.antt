@@ -31,6 +31,7 @@ abbrev pub relayAt : Shape → List Relay → ℕ → Relay
 relayAt sh rs i = getD rs i (freshRelay sh)
 
 -- "A listed call is an update of either kind on one relay, or a `merge` of a second relay into a different first .. its other arguments are free."
+-- `feed`: kind, relay, record, weight; `join`: the first relay and the second
 pub data Call : Type 0 where
   feed : Kind → ℕ → List ℕ → ℤ → Call
   join : ℕ → ℕ → Call
