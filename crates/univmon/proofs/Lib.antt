@@ -5,3 +5,5 @@ pub mod States
 pub mod Views
 pub mod Sends
 pub mod Sending
+pub mod Pairing
+pub mod Pairings

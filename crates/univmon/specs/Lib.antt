@@ -7,3 +7,4 @@ pub mod Slices
 pub mod Calls
 pub mod Needs
 pub mod Spans
+pub mod Pairs

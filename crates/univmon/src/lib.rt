@@ -2,6 +2,7 @@
 // caller lends: counters, norms, entries and counts.
 pub mod fresh;
 pub mod marks;
+pub mod merge;
 pub mod sizes;
 pub mod update;
 
