@@ -7,3 +7,5 @@ pub mod Sends
 pub mod Sending
 pub mod Pairing
 pub mod Pairings
+pub mod Flatten
+pub mod MergeCalls
