@@ -1,10 +1,9 @@
 -- What the stores and the offer leave of a layer is the layer of the definition. Assumes nothing.
-use mathlib.Core.Path.{_≡_, refl, sym, ap, ap₂, _∙_}
+use mathlib.Core.Path.{_≡_, refl, sym, ap, _∙_}
 use mathlib.Core.Bool.{Bool, true, false, _&&_}
 use mathlib.Core.List.{List}
 use Prim.Native.Nat.{ℕ, _+_, _*_, _≤_}
 use native.Mathlib.Omega.{arith}
-use lib.ListN.{length}
 use lib.IntN.{ℤ}
 use Rattle.countsketch_l2_norm.specs.Sketch.{Sketch, sketchOf, addCell, addRows}
 use Rattle.countsketch_l2_norm.specs.Estimate.{estimateOf}
@@ -67,7 +66,7 @@ delta-is d row col n who xs ws es ns len xs′ ws′ es′ ns′ a v e f g h k f
 
 -- ---- no more candidates than seats
 
-offer-few : (size : ℕ) (t : Table) (c : Cand) → t .len ≤ size → offer size t c .table .len ≤ size
+pub offer-few : (size : ℕ) (t : Table) (c : Cand) → t .len ≤ size → offer size t c .table .len ≤ size
 unfolding rescore seat replaceRoot
 offer-few size t c h = offer-cases size t c (λ (o : Offered). o .table .len ≤ size) (λ p. h) (λ p q. omega arith) (λ p q e. h) (λ p q e. h)
 

@@ -4,7 +4,10 @@
 // These functions are called by the other crates of this repository, which show what they require:
 // those that answer yes or no judge, those that store do not judge again.
 mod adding;
+mod candidates;
 mod deltas;
+mod filling;
+mod merging;
 
 pub use adding::add;
 pub use adding::add_reads;
@@ -12,10 +15,19 @@ pub use adding::add_ready;
 pub use deltas::apply_delta;
 pub use deltas::delta_fits;
 pub use deltas::delta_reads;
+pub use merging::merge;
+pub use merging::merge_fits;
+pub use merging::merge_reads;
 
 // Rows, columns and heap size of a layer.
 pub struct Dims {
     pub rows: usize,
     pub cols: usize,
     pub size: usize,
+}
+
+// What a merge leaves: the number of candidates, and of the distinct keys that were offered.
+pub struct Merged {
+    pub len: usize,
+    pub keys: usize,
 }

@@ -10,3 +10,6 @@ pub mod Flatten
 pub mod Updating
 pub mod Arrivals
 pub mod Refusing
+pub mod Pairing
+pub mod Pairings
+pub mod MergeCalls

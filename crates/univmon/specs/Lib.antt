@@ -8,3 +8,4 @@ pub mod Calls
 pub mod Needs
 pub mod Spans
 pub mod Arriving
+pub mod Pairs

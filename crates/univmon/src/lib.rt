@@ -5,6 +5,7 @@ pub mod delta;
 pub mod fresh;
 mod judge;
 pub mod marks;
+pub mod merge;
 pub mod sizes;
 pub mod update;
 

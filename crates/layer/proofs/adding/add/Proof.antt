@@ -11,7 +11,7 @@ use mir.Val.{toZ, ofZ}
 use mir.Facts.{toZ-ofZ}
 use Rattle.words.specs.Num.{allIn}
 use Rattle.words.proofs.Bools.{and-left}
-use Rattle.countsketch_l2_norm.specs.Sketch.{sketchOf, addRows, rowsRead, rowsFit, Sketch}
+use Rattle.countsketch_l2_norm.specs.Sketch.{Sketch, sketchOf, addRows, rowsRead, rowsFit}
 use Rattle.countsketch_l2_norm.proofs.After.{fit-after, length-rows}
 use Rattle.layer.specs.Layer.{hashBy}
 use Rattle.layer.proofs.Tests.{reads-are, fits-are}
@@ -92,14 +92,4 @@ returns c =
     (rw (count-back (c .before .before .before .before .before .before)) at (o .0)) (rw (count-back (c .before .before .before .before .before .before)) at (o .1 .0)) (rw (count-back (c .before .before .before .before .before .before)) at (o .1 .1 .0))
 
 pub add-spec : {M : Type 1} → statement M
-add-spec =
-    tie.close
-    (tie.spec
-    update-weighted-with-hash-requires
-    count-with-hash-requires
-    offer-requires
-    same-length
-    same-length-2
-    same-length-3
-    same-length-4
-    returns)
+add-spec = tie.close (tie.spec update-weighted-with-hash-requires count-with-hash-requires offer-requires same-length same-length-2 same-length-3 same-length-4 returns)

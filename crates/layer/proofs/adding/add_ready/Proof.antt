@@ -25,5 +25,4 @@ returns-2 c =
     λ es flag. c .counts-in-range .ensures ∙ rw (sym (c .before .before .rows-ready .ensures) ∙ not-false _ (c .before .if1 .left)) at (ready-are (a .d) (a .who) (a .weight) (now (a .counters)) (now (a .norms)) es (now (a .counts)) (a .len) flag)
 
 pub add-ready-spec : {M : Type 1} → statement M
-add-ready-spec =
-    tie.close (tie.spec rows-ready-requires returns counts-in-range-requires returns-2)
+add-ready-spec = tie.close (tie.spec rows-ready-requires returns counts-in-range-requires returns-2)

@@ -13,7 +13,7 @@ use mir.Val.{toZ, ofZ}
 use mir.Facts.{toZ-ofZ}
 use Rattle.words.specs.Num.{allIn}
 use Rattle.words.proofs.Bools.{and-left, and-right}
-use Rattle.countsketch_l2_norm.specs.Sketch.{sketchOf, cellAt, cellRead, cellFits, addCell, Sketch}
+use Rattle.countsketch_l2_norm.specs.Sketch.{Sketch, sketchOf, cellAt, cellRead, cellFits, addCell}
 use Rattle.countsketch_l2_norm.specs.Estimate.{cellsIn}
 use Rattle.layer.specs.Layer.{hashBy}
 use Rattle.layer.specs.Delta.{delta, deltaFits}
@@ -112,14 +112,4 @@ returns c =
     (rw (count-back (c .before .before .before .before .before .before)) at (o .0)) (rw (count-back (c .before .before .before .before .before .before)) at (o .1 .0)) (rw (count-back (c .before .before .before .before .before .before)) at (o .1 .1 .0))
 
 pub apply-delta-spec : {M : Type 1} → statement M
-apply-delta-spec =
-    tie.close
-    (tie.spec
-    apply-delta-requires
-    count-with-hash-requires
-    offer-requires
-    same-length
-    same-length-2
-    same-length-3
-    same-length-4
-    returns)
+apply-delta-spec = tie.close (tie.spec apply-delta-requires count-with-hash-requires offer-requires same-length same-length-2 same-length-3 same-length-4 returns)

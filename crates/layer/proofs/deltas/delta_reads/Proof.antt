@@ -42,12 +42,4 @@ returns-3 c =
     ∙ rw (sym (c .before .before .before .before .cell-read .ensures) ∙ not-false _ (c .before .before .before .if1 .left), sym (c .before .before .cells-in .ensures) ∙ not-false _ (c .before .if2 .left)) (sym (c .counts-in-range .ensures)))
 
 pub delta-reads-spec : {M : Type 1} → statement M
-delta-reads-spec =
-    tie.close
-    (tie.spec
-    cell-read-requires
-    returns
-    cells-in-requires
-    returns-2
-    counts-in-range-requires
-    returns-3)
+delta-reads-spec = tie.close (tie.spec cell-read-requires returns cells-in-requires returns-2 counts-in-range-requires returns-3)

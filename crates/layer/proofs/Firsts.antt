@@ -1,0 +1,194 @@
+-- First entries: what was seen matters only by its keys. Assumes nothing.
+use mathlib.Core.Path.{_≡_, refl, sym, ap, ap₂, _∙_}
+use Prim.Native.Nat.{ℕ, zero, suc, _+_, _*_, _≤_, _<_}
+use native.Mathlib.Omega.{arith}
+use native.Mathlib.Numerals.{add-one}
+use mathlib.Core.Bool.{Bool, true, false, cond, _||_}
+use mathlib.Core.List.{List, [], _∷_, _++_, map}
+use lib.ListN.{length, getD, take, drop, replicate, length-replicate}
+use lib.IntN.{ℤ, pos}
+use lib.Seq.{length-take-le}
+use lib.Dec.{eqb}
+use borrow.Author.Tests.{eqb-true}
+use Rattle.heap_moves.specs.declared.Who.{Who}
+use Rattle.heap_moves.specs.Cands.{Cand}
+use Rattle.heap.specs.Offer.{find}
+use Rattle.heap_moves.specs.Flat.{whoOf, candsOf}
+use Rattle.heap.specs.Slices.{tableOf}
+use Rattle.heap_moves.proofs.Views.{who-drop, who-path, length-cands}
+use Rattle.layer.specs.Merge.{hasKey, firsts, whos}
+use Rattle.layer.specs.Gather.{whoKeys, whosFrom, whosOf, keysOf, Front}
+
+-- ---- or
+
+or-swap : (a b c : Bool) → ((a || b) || c) ≡ (b || (a || c))
+or-swap true true c = refl
+or-swap true false c = refl
+or-swap false b c = refl
+
+or-last : (a b e : Bool) → (e || (a || b)) ≡ (a || (b || e))
+or-last true b true = refl
+or-last true b false = refl
+or-last false true true = refl
+or-last false true false = refl
+or-last false false true = refl
+or-last false false false = refl
+
+or-assoc : (a b c : Bool) → (a || (b || c)) ≡ ((a || b) || c)
+or-assoc true b c = refl
+or-assoc false b c = refl
+
+or-none : (a : Bool) → (a || false) ≡ a
+or-none true = refl
+or-none false = refl
+
+or-known : (a b : Bool) → (a || b) ≡ true → (a || (b || true)) ≡ true
+or-known true b h = refl
+or-known false true h = refl
+or-known false false h = refl
+
+-- ---- keys seen
+
+abbrev pub Same : List ℕ → List ℕ → Type 0
+Same s t = (k : ℕ) → hasKey k s ≡ hasKey k t
+
+-- a key that is known is nothing new
+has-known : (k x : ℕ) (s : List ℕ) → hasKey x s ≡ true → hasKey k s ≡ (eqb x k || hasKey k s)
+has-known k x s h = go (eqb x k) refl
+  where
+    go : (b : Bool) → eqb x k ≡ b → hasKey k s ≡ (b || hasKey k s)
+    go true e = sym (ap (λ (z : ℕ). hasKey z s) (eqb-true x k e)) ∙ h
+    go false e = refl
+
+firsts-same : (s t : List ℕ) (ws : List Who) → Same s t → firsts s ws ≡ firsts t ws
+unfolding firsts hasKey
+firsts-same s t [] h = refl
+firsts-same s t (w ∷ ws) h =
+    rw (h (w .key)) (ap₂ (λ (x y : List Who). cond (hasKey (w .key) t) x (w ∷ y)) (firsts-same s t ws h) (firsts-same (w .key ∷ s) (w .key ∷ t) ws (λ k. rw (h k))))
+
+-- the first entries of one list and another are those of the one, and of the other without the keys of the one
+firsts-then : (s t : List ℕ) (xs ys : List Who) → ((k : ℕ) → hasKey k t ≡ (hasKey k s || hasKey k (whoKeys xs))) → firsts s (xs ++ ys) ≡ firsts s xs ++ firsts t ys
+unfolding firsts hasKey
+firsts-then s t [] ys h = firsts-same s t ys (λ k. sym (h k ∙ or-none (hasKey k s)))
+firsts-then s t (a ∷ xs) ys h = go (hasKey (a .key) s) refl (firsts-then s t xs ys) (firsts-then (a .key ∷ s) t xs ys)
+  where
+    go : (b : Bool) → hasKey (a .key) s ≡ b → (((k : ℕ) → hasKey k t ≡ (hasKey k s || hasKey k (whoKeys xs))) → firsts s (xs ++ ys) ≡ firsts s xs ++ firsts t ys)
+        → (((k : ℕ) → hasKey k t ≡ ((eqb (a .key) k || hasKey k s) || hasKey k (whoKeys xs))) → firsts (a .key ∷ s) (xs ++ ys) ≡ firsts (a .key ∷ s) xs ++ firsts t ys)
+        → cond b (firsts s (xs ++ ys)) (a ∷ firsts (a .key ∷ s) (xs ++ ys)) ≡ cond b (firsts s xs) (a ∷ firsts (a .key ∷ s) xs) ++ firsts t ys
+    go true e i j = i (λ k. h k ∙ sym (or-swap (eqb (a .key) k) (hasKey k s) (hasKey k (whoKeys xs))) ∙ ap (λ (z : Bool). z || hasKey k (whoKeys xs)) (sym (has-known k (a .key) s e)))
+    go false e i j = ap (λ (z : List Who). a ∷ z) (j (λ k. h k ∙ sym (or-swap (eqb (a .key) k) (hasKey k s) (hasKey k (whoKeys xs)))))
+
+pub firsts-append : (xs ys : List Who) → firsts [] (xs ++ ys) ≡ firsts [] xs ++ firsts (whoKeys xs) ys
+unfolding hasKey
+firsts-append xs ys = firsts-then [] (whoKeys xs) xs ys (λ k. refl)
+
+-- ---- entries of a slice
+
+from-drop : (es : List ℕ) (n i : ℕ) → whosFrom (drop 4 es) n i ≡ whosFrom es n (suc i)
+unfolding whosFrom
+from-drop es zero i = refl
+from-drop es (suc n) i = ap₂ (λ (x : Who) (z : List Who). x ∷ z) (who-drop es i) (from-drop es n (suc i))
+
+pub whos-of : (es : List ℕ) (ns : List ℤ) (n : ℕ) → n ≤ length ns → whosOf es n ≡ map (λ (c : Cand). c .who) (take n (candsOf es ns))
+unfolding whosFrom candsOf
+whos-of es ns zero h = refl
+whos-of es [] (suc n) h = absurd (omega arith)
+whos-of es (x ∷ ns) (suc n) h = ap (λ (z : List Who). whoOf es 0 ∷ z) (sym (from-drop es n 0) ∙ whos-of (drop 4 es) ns n (omega arith))
+
+-- the candidates of a table are the entries of its slice
+pub whos-table : (es : List ℕ) (ns : List ℤ) (n : ℕ) → n ≤ length ns → whos (tableOf es ns n) ≡ whosOf es n
+unfolding whos
+whos-table es ns n h = sym (whos-of es ns n h)
+
+pub front-whos : (es fs : List ℕ) (k n i : ℕ) → Front k es fs → 4 * (i + n) ≤ k → whosFrom fs n i ≡ whosFrom es n i
+unfolding whosFrom
+front-whos es fs k zero i f h = refl
+front-whos es fs k (suc n) i f h =
+    ap₂ (λ (x : Who) (z : List Who). x ∷ z)
+    (who-path (f .at (4 * i) (omega arith)) (f .at (4 * i + 1) (omega arith)) (f .at (4 * i + 2) (omega arith)) (f .at (4 * i + 3) (omega arith)))
+    (front-whos es fs k n (suc i) f (omega arith))
+
+-- ---- a search says whether a key was seen
+
+found-has : (k : ℕ) (cs : List Cand) → find k cs < length cs → hasKey k (whoKeys (map (λ (c : Cand). c .who) cs)) ≡ true
+unfolding find hasKey
+found-has k [] h = absurd (omega arith)
+found-has k (c ∷ cs) h = go (eqb (c .who .key) k) h (found-has k cs)
+  where
+    go : (b : Bool) → cond b zero (suc (find k cs)) < suc (length cs) → (find k cs < length cs → hasKey k (whoKeys (map (λ (c : Cand). c .who) cs)) ≡ true)
+        → (b || hasKey k (whoKeys (map (λ (c : Cand). c .who) cs))) ≡ true
+    go true h i = refl
+    go false h i = i (omega arith)
+
+missed-has : (k : ℕ) (cs : List Cand) → length cs ≤ find k cs → hasKey k (whoKeys (map (λ (c : Cand). c .who) cs)) ≡ false
+unfolding find hasKey
+missed-has k [] h = refl
+missed-has k (c ∷ cs) h = go (eqb (c .who .key) k) h (missed-has k cs)
+  where
+    go : (b : Bool) → suc (length cs) ≤ cond b zero (suc (find k cs)) → (length cs ≤ find k cs → hasKey k (whoKeys (map (λ (c : Cand). c .who) cs)) ≡ false)
+        → (b || hasKey k (whoKeys (map (λ (c : Cand). c .who) cs))) ≡ false
+    go true h i = absurd (omega arith)
+    go false h i = i (omega arith)
+
+-- what `find` ensures
+abbrev pub Finds : List ℕ → ℕ → ℕ → ℕ → Type 0
+Finds es n k r = (ns : List ℤ) → n ≤ length ns → r ≡ find k (take n (candsOf es ns))
+
+module _ (es : List ℕ) (n k r : ℕ) (f : Finds es n k r) where
+  zeros : List ℤ
+  zeros = replicate n (pos 0)
+
+  enough : n ≤ length zeros
+  unfolding zeros
+  enough = omega (arith, length-replicate n (pos 0))
+
+  at : r ≡ find k (take n (candsOf es zeros))
+  at = f zeros enough
+
+  long : length (take n (candsOf es zeros)) ≡ n
+  long = length-take-le n (candsOf es zeros) (omega (arith, length-cands es zeros, enough))
+
+  pub find-has : r < n → hasKey k (keysOf es n) ≡ true
+  find-has h = rw (whos-of es zeros n enough) (found-has k (take n (candsOf es zeros)) (omega (arith, at, long)))
+
+  pub find-hasnt : n ≤ r → hasKey k (keysOf es n) ≡ false
+  find-hasnt h = rw (whos-of es zeros n enough) (missed-has k (take n (candsOf es zeros)) (omega (arith, at, long)))
+
+-- one entry more
+has-next : (es : List ℕ) (k n i : ℕ) → hasKey k (whoKeys (whosFrom es (suc n) i)) ≡ (hasKey k (whoKeys (whosFrom es n i)) || eqb (getD es (4 * (i + n)) 0) k)
+unfolding whosFrom hasKey
+has-next es k zero i = or-none (eqb (getD es (4 * i) 0) k) ∙ ap (λ (z : ℕ). eqb (getD es (4 * z) 0) k) e
+  where
+    e : i ≡ i + 0
+    e = omega arith
+has-next es k (suc n) i =
+    ap (λ (z : Bool). eqb (getD es (4 * i) 0) k || z) (has-next es k n (suc i) ∙ ap (λ (z : ℕ). hasKey k (whoKeys (whosFrom es n (suc i))) || eqb (getD es (4 * z) 0) k) e)
+    ∙ or-assoc (eqb (getD es (4 * i) 0) k) (hasKey k (whoKeys (whosFrom es n (suc i)))) (eqb (getD es (4 * (i + suc n)) 0) k)
+  where
+    e : suc i + n ≡ i + suc n
+    e = omega arith
+
+-- the keys of m entries, and of the first i of another slice
+abbrev pub Seen : List ℕ → ℕ → List ℕ → ℕ → List ℕ → Type 0
+Seen bef m src i s = (k : ℕ) → hasKey k s ≡ (hasKey k (keysOf bef m) || hasKey k (keysOf src i))
+
+next-key : (es : List ℕ) (k i : ℕ) → hasKey k (keysOf es (i + 1)) ≡ (hasKey k (keysOf es i) || eqb (getD es (4 * i) 0) k)
+next-key es k i = ap (λ (z : ℕ). hasKey k (keysOf es z)) (add-one i) ∙ has-next es k i 0 ∙ ap (λ (z : ℕ). hasKey k (keysOf es i) || eqb (getD es (4 * z) 0) k) e
+  where
+    e : 0 + i ≡ i
+    e = omega arith
+
+pub seen-none : (bef : List ℕ) (m : ℕ) (src : List ℕ) → Seen bef m src 0 (keysOf bef m)
+unfolding whosFrom hasKey
+seen-none bef m src k = sym (or-none (hasKey k (keysOf bef m)))
+
+pub seen-known : (bef : List ℕ) (m : ℕ) (src : List ℕ) (i : ℕ) (s : List ℕ) → Seen bef m src i s → hasKey (getD src (4 * i) 0) s ≡ true → Seen bef m src (i + 1) s
+seen-known bef m src i s h e k =
+    has-known k (getD src (4 * i) 0) s e ∙ ap (λ (z : Bool). eqb (getD src (4 * i) 0) k || z) (h k)
+    ∙ or-last (hasKey k (keysOf bef m)) (hasKey k (keysOf src i)) (eqb (getD src (4 * i) 0) k) ∙ ap (λ (z : Bool). hasKey k (keysOf bef m) || z) (sym (next-key src k i))
+
+pub seen-new : (bef : List ℕ) (m : ℕ) (src : List ℕ) (i : ℕ) (s : List ℕ) → Seen bef m src i s → Seen bef m src (i + 1) (getD src (4 * i) 0 ∷ s)
+unfolding hasKey
+seen-new bef m src i s h k =
+    ap (λ (z : Bool). eqb (getD src (4 * i) 0) k || z) (h k)
+    ∙ or-last (hasKey k (keysOf bef m)) (hasKey k (keysOf src i)) (eqb (getD src (4 * i) 0) k) ∙ ap (λ (z : Bool). hasKey k (keysOf bef m) || z) (sym (next-key src k i))

@@ -1,0 +1,79 @@
+-- A merge of two layers: its tests by the slices that they read, and what the stores and the offers leave. Assumes nothing.
+use mathlib.Core.Path.{_≡_, refl, sym, ap, ap₂, _∙_}
+use mathlib.Core.Bool.{Bool, _&&_}
+use mathlib.Core.List.{List, [], _∷_, _++_}
+use Prim.Native.Nat.{ℕ, _≤_}
+use native.Mathlib.Omega.{arith}
+use lib.ListN.{length, take, length-replicate}
+use lib.IntN.{ℤ}
+use lib.Dec.{leb}
+use Rattle.words.specs.Num.{allIn}
+use Rattle.countsketch_l2_norm.specs.Sketch.{Sketch, sketchOf}
+use Rattle.countsketch_l2_norm.specs.Merge.{sums, mergeSketch}
+use Rattle.countsketch_l2_norm.proofs.Merges.{length-sums, length-rowNorms}
+use Rattle.heap_moves.specs.declared.Who.{Who}
+use Rattle.heap_moves.specs.Cands.{noCand}
+use Rattle.heap_moves.proofs.Rounds.{counts-cands}
+use Rattle.heap.specs.Offer.{Table}
+use Rattle.heap.specs.Slices.{tableOf}
+use Rattle.heap.proofs.Sounds.{offer-long}
+use Rattle.layer.specs.declared.Dims.{Dims}
+use Rattle.layer.specs.declared.Merged.{Merged}
+use Rattle.layer.specs.Layer.{Layer, layerOf, offerTo, noTable}
+use Rattle.layer.specs.Merge.{whos, bothWhos, offerAll, mergeLayer, mergeReads, mergeFits}
+use Rattle.layer.specs.Gather.{gatheredOf, mergeTable, whosOf}
+use Rattle.layer.specs.Needs.{Fits}
+use Rattle.layer.proofs.Steps.{offer-few}
+use Rattle.layer.proofs.Firsts.{whos-table}
+
+-- ---- the tests
+
+pub merge-reads-are : (d : Dims) (xs : List ℤ) (ws es : List ℕ) (ns : List ℤ) (len : ℕ) (flag : Bool) (xs₂ : List ℤ) (ws₂ es₂ : List ℕ) (ns₂ : List ℤ) (len₂ : ℕ) (flag₂ : Bool)
+    → mergeReads (layerOf d xs ws es ns len flag) (layerOf d xs₂ ws₂ es₂ ns₂ len₂ flag₂) ≡ allIn xs && allIn (take len ns) && allIn xs₂ && allIn (take len₂ ns₂)
+unfolding mergeReads
+merge-reads-are d xs ws es ns len flag xs₂ ws₂ es₂ ns₂ len₂ flag₂ =
+    ap₂ (λ (l m : List ℤ). allIn xs && allIn (take len l) && allIn xs₂ && allIn (take len₂ m)) (counts-cands es ns) (counts-cands es₂ ns₂)
+
+pub merge-fits-are : (d : Dims) (xs : List ℤ) (ws es : List ℕ) (ns : List ℤ) (len : ℕ) (flag : Bool) (xs₂ : List ℤ) (ws₂ es₂ : List ℕ) (ns₂ : List ℤ) (len₂ : ℕ) (flag₂ : Bool)
+    → mergeFits (layerOf d xs ws es ns len flag) (layerOf d xs₂ ws₂ es₂ ns₂ len₂ flag₂) ≡ allIn (sums xs xs₂)
+unfolding mergeFits
+merge-fits-are d xs ws es ns len flag xs₂ ws₂ es₂ ns₂ len₂ flag₂ = refl
+
+-- ---- the merge
+
+pub merge-is : (d : Dims) (xs : List ℤ) (ws es : List ℕ) (ns : List ℤ) (len : ℕ) (xs₂ : List ℤ) (es₂ : List ℕ) (len₂ : ℕ) (xs′ : List ℤ) (ws′ es′ : List ℕ) (ns′ : List ℤ) (r : Merged)
+    → sketchOf xs′ ws′ (d .rows) ≡ mergeSketch (d .rows) (d .cols) (sketchOf xs ws (d .rows)) (sketchOf xs₂ [] (d .rows))
+    → gatheredOf es′ ns′ r ≡ mergeTable d xs′ (whosOf es len ++ whosOf es₂ len₂) → len ≤ length ns
+    → (ws₂ : List ℕ) (ns₂ : List ℤ) (flag flag₂ : Bool) → len₂ ≤ length ns₂
+    → layerOf d xs′ ws′ es′ ns′ (r .len) (flag && flag₂ && leb (r .keys) (d .size)) ≡ mergeLayer d (layerOf d xs ws es ns len flag) (layerOf d xs₂ ws₂ es₂ ns₂ len₂ flag₂)
+unfolding mergeLayer mergeTable
+merge-is d xs ws es ns len xs₂ es₂ len₂ xs′ ws′ es′ ns′ r sketch table l ws₂ ns₂ flag flag₂ l₂ =
+    let cells : xs′ ≡ sums xs xs₂ = ap (λ (s : Sketch). s .cells) sketch in
+    let who : whosOf es len ++ whosOf es₂ len₂ ≡ whos (tableOf es ns len) ++ whos (tableOf es₂ ns₂ len₂) = ap₂ (λ (a b : List Who). a ++ b) (sym (whos-table es ns len l)) (sym (whos-table es₂ ns₂ len₂ l₂)) in
+    let g : gatheredOf es′ ns′ r ≡ mergeTable d (sums xs xs₂) (whos (tableOf es ns len) ++ whos (tableOf es₂ ns₂ len₂)) = table ∙ ap₂ (mergeTable d) cells who in
+    λ i. record { sketch = sketch i; table = g i .table; flag = flag && flag₂ && leb (g i .keys) (d .size) }
+
+-- ---- no more candidates than seats; a layer keeps its lengths
+
+offers-few : (d : Dims) (cells : List ℤ) (ws : List Who) (t : Table) → t .len ≤ d .size → offerAll d cells ws t .len ≤ d .size
+unfolding offerAll
+offers-few d cells [] t h = h
+offers-few d cells (w ∷ ws) t h = offers-few d cells ws (offerTo d w cells t .table) (offer-few (d .size) t _ h)
+
+pub merge-few : (d : Dims) (a b : Layer) → mergeLayer d a b .table .len ≤ d .size
+unfolding mergeLayer
+merge-few d a b = offers-few d (sums (a .sketch .cells) (b .sketch .cells)) (bothWhos (a .table) (b .table)) (noTable (d .size)) (omega arith)
+
+offers-long : (d : Dims) (cells : List ℤ) (ws : List Who) (t : Table) → length (offerAll d cells ws t .cands) ≡ length (t .cands)
+unfolding offerAll
+offers-long d cells [] t = refl
+offers-long d cells (w ∷ ws) t = offers-long d cells ws (offerTo d w cells t .table) ∙ offer-long (d .size) t _
+
+pub merge-lengths : (d : Dims) (a b : Layer) → Fits d a → Fits d b → Fits d (mergeLayer d a b)
+unfolding mergeLayer
+merge-lengths d a b f g =
+    record {
+      cells = length-sums (a .sketch .cells) (b .sketch .cells) (f .cells ∙ sym (g .cells)) ∙ f .cells;
+      norms = length-rowNorms (d .cols) (sums (a .sketch .cells) (b .sketch .cells)) (d .rows) 0;
+      cands = offers-long d (sums (a .sketch .cells) (b .sketch .cells)) (bothWhos (a .table) (b .table)) (noTable (d .size)) ∙ length-replicate (d .size) noCand;
+    }

@@ -1,0 +1,136 @@
+// The candidates of two layers made one: each distinct key once, in first entry order, with its count
+// from the merged counters.
+use crate::Dims;
+use crate::Merged;
+use crate::filling::copy_words;
+use crate::filling::zero_counts;
+use crate::filling::zero_words;
+use heap_moves::Who;
+ghost use mathlib.Core.Path.{_≡_};
+ghost use mathlib.Core.List.{_++_};
+ghost use Prim.Native.Nat.{ℕ, _+_, _*_, _≤_, _<_};
+ghost use lib.ListN.{length};
+ghost use Rattle.heap.specs.Offer.{mostCands};
+ghost use Rattle.layer.specs.Gather.{gatheredOf, mergeTable, offerOne, gather, whosOf, keysOf, firstAt, Counted, Seats, Entries, Sofar};
+
+// One more key, with its count.
+fn offer_one(
+    entries: &mut [u64],
+    counts: &mut [i64],
+    d: Dims,
+    g: Merged,
+    w: Who,
+    counters: &[i64],
+) -> Merged
+    requires { ⌜ Seats d (length (now entries)) (length (now counts)) ⌝ }
+    requires { ⌜ Sofar d g (2 * mostCands) ⌝ }
+    requires { ⌜ Counted d (now counters) ⌝ }
+    ensures { λ r. ⌜ gatheredOf (now (entries .exit)) (now (counts .exit)) r ≡ offerOne d (now (counters .entry)) w (gatheredOf (now (entries .entry)) (now (counts .entry)) g) ⌝ }
+{
+    let count = countsketch_l2_norm::count_with_hash(counters, d.rows, d.cols, w.high, w.low);
+    let a = heap::offer(entries, counts, d.size, g.len, w, count);
+    let len = heap::len_after(g.len, a);
+    Merged {
+        len,
+        keys: g.keys + 1,
+    }
+}
+
+// The i-th entry of the source, if its key stands in none of the entries before it and in none of m
+// others.
+fn offer_first(
+    entries: &mut [u64],
+    counts: &mut [i64],
+    d: Dims,
+    g: Merged,
+    source: &[u64],
+    i: usize,
+    before: &[u64],
+    m: usize,
+    counters: &[i64],
+) -> Merged
+    requires { ⌜ Seats d (length (now entries)) (length (now counts)) ⌝ }
+    requires { ⌜ Sofar d g (2 * mostCands) ⌝ }
+    requires { ⌜ Counted d (now counters) ⌝ }
+    requires { ⌜ Entries (length (now source)) (i + 1) ⌝ }
+    requires { ⌜ Entries (length (now before)) m ⌝ }
+    ensures { λ r. ⌜ gatheredOf (now (entries .exit)) (now (counts .exit)) r
+        ≡ firstAt d (now (counters .entry)) (now (before .entry)) m (now (source .entry)) i (gatheredOf (now (entries .entry)) (now (counts .entry)) g) ⌝ }
+{
+    let w = heap_moves::who_at(source, i);
+    let there = heap::find(before, m, w.key);
+    if there < m {
+        return g;
+    }
+    let here = heap::find(source, i, w.key);
+    if here < i {
+        return g;
+    }
+    offer_one(entries, counts, d, g, w, counters)
+}
+
+// The first n entries of the source, each key once, without those of m other entries.
+fn offer_firsts(
+    entries: &mut [u64],
+    counts: &mut [i64],
+    d: Dims,
+    start: Merged,
+    source: &[u64],
+    n: usize,
+    before: &[u64],
+    m: usize,
+    counters: &[i64],
+) -> Merged
+    requires { ⌜ Seats d (length (now entries)) (length (now counts)) ⌝ }
+    requires { ⌜ Sofar d start mostCands ⌝ }
+    requires { ⌜ Counted d (now counters) ⌝ }
+    requires { ⌜ Entries (length (now source)) n ⌝ }
+    requires { ⌜ Entries (length (now before)) m ⌝ }
+    ensures { λ r. ⌜ (gatheredOf (now (entries .exit)) (now (counts .exit)) r
+        ≡ gather d (now (counters .entry)) (keysOf (now (before .entry)) m) (whosOf (now (source .entry)) n) (gatheredOf (now (entries .entry)) (now (counts .entry)) start))
+        × Sofar d r (start .keys + n) ⌝ }
+{
+    let mut g = start;
+    let mut i = 0;
+    while i < n {
+        g = offer_first(entries, counts, d, g, source, i, before, m, counters);
+        i += 1;
+    }
+    g
+}
+
+// The layer's own candidates, then the other's. The slices are zeroed and filled anew, so the own
+// entries are copied out first; no old count is read, since all are counted anew.
+pub fn merge_candidates(
+    entries: &mut [u64],
+    counts: &mut [i64],
+    d: Dims,
+    len: usize,
+    other: &[u64],
+    other_len: usize,
+    counters: &[i64],
+) -> Merged
+    requires { ⌜ Seats d (length (now entries)) (length (now counts)) ⌝ }
+    requires { ⌜ len ≤ d .size ⌝ }
+    requires { ⌜ Counted d (now counters) ⌝ }
+    requires { ⌜ Entries (length (now other)) «other_len» ⌝ }
+    ensures { λ r. ⌜ gatheredOf (now (entries .exit)) (now (counts .exit)) r ≡ mergeTable d (now (counters .entry)) (whosOf (now (entries .entry)) len ++ whosOf (now (other .entry)) «other_len») ⌝ }
+{
+    let mut copy = [0u64; 4096];
+    copy_words(&*entries, &mut copy, 4 * len);
+    zero_words(entries);
+    zero_counts(counts);
+    let none = Merged { len: 0, keys: 0 };
+    let g = offer_firsts(entries, counts, d, none, &copy, len, &copy, 0, counters);
+    offer_firsts(
+        entries,
+        counts,
+        d,
+        g,
+        other,
+        other_len,
+        &copy,
+        len,
+        counters,
+    )
+}
