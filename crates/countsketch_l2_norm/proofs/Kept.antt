@@ -26,7 +26,7 @@ Kept rows cols s = s .norms ≡ rowNorms cols (s .cells) rows 0
 
 -- ---- sums
 
-sum-same : (n : ℕ) (f g : ℕ → ℕ) → ((c : ℕ) → c < n → g c ≡ f c) → sumBelow n g ≡ sumBelow n f
+pub sum-same : (n : ℕ) (f g : ℕ → ℕ) → ((c : ℕ) → c < n → g c ≡ f c) → sumBelow n g ≡ sumBelow n f
 unfolding sumBelow
 sum-same zero f g h = refl
 sum-same (suc n) f g h = ap₂ _+_ (sum-same n f g (λ c l. h c (omega arith))) (h n (omega arith))

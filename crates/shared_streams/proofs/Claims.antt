@@ -12,7 +12,8 @@ use Rattle.header.specs.declared.Shape.{Shape}
 use Rattle.header.specs.declared.Mode.{Mode}
 use Rattle.header.specs.declared.Mode.the-variants as mode
 use Rattle.header.specs.Shape.{shapeRefusal, bottomOf}
-use Rattle.header.proofs.Refusals.{Accepted, accepted-of}
+use Rattle.header.specs.Accepted.{Accepted}
+use Rattle.header.proofs.Refusals.{accepted-of}
 use Rattle.univmon.specs.declared.Kind.{Kind}
 use Rattle.univmon.specs.declared.Kind.the-variants as kind
 use Rattle.univmon.specs.State.{State}

@@ -18,7 +18,9 @@ use Rattle.countsketch_l2_norm.specs.Sketch.{Sketch, cellOf, cellAt, addCell, a
 use Rattle.countsketch_l2_norm.specs.Merge.{sumBelow, squaresFrom, rowNorms, sums, mergeSketch}
 use Rattle.layer.specs.Layer.{Item, hashBy}
 use Rattle.shared_streams.specs.Books.{cellSum}
-use Rattle.shared_streams.proofs.SketchLaws.{place-lt, same-row, same-col, length-rowNorms, row-at, length-sums, Kept, kept-rows}
+use Rattle.countsketch_l2_norm.proofs.Places.{place-lt, same-row, same-col}
+use Rattle.countsketch_l2_norm.proofs.Merges.{length-rowNorms, row-at, length-sums}
+use Rattle.countsketch_l2_norm.proofs.Kept.{Kept, kept-rows}
 use Rattle.shared_streams.proofs.Lists.{getD-all}
 
 pub record SketchBy (rows cols : ℕ) (us : List Item) (s : Sketch) : Type 0 where

@@ -19,7 +19,7 @@ use Rattle.sums.specs.declared.G.the-variants as g
 use Rattle.shared_streams.specs.Books.{times, distinct}
 use Rattle.shared_streams.proofs.Keys.{hit-or, once-length}
 use Rattle.shared_streams.proofs.Depths.{bitOff, deeper}
-use Rattle.shared_streams.proofs.Cardinality.{cardinality-exact}
+use Rattle.sums.proofs.Cardinality.{cardinality-exact}
 use Rattle.shared_streams.proofs.Lists.{All}
 
 abbrev pub keysOf : List Entry → List ℕ

@@ -13,7 +13,7 @@ use Rattle.heap_moves.specs.Cands.{noCand}
 use Rattle.header.specs.declared.Shape.{Shape}
 use Rattle.header.specs.Shape.{maxLayers}
 use Rattle.header.specs.Header.{freshFlags, freshHeader}
-use Rattle.header.proofs.Refusals.{Accepted}
+use Rattle.header.specs.Accepted.{Accepted}
 use Rattle.layer.specs.Layer.{noLayer}
 use Rattle.univmon.specs.State.{rowsAt, colsAt, dimsAt, cellOff, normOff, candOff, layerAt, newState}
 use Rattle.shared_streams.specs.Books.{sent, weightOf}

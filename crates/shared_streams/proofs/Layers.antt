@@ -25,7 +25,8 @@ use Rattle.shared_streams.specs.Books.{cellSum, times, distinct, itemKey
 use Rattle.shared_streams.proofs.Keys.{distinct-same}
 use Rattle.shared_streams.proofs.Tables.{TableBy, table-offered}
 use Rattle.shared_streams.proofs.MergedTables.{table-merged}
-use Rattle.shared_streams.proofs.SketchLaws.{all-cells, kept-read}
+use Rattle.countsketch_l2_norm.proofs.After.{all-cells}
+use Rattle.countsketch_l2_norm.proofs.Kept.{kept-read}
 use Rattle.shared_streams.proofs.Counters.{SketchBy, sketch-added, sketch-merged, sketch-none}
 use Rattle.shared_streams.proofs.Ranges.{weights, weights-append, cells-in, count-in, counts-read, norms-in, rows-fit}
 

@@ -2,7 +2,6 @@ pub mod Lists
 pub mod Keys
 pub mod Tables
 pub mod MergedTables
-pub mod SketchLaws
 pub mod Counters
 pub mod Ranges
 pub mod Layers
@@ -18,7 +17,6 @@ pub mod Calls
 pub mod Takes
 pub mod Runs
 pub mod Depths
-pub mod Cardinality
 pub mod Counting
 pub mod Sent
 pub mod Standard

@@ -28,7 +28,9 @@ use Rattle.heap_moves.specs.Totals.{Each}
 use Rattle.layer.specs.Layer.{Item, hashBy}
 use Rattle.shared_streams.specs.Books.{cellSum}
 use Rattle.shared_streams.proofs.Tables.{InR}
-use Rattle.shared_streams.proofs.SketchLaws.{squares-most, all-cells, all-estimates}
+use Rattle.countsketch_l2_norm.proofs.Merges.{squares-most}
+use Rattle.countsketch_l2_norm.proofs.After.{all-cells}
+use Rattle.countsketch_l2_norm.proofs.Estimates.{all-estimates}
 use Rattle.shared_streams.proofs.Counters.{SketchBy}
 
 -- ---- a counter is at most the weight

@@ -14,7 +14,8 @@ use Rattle.header.specs.declared.Shape.{Shape}
 use Rattle.header.specs.Shape.{maxLayers, shapeRefusal}
 use Rattle.header.specs.Header.{clash, lensFrom, headerOk}
 use Rattle.header.proofs.Bottoms.{bottom-lt}
-use Rattle.header.proofs.Refusals.{Accepted, accepted-of}
+use Rattle.header.specs.Accepted.{Accepted}
+use Rattle.header.proofs.Refusals.{accepted-of}
 use Rattle.layer.specs.Layer.{Item, addReads, addFits}
 use Rattle.layer.specs.Merge.{mergeReads, mergeFits}
 use Rattle.univmon.specs.declared.Kind.{Kind}

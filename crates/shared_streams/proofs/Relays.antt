@@ -15,7 +15,7 @@ use Rattle.header.specs.declared.Mode.{Mode}
 use Rattle.header.specs.Shape.{bottomOf}
 use Rattle.header.specs.Header.{clash, joined, begun}
 use Rattle.header.proofs.Bottoms.{bottom-lt}
-use Rattle.header.proofs.Refusals.{Accepted}
+use Rattle.header.specs.Accepted.{Accepted}
 use Rattle.layer.specs.declared.Dims.{Dims}
 use Rattle.layer.specs.Layer.{Item, Layer, addLayer}
 use Rattle.layer.specs.Merge.{mergeLayer}
@@ -27,7 +27,7 @@ use Rattle.shared_streams.specs.Relays.{updateBy}
 use Rattle.shared_streams.specs.Books.{Update, Book, sent, cellSum, times, itemKeys, weightOf}
 use Rattle.shared_streams.proofs.Keys.{times-append}
 use Rattle.shared_streams.proofs.Counters.{cellSum-append}
-use Rattle.shared_streams.proofs.SketchLaws.{length-rowNorms}
+use Rattle.countsketch_l2_norm.proofs.Merges.{length-rowNorms}
 use Rattle.shared_streams.proofs.Ranges.{weights}
 use Rattle.shared_streams.proofs.Layers.{LayerBy, layer-same, layer-added, layer-merged}
 use Rattle.shared_streams.proofs.States.{Sized, Fits, Over, over}

@@ -14,13 +14,13 @@ use Rattle.words.specs.Num.{capped}
 use Rattle.countsketch_l2_norm.specs.Norms.{wordsOf}
 use Rattle.countsketch_l2_norm.specs.Merge.{sumBelow}
 use Rattle.header.specs.declared.Shape.{Shape}
-use Rattle.header.proofs.Refusals.{Accepted}
+use Rattle.header.specs.Accepted.{Accepted}
 use Rattle.univmon.specs.State.{State, rowsAt, colsAt, cellOff, normOff}
 use Rattle.univmon.specs.Slices.{Lent, flat}
 use Rattle.shared_streams.specs.Books.{Book, counterBy, times, keysSent, Holds, Reordered}
 use Rattle.shared_streams.specs.SharedStreams.{SameValues}
 use Rattle.shared_streams.proofs.Keys.{distinct-same}
-use Rattle.shared_streams.proofs.SketchLaws.{sum-same}
+use Rattle.countsketch_l2_norm.proofs.Kept.{sum-same}
 use Rattle.shared_streams.proofs.States.{Sized, off-step}
 use Rattle.shared_streams.proofs.Relays.{wide, RelayBy}
 use Rattle.shared_streams.proofs.Reorders.{reordered-cells, reordered-times, reordered-weight}

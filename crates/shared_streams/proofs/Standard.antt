@@ -13,7 +13,7 @@ use Rattle.heap_moves.specs.declared.Who.{Who}
 use Rattle.heap_moves.specs.Cands.{Cand, noCand}
 use Rattle.header.specs.declared.Shape.{Shape}
 use Rattle.header.specs.Shape.{bottomOf}
-use Rattle.header.proofs.Refusals.{Accepted}
+use Rattle.header.specs.Accepted.{Accepted}
 use Rattle.layer.specs.declared.Dims.{Dims}
 use Rattle.layer.specs.Merge.{whos}
 use Rattle.univmon.specs.declared.Kind.{Kind}

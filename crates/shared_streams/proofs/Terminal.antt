@@ -13,7 +13,7 @@ use borrow.Author.Tests.{lt-leb, leb-true, leb-false, eqb-true, eqb-false}
 use Rattle.header.specs.declared.Shape.{Shape}
 use Rattle.header.specs.Shape.{bottomOf}
 use Rattle.header.proofs.Bottoms.{bottom-lt}
-use Rattle.header.proofs.Refusals.{Accepted}
+use Rattle.header.specs.Accepted.{Accepted}
 use Rattle.univmon.specs.declared.Kind.the-variants as kind
 use Rattle.univmon.specs.State.{State, layerAt}
 use Rattle.sums.specs.Entries.{Entry}

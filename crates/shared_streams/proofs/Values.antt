@@ -25,7 +25,10 @@ use Rattle.univmon.specs.State.{State, rowsAt, colsAt, cellOff, normOff, candOf
 use Rattle.univmon.specs.Slices.{cellsIn, normsIn, candsIn, lengthsOk, lentOk, view, flat}
 use Rattle.shared_streams.specs.Books.{Book, times, counterBy, normBy, entryKeys, Holds}
 use Rattle.shared_streams.proofs.Tables.{whoKeys, held-times}
-use Rattle.shared_streams.proofs.SketchLaws.{place-lt, norm-at, norms-words, row-at, sum-same}
+use Rattle.countsketch_l2_norm.proofs.Places.{place-lt}
+use Rattle.countsketch_l2_norm.proofs.Norms.{norm-at, norms-words}
+use Rattle.countsketch_l2_norm.proofs.Merges.{row-at}
+use Rattle.countsketch_l2_norm.proofs.Kept.{sum-same}
 use Rattle.shared_streams.proofs.States.{Sized, norm-room, cand-room}
 use Rattle.shared_streams.proofs.Relays.{RelayBy}
 
