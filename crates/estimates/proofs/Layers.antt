@@ -6,6 +6,8 @@ use Prim.Native.Nat.{ℕ, zero, suc, _*_, _≤_, _<_}
 use native.Mathlib.Omega.{arith}
 use lib.ListN.{length, getD, take, drop}
 use lib.IntN.{ℤ}
+use lib.Ieee.{Float, binary64, add}
+use Rattle.float64.specs.Root.{root}
 use Rattle.words.specs.Num.{allIn}
 use Rattle.words.specs.Parts.{part}
 use Rattle.countsketch_l2_norm.specs.Norms.{normsOf}
@@ -17,6 +19,8 @@ use Rattle.heap_moves.proofs.Views.{who-drop}
 use Rattle.heap_moves.proofs.Rounds.{counts-cands}
 use Rattle.heap.specs.Slices.{tableOf}
 use Rattle.header.specs.declared.Header.{Header}
+use Rattle.header.specs.declared.Mode.{Mode}
+use Rattle.header.specs.declared.Mode.the-variants as mode
 use Rattle.layer.specs.declared.Dims.{Dims}
 use Rattle.layer.specs.Layer.{Layer, layerOf}
 use Rattle.layer.specs.Merge.{whos}
@@ -24,7 +28,7 @@ use Rattle.univmon.specs.State.{State, dimsAt, normOff, candOff, layerAt, allLa
 use Rattle.univmon.specs.Slices.{Lent, normsIn, view}
 use Rattle.univmon.specs.Needs.{Standing}
 use Rattle.univmon.proofs.Views.{layer-view, norms-part}
-use Rattle.estimates.specs.Norms.{l2At}
+use Rattle.estimates.specs.Norms.{l2At, squaredAt, squaredBelow, l2By, l2OfState}
 use Rattle.estimates.specs.Sums.{entryBy, ownAt, whosRead, layerReads}
 use Rattle.estimates.specs.Anew.{whosFrom, Readable}
 use Rattle.estimates.specs.Calls.{normState}
@@ -111,3 +115,19 @@ pub readable-at : (h : Header) (xs : List ℤ) (es : List ℕ) (l : ℕ) → Cou
 readable-at h xs es l c i =
     readable (dimsAt (h .shape) l) (cellsAt h xs l) (wordsAt h es l) (lenAt h l)
     (record { shaped = shaped-at (h .shape) l (c .accepted); room = omega (arith, cells-long h xs l (c .cells) i); words = omega (arith, words-long h es l (c .words) i, c .lens l i) }) (c .read l i)
+
+-- ---- L2
+
+-- L2 reads no counter and no candidate: that of the header and the norms is that of the whole state
+pub l2-same : (r : Lent) → l2OfState (normState (r .head) (r .norms)) ≡ l2OfState (view r)
+unfolding l2OfState view layerAt squaredBelow
+l2-same r = go (r .head .mode)
+  where
+    below : (n : ℕ) → squaredBelow (normState (r .head) (r .norms)) n ≡ squaredBelow (view r) n
+    below zero = refl
+    below (suc n) = ap (λ (x : Float). add binary64 x (squaredAt (view r) n)) (below n)
+
+    go : (m : Mode) → l2By m (normState (r .head) (r .norms)) ≡ l2By m (view r)
+    go mode.Unset = refl
+    go mode.Standard = refl
+    go mode.Terminal = ap root (below (r .head .shape .layers))

@@ -42,6 +42,4 @@ returns-3 c =
     (sym (rw (tested (c .before .before .before .before) ∙ not-false (c .before .before .before .before .counts-at .result) (c .before .before .before .if1 .left), c .before .if2 .left)))
 
 pub add-term-spec : {M : Type 1} → statement M
-add-term-spec =
-    tie.close
-    (tie.spec counts-at-requires returns g-of-requires returns-2 factor-of-requires returns-3)
+add-term-spec = tie.close (tie.spec counts-at-requires returns g-of-requires returns-2 factor-of-requires returns-3)

@@ -34,14 +34,4 @@ unfolding gOf
 returns-3 c = rw (c .count-to-f642 .ensures, toZ-ofZ (c .before .before .before .fits .count), c .before .enum-told3 .given .1)
 
 pub g-of-spec : {M : Type 1} → statement M
-g-of-spec =
-    tie.close
-    (tie.spec
-    enum-told
-    enum-told-2
-    count-to-f64-requires
-    enum-told-3
-    count-to-f64-requires-2
-    returns
-    returns-2
-    returns-3)
+g-of-spec = tie.close (tie.spec enum-told enum-told-2 count-to-f64-requires enum-told-3 count-to-f64-requires-2 returns returns-2 returns-3)

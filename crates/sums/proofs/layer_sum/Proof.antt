@@ -57,18 +57,4 @@ returns c =
     sum-end (a .rule) (at s) (a .n) (c .before .loop .acc) (c .before .loop .i) (c .before .loop .inv) (omega arith) ∙ ap (sumOver (a .rule) nought) (sym (view-listed s 0 (a .n)))
 
 pub layer-sum-spec : {M : Type 1} → statement M
-layer-sum-spec =
-    tie.close
-    (tie.spec
-    Inv-loop
-    μ-loop
-    loop-holds
-    mul-add-term
-    shared-slice-read-add-term
-    mul-add-term-2
-    shared-slice-copy-out-add-term
-    add-term-requires
-    add-i
-    loop-less
-    loop-again
-    returns)
+layer-sum-spec = tie.close (tie.spec Inv-loop μ-loop loop-holds mul-add-term shared-slice-read-add-term mul-add-term-2 shared-slice-copy-out-add-term add-term-requires add-i loop-less loop-again returns)

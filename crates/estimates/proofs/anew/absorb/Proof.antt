@@ -61,17 +61,4 @@ returns c =
     )
 
 pub absorb-spec : {M : Type 1} → statement M
-absorb-spec =
-    tie.close
-    (tie.spec
-    Inv-loop
-    μ-loop
-    loop-holds
-    absorb-at-requires
-    add-i
-    loop-less
-    loop-again
-    same-length
-    same-length-2
-    same-length-3
-    returns)
+absorb-spec = tie.close (tie.spec Inv-loop μ-loop loop-holds absorb-at-requires add-i loop-less loop-again same-length same-length-2 same-length-3 returns)

@@ -40,13 +40,4 @@ returns : tie.Need-returns
 returns c = (rw (counted (c .before .before .before .before .before .before .before .before .before), c .before .before .before .before .before .before .before .before .before .before .who-at .ensures) at (c .before .before .before .before .before .absorb-one .ensures .0), c .before .before .before .before .before .absorb-one .ensures .1)
 
 pub absorb-at-spec : {M : Type 1} → statement M
-absorb-at-spec =
-    tie.close
-    (tie.spec
-    who-at-requires
-    count-with-hash-requires
-    absorb-one-requires
-    same-length
-    same-length-2
-    same-length-3
-    returns)
+absorb-at-spec = tie.close (tie.spec who-at-requires count-with-hash-requires absorb-one-requires same-length same-length-2 same-length-3 returns)

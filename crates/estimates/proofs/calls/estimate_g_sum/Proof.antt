@@ -44,12 +44,4 @@ returns-3 c =
     c .sum-by-mode .ensures ∙ sum-goes (here (c .before .before .before .before .before .before .before)) (a .g) (a .count-every-key) (lent-ok (c .before .before .before)) (sym (c .before .before .header-alone .ensures) ∙ c .before .if2 .left)
 
 pub estimate-g-sum-spec : {M : Type 1} → statement M
-estimate-g-sum-spec =
-    tie.close
-    (tie.spec
-    lent-in-range-requires
-    returns
-    header-alone-requires
-    returns-2
-    sum-by-mode-requires
-    returns-3)
+estimate-g-sum-spec = tie.close (tie.spec lent-in-range-requires returns header-alone-requires returns-2 sum-by-mode-requires returns-3)

@@ -61,15 +61,4 @@ returns-2 c =
     (layers-none (test (a .header)) (normState (a .header) (now (a .norms))) (c .before .loop .l))
 
 pub all-norms-read-spec : {M : Type 1} → statement M
-all-norms-read-spec =
-    tie.close
-    (tie.spec
-    Inv-loop
-    μ-loop
-    loop-holds
-    norms-read-at-requires
-    returns
-    add-l
-    loop-less
-    loop-again
-    returns-2)
+all-norms-read-spec = tie.close (tie.spec Inv-loop μ-loop loop-holds norms-read-at-requires returns add-l loop-less loop-again returns-2)

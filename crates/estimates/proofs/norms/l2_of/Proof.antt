@@ -49,16 +49,4 @@ unfolding by l2OfState
 returns-3 c = c .sqrt .ensures ∙ ap root (c .before .squared-total .ensures) ∙ ap (by (c .before .before .before .before .before)) (sym (c .before .before .enum-told3 .given .1))
 
 pub l2-of-spec : {M : Type 1} → statement M
-l2-of-spec =
-    tie.close
-    (tie.spec
-    enum-told
-    l2-at-requires
-    enum-told-2
-    l2-at-requires-2
-    enum-told-3
-    squared-total-requires
-    sqrt-requires
-    returns
-    returns-2
-    returns-3)
+l2-of-spec = tie.close (tie.spec enum-told l2-at-requires enum-told-2 l2-at-requires-2 enum-told-3 squared-total-requires sqrt-requires returns returns-2 returns-3)

@@ -44,15 +44,4 @@ unfolding by
 returns-3 c = c .all-norms-read .ensures ∙ ap (by (c .before .before .before .before)) (sym (c .before .enum-told3 .given .1))
 
 pub l2-reads-spec : {M : Type 1} → statement M
-l2-reads-spec =
-    tie.close
-    (tie.spec
-    enum-told
-    norms-read-at-requires
-    enum-told-2
-    norms-read-at-requires-2
-    enum-told-3
-    all-norms-read-requires
-    returns
-    returns-2
-    returns-3)
+l2-reads-spec = tie.close (tie.spec enum-told norms-read-at-requires enum-told-2 norms-read-at-requires-2 enum-told-3 all-norms-read-requires returns returns-2 returns-3)

@@ -51,14 +51,4 @@ returns c =
     ∙ ap (norm.normsIn (dimsAt (a .header .shape) (a .l) .cols)) (sym (norms-are (a .header) (now (a .norms)) (a .l) (c .before .before .before .before .before .before .pre .1)))
 
 pub norms-read-at-spec : {M : Type 1} → statement M
-norms-read-at-spec =
-    tie.close
-    (tie.spec
-    dims-requires
-    span-of-requires
-    mul-norms-in
-    sub-norms-in
-    part-norms-in-start
-    part-norms-in-end
-    norms-in-requires
-    returns)
+norms-read-at-spec = tie.close (tie.spec dims-requires span-of-requires mul-norms-in sub-norms-in part-norms-in-start part-norms-in-end norms-in-requires returns)

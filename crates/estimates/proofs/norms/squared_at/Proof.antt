@@ -50,14 +50,4 @@ returns c =
     rw (c .before .before .before .dims .ensures, (here (c .before .before)) .is) at (c .l2-squared .ensures) ∙ ap l2Squared (sym (norms-are (a .header) (now (a .norms)) (a .l) (c .before .before .before .before .before .before .pre .1)))
 
 pub squared-at-spec : {M : Type 1} → statement M
-squared-at-spec =
-    tie.close
-    (tie.spec
-    dims-requires
-    span-of-requires
-    mul-l2-squared
-    sub-l2-squared
-    part-l2-squared-start
-    part-l2-squared-end
-    l2-squared-requires
-    returns)
+squared-at-spec = tie.close (tie.spec dims-requires span-of-requires mul-l2-squared sub-l2-squared part-l2-squared-start part-l2-squared-end l2-squared-requires returns)

@@ -41,6 +41,4 @@ returns c =
     c .before .loop .inv .1 ∙ ap (squaredBelow (normState (c .before .before .before .args .header) (now (c .before .before .before .args .norms)))) z
 
 pub squared-total-spec : {M : Type 1} → statement M
-squared-total-spec =
-    tie.close
-    (tie.spec Inv-loop μ-loop loop-holds squared-at-requires add-l loop-less loop-again returns)
+squared-total-spec = tie.close (tie.spec Inv-loop μ-loop loop-holds squared-at-requires add-l loop-less loop-again returns)

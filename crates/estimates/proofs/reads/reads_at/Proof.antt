@@ -113,28 +113,4 @@ returns c =
     ∙ reads-view (lent (a .header) (now (a .counters)) (now (a .norms)) (now (a .entries)) (now (a .counts))) (a .l) (a .terminal) (c .before .before .before .before .before .before .before .before .before .before .before .pre .0) (c .before .before .before .before .before .before .before .before .before .before .before .pre .1)
 
 pub reads-at-spec : {M : Type 1} → statement M
-reads-at-spec =
-    tie.close
-    (tie.spec
-    dims-requires
-    span-of-requires
-    mul-layer-reads
-    sub-layer-reads
-    part-layer-reads-start
-    part-layer-reads-end
-    mul-layer-reads-2
-    sub-layer-reads-2
-    part-layer-reads-start-2
-    part-layer-reads-end-2
-    mul-layer-reads-3
-    sub-layer-reads-3
-    part-layer-reads-start-3
-    part-layer-reads-end-3
-    mul-layer-reads-4
-    sub-layer-reads-4
-    part-layer-reads-start-4
-    part-layer-reads-end-4
-    mul-layer-reads-5
-    array-read-layer-reads
-    layer-reads-requires
-    returns)
+reads-at-spec = tie.close (tie.spec dims-requires span-of-requires mul-layer-reads sub-layer-reads part-layer-reads-start part-layer-reads-end mul-layer-reads-2 sub-layer-reads-2 part-layer-reads-start-2 part-layer-reads-end-2 mul-layer-reads-3 sub-layer-reads-3 part-layer-reads-start-3 part-layer-reads-end-3 mul-layer-reads-4 sub-layer-reads-4 part-layer-reads-start-4 part-layer-reads-end-4 mul-layer-reads-5 array-read-layer-reads layer-reads-requires returns)

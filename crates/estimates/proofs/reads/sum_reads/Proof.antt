@@ -67,15 +67,4 @@ returns-2 c =
     (layers-none (test (a .header) (a .terminal)) (here (c .before .before .before .before)) (c .before .loop .l))
 
 pub sum-reads-spec : {M : Type 1} → statement M
-sum-reads-spec =
-    tie.close
-    (tie.spec
-    Inv-loop
-    μ-loop
-    loop-holds
-    reads-at-requires
-    returns
-    add-l
-    loop-less
-    loop-again
-    returns-2)
+sum-reads-spec = tie.close (tie.spec Inv-loop μ-loop loop-holds reads-at-requires returns add-l loop-less loop-again returns-2)
