@@ -1,13 +1,23 @@
 // UnivMon: the calls that change a state. A state is a `Header` by value and four slices that the
 // caller lends: counters, norms, entries and counts.
-pub mod calls;
-pub mod delta;
-pub mod fresh;
+mod calls;
+mod delta;
+mod fresh;
 mod judge;
-pub mod marks;
-pub mod merge;
+mod marks;
+mod merging;
 pub mod sizes;
-pub mod update;
+mod update;
+
+pub use calls::update_weighted;
+pub use calls::update_weighted_terminal;
+pub use delta::apply_delta;
+pub use fresh::clear;
+pub use fresh::new;
+pub use marks::mark_candidates_incomplete;
+pub use marks::mark_layer_candidates_incomplete;
+pub use marks::set_total_weight;
+pub use merging::merge;
 
 // How an update sends its key to layers.
 pub enum Kind {

@@ -1,4 +1,4 @@
-// Both updates: everything is judged before anything is written.
+// What both updates write, once everything is judged: functions of this crate only, so they may ask for what `calls` has tested.
 use crate::sizes::dims;
 use crate::sizes::span_of;
 use header::Header;

@@ -13,8 +13,8 @@ use Rattle.univmon.specs.State.{dimsAt}
 use Rattle.univmon.specs.Pairs.{Paired}
 use Rattle.univmon.proofs.Sends.{Spanned, spanned-of, cells-room}
 use Rattle.univmon.proofs.Pairing.{other-inside, other-spanned, own-housed, other-housed, fits-here, own-in, other-in}
-use Rattle.univmon.proofs.merge.fits_at.Statement.{statement}
-use Rattle.univmon.proofs.merge.fits_at.Tie as tie
+use Rattle.univmon.proofs.merging.fits_at.Statement.{statement}
+use Rattle.univmon.proofs.merging.fits_at.Tie as tie
 
 -- the two states that are lent, and where their layer stands
 abbrev lent-of : tie.Start → Lent

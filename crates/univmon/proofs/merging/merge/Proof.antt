@@ -11,8 +11,8 @@ use Rattle.univmon.specs.Merges.{merged}
 use Rattle.univmon.specs.Pairs.{mergeNumber}
 use Rattle.univmon.proofs.Flatten.{lent-is}
 use Rattle.univmon.proofs.MergeCalls.{merge-refused, merge-done, weights-fit, merges-of, merged-is}
-use Rattle.univmon.proofs.merge.merge.Statement.{statement}
-use Rattle.univmon.proofs.merge.merge.Tie as tie
+use Rattle.univmon.proofs.merging.merge.Statement.{statement}
+use Rattle.univmon.proofs.merging.merge.Tie as tie
 
 merge-refusal-requires : tie.Need-merge-refusal-requires
 merge-refusal-requires c κs = search needs

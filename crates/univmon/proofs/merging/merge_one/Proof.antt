@@ -19,8 +19,8 @@ use Rattle.univmon.specs.State.{dimsAt, layerAt}
 use Rattle.univmon.specs.Pairs.{Paired, mergesWith}
 use Rattle.univmon.proofs.Sends.{Spanned, spanned-of, cells-room, norms-room, words-room, seats-room, Back, back-view, back-standing}
 use Rattle.univmon.proofs.Pairing.{other-inside, other-spanned, own-is, other-is, other-housed, merge-ready, flag-is}
-use Rattle.univmon.proofs.merge.merge_one.Statement.{statement}
-use Rattle.univmon.proofs.merge.merge_one.Tie as tie
+use Rattle.univmon.proofs.merging.merge_one.Statement.{statement}
+use Rattle.univmon.proofs.merging.merge_one.Tie as tie
 
 -- the two states that are lent, and where their layer stands
 abbrev lent-of : tie.Start → Lent

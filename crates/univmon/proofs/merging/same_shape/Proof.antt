@@ -3,8 +3,8 @@
 use borrow.Author.Tests.{eq-eqb, ne-eqb}
 use Rattle.univmon.specs.Calls.{left}
 use Rattle.univmon.proofs.MergeCalls.{last-test}
-use Rattle.univmon.proofs.merge.same_shape.Statement.{statement}
-use Rattle.univmon.proofs.merge.same_shape.Tie as tie
+use Rattle.univmon.proofs.merging.same_shape.Statement.{statement}
+use Rattle.univmon.proofs.merging.same_shape.Tie as tie
 
 returns : tie.Need-returns
 returns c = simp (ne-eqb _ _ (c .if1 .taken))

@@ -12,8 +12,8 @@ use Rattle.words.proofs.Scans.{Scan, scan-start, scan-on, scan-stop, scan-end}
 use Rattle.univmon.specs.State.{allLayers}
 use Rattle.univmon.specs.Pairs.{readsWith}
 use Rattle.univmon.proofs.Pairings.{each-step, each-none, pair-one}
-use Rattle.univmon.proofs.merge.all_read.Statement.{statement}
-use Rattle.univmon.proofs.merge.all_read.Tie as tie
+use Rattle.univmon.proofs.merging.all_read.Statement.{statement}
+use Rattle.univmon.proofs.merging.all_read.Tie as tie
 
 abbrev Inv-loop : tie.InvT-loop
 Inv-loop h counters norms entries counts other other-counters other-norms other-entries other-counts many l₀ l = Scan (λ k i. allLayers (readsWith (view (lent other other-counters other-norms other-entries other-counts))) k i (view (lent h counters norms entries counts))) many 0 l

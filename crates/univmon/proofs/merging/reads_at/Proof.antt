@@ -14,8 +14,8 @@ use Rattle.univmon.specs.State.{dimsAt}
 use Rattle.univmon.specs.Pairs.{Paired}
 use Rattle.univmon.proofs.Sends.{Spanned, spanned-of, cells-room, seats-room}
 use Rattle.univmon.proofs.Pairing.{other-inside, other-spanned, own-housed, other-housed, reads-here}
-use Rattle.univmon.proofs.merge.reads_at.Statement.{statement}
-use Rattle.univmon.proofs.merge.reads_at.Tie as tie
+use Rattle.univmon.proofs.merging.reads_at.Statement.{statement}
+use Rattle.univmon.proofs.merging.reads_at.Tie as tie
 
 -- the two states that are lent, and where their layer stands
 abbrev lent-of : tie.Start → Lent

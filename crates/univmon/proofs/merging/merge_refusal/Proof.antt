@@ -9,8 +9,8 @@ use Rattle.univmon.specs.Slices.{lent, Lent}
 use Rattle.univmon.specs.Calls.{left}
 use Rattle.univmon.specs.Pairs.{lentStands, headsNumber, mergeNumber}
 use Rattle.univmon.proofs.MergeCalls.{light-of, paired-of}
-use Rattle.univmon.proofs.merge.merge_refusal.Statement.{statement}
-use Rattle.univmon.proofs.merge.merge_refusal.Tie as tie
+use Rattle.univmon.proofs.merging.merge_refusal.Statement.{statement}
+use Rattle.univmon.proofs.merging.merge_refusal.Tie as tie
 
 stands-requires : tie.Need-stands-requires
 stands-requires c κs = search needs

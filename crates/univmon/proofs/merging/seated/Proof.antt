@@ -5,8 +5,8 @@ use mathlib.Core.Bool.{Bool, _&&_}
 use lib.Dec.{leb}
 use borrow.Author.Tests.{not-true, not-false}
 use Rattle.univmon.specs.Calls.{left}
-use Rattle.univmon.proofs.merge.seated.Statement.{statement}
-use Rattle.univmon.proofs.merge.seated.Tie as tie
+use Rattle.univmon.proofs.merging.seated.Statement.{statement}
+use Rattle.univmon.proofs.merging.seated.Tie as tie
 
 returns : tie.Need-returns
 returns c = let a = c .before .args in ap (λ (b : Bool). b && leb (a .keys) (a .size)) (sym (not-true (a .flag) (c .if1 .taken)))

@@ -8,8 +8,8 @@ use Rattle.univmon.specs.Slices.{lent, view, Lent}
 use Rattle.univmon.specs.Calls.{left}
 use Rattle.univmon.specs.State.{allLayers}
 use Rattle.univmon.specs.Pairs.{readsWith, layersNumber}
-use Rattle.univmon.proofs.merge.layers_refusal.Statement.{statement}
-use Rattle.univmon.proofs.merge.layers_refusal.Tie as tie
+use Rattle.univmon.proofs.merging.layers_refusal.Statement.{statement}
+use Rattle.univmon.proofs.merging.layers_refusal.Tie as tie
 
 -- the two states that are lent
 abbrev lent-of : tie.Start → Lent

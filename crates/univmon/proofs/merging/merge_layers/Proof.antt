@@ -7,8 +7,8 @@ use denote.Ref.{now}
 use Rattle.univmon.specs.Slices.{lent, Lent}
 use Rattle.univmon.specs.Calls.{left}
 use Rattle.univmon.proofs.Pairings.{Merging, merging-start, merging-ready, merging-on, merging-end}
-use Rattle.univmon.proofs.merge.merge_layers.Statement.{statement}
-use Rattle.univmon.proofs.merge.merge_layers.Tie as tie
+use Rattle.univmon.proofs.merging.merge_layers.Statement.{statement}
+use Rattle.univmon.proofs.merging.merge_layers.Tie as tie
 
 abbrev Inv-loop : tie.InvT-loop
 Inv-loop counters₀ norms₀ entries₀ counts₀ other other-counters other-norms other-entries other-counts many header₀ l₀ counters norms entries counts header l = Merging (lent header₀ counters₀ norms₀ entries₀ counts₀) (lent other other-counters other-norms other-entries other-counts) many (lent header counters norms entries counts) l

@@ -11,8 +11,8 @@ use Rattle.header.specs.Header.{clash}
 use Rattle.univmon.specs.Calls.{left}
 use Rattle.univmon.specs.Merges.{sameShape}
 use Rattle.univmon.specs.Pairs.{headsNumber}
-use Rattle.univmon.proofs.merge.heads_refusal.Statement.{statement}
-use Rattle.univmon.proofs.merge.heads_refusal.Tie as tie
+use Rattle.univmon.proofs.merging.heads_refusal.Statement.{statement}
+use Rattle.univmon.proofs.merging.heads_refusal.Tie as tie
 
 same-shape-requires : tie.Need-same-shape-requires
 same-shape-requires c κs = search needs

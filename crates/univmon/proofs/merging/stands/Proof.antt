@@ -7,8 +7,8 @@ use borrow.Author.Tests.{not-true, not-false}
 use Rattle.header.specs.Header.{headerOk}
 use Rattle.header.proofs.Ranges.{ranged-of}
 use Rattle.univmon.specs.Calls.{left}
-use Rattle.univmon.proofs.merge.stands.Statement.{statement}
-use Rattle.univmon.proofs.merge.stands.Tie as tie
+use Rattle.univmon.proofs.merging.stands.Statement.{statement}
+use Rattle.univmon.proofs.merging.stands.Tie as tie
 
 in-range-requires : tie.Need-in-range-requires
 in-range-requires c κs = search needs
