@@ -1,0 +1,396 @@
+"""Document 01's words once more, on slices: what every call answers and leaves, refusals included.
+
+The stored results of `replay` come from here wherever the oracle cannot be asked (refusals 4, 7, 9, 11, 12, states set by hand);
+everything else is held against the oracle, call by call (`replay.py`).
+"""
+import math
+import struct
+
+TOP, CAP, MASK, PRIME = 1 << 52, 1 << 63, (1 << 64) - 1, 4294967291
+UNSET, STANDARD, TERMINAL = 0, 1, 2
+
+
+def bits(x):
+    return struct.unpack("<Q", struct.pack("<d", float(x) + 0.0))[0]
+
+
+def median(values):
+    v, n = sorted(values), len(values)
+    return v[n // 2] if n % 2 else (v[n // 2 - 1] + v[n // 2]) / 2.0
+
+
+def capped(x):
+    return min(x * x, CAP)
+
+
+def mask_bits(cols):
+    return (cols - 1).bit_length()
+
+
+def cell(h, row, cols):
+    m = mask_bits(cols)
+    return (h >> (row * m)) % (1 << m) % cols, 1 if h >> (127 - row) & 1 else -1
+
+
+def shape_refusal(heap, rows, cols, layers):
+    if 0 in (heap, rows, cols, layers):
+        return 1
+    if layers > 19:
+        return 2
+    if (mask_bits(cols) + 1) * rows > 128:
+        return 3
+    return 4 if rows > 20 or cols > 4096 or heap > 1024 else 0
+
+
+def bottom_layer(hash, layers):
+    for l in range(1, layers):
+        if not hash >> l & 1:
+            return l - 1
+    return layers - 1
+
+
+class Relay:
+    """a header and four slices, as they are lent"""
+
+    def __init__(self):
+        self.shape, self.weight, self.mode = [0, 0, 0, 0], 0, UNSET  # heap, rows, cols, layers
+        self.flags, self.lens = [False] * 19, [0] * 19
+        self.counters, self.norms, self.entries, self.counts = [], [], [], []
+
+    def copy(self):
+        r = Relay()
+        r.shape, r.weight, r.mode, r.flags, r.lens = list(self.shape), self.weight, self.mode, list(self.flags), list(self.lens)
+        r.counters, r.norms, r.entries, r.counts = list(self.counters), list(self.norms), list(self.entries), list(self.counts)
+        return r
+
+    # ---- lengths and header
+
+    def lengths(self):
+        heap, rows, cols, layers = self.shape
+        return [layers * rows * cols, 2 * layers * rows, 4 * layers * heap, layers * heap]
+
+    def sound(self):
+        heap, _, _, layers = self.shape
+        if shape_refusal(*self.shape) or self.weight > TOP:
+            return False
+        if any(n > heap for n in self.lens[:layers]) or any(self.lens[layers:]) or any(self.flags[layers:]):
+            return False
+        return [len(self.counters), len(self.norms), len(self.entries), len(self.counts)] == self.lengths()
+
+    def head_sound(self):
+        other = self.copy()
+        n = other.lengths() if not shape_refusal(*other.shape) else [0] * 4
+        other.counters, other.norms, other.entries, other.counts = [0] * n[0], [0] * n[1], [0] * n[2], [0] * n[3]
+        return other.sound()
+
+    def norms_sound(self):
+        return self.head_sound() and len(self.norms) == self.lengths()[1]
+
+    # ---- a layer
+
+    def at(self, l, r, c):
+        _, rows, cols, _ = self.shape
+        return (l * rows + r) * cols + c
+
+    def places(self, l, h):
+        _, rows, cols, _ = self.shape
+        return [(r, self.at(l, r, cell(h, r, cols)[0]), cell(h, r, cols)[1]) for r in range(rows)]
+
+    def norm(self, l, r):
+        i = 2 * (l * self.shape[1] + r)
+        return self.norms[i] + (self.norms[i + 1] << 64)
+
+    def put_norm(self, l, r, n):
+        i = 2 * (l * self.shape[1] + r)
+        self.norms[i], self.norms[i + 1] = n & MASK, n >> 64
+
+    def read(self, l, r, at):
+        n = self.norm(l, r)
+        return abs(self.counters[at]) <= TOP and capped(self.counters[at]) <= n <= self.shape[2] * CAP
+
+    def add(self, l, r, at, d):
+        x = self.counters[at]
+        self.put_norm(l, r, self.norm(l, r) - capped(x) + capped(x + d))
+        self.counters[at] = x + d
+
+    def counts_read(self, l):
+        a = l * self.shape[0]
+        return all(abs(n) <= TOP for n in self.counts[a:a + self.lens[l]])
+
+    def estimate_reads(self, l, h):
+        return all(abs(self.counters[at]) <= TOP for _, at, _ in self.places(l, h))
+
+    def count(self, l, h):
+        return int(median([float(s * self.counters[at]) for _, at, s in self.places(l, h)]))
+
+    # ---- candidates
+
+    def entry(self, l, i):
+        a = 4 * (l * self.shape[0] + i)
+        return self.entries[a:a + 4]
+
+    def swap(self, l, i, j):
+        a, b = l * self.shape[0] + i, l * self.shape[0] + j
+        self.entries[4 * a:4 * a + 4], self.entries[4 * b:4 * b + 4] = self.entries[4 * b:4 * b + 4], self.entries[4 * a:4 * a + 4]
+        self.counts[a], self.counts[b] = self.counts[b], self.counts[a]
+
+    def put(self, l, i, entry, n):
+        a = l * self.shape[0] + i
+        self.entries[4 * a:4 * a + 4], self.counts[a] = entry, n
+
+    def down(self, l, i):
+        a, start = l * self.shape[0], i
+        while True:
+            t = i
+            for child in (2 * i + 1, 2 * i + 2):
+                if child < self.lens[l] and self.counts[a + child] < self.counts[a + t]:
+                    t = child
+            if t == i:
+                return i != start
+            self.swap(l, i, t)
+            i = t
+
+    def up(self, l, i):
+        a = l * self.shape[0]
+        while i and self.counts[a + i] < self.counts[a + (i - 1) // 2]:
+            self.swap(l, i, (i - 1) // 2)
+            i = (i - 1) // 2
+
+    def offer(self, l, entry, n):
+        a = l * self.shape[0]
+        for i in range(self.lens[l]):
+            if self.entries[4 * (a + i)] == entry[0]:
+                self.counts[a + i] = n
+                if not self.down(l, i):
+                    self.up(l, i)
+                return True
+        if self.lens[l] < self.shape[0]:
+            self.lens[l] += 1
+            self.put(l, self.lens[l] - 1, entry, n)
+            self.up(l, self.lens[l] - 1)
+            return True
+        if n > self.counts[a]:
+            self.put(l, 0, entry, n)
+            self.down(l, 0)
+        return False
+
+    # ---- the calls: each answers the number of its refusal, 0 for none
+
+    def new(self, heap, rows, cols, layers):
+        n = shape_refusal(heap, rows, cols, layers)
+        fresh = Relay()
+        fresh.shape = [heap, rows, cols, layers]
+        if not n and [len(self.counters), len(self.norms), len(self.entries), len(self.counts)] != fresh.lengths():
+            n = 9
+        self.shape, self.weight, self.mode = [0] * 4 if n else [heap, rows, cols, layers], 0, UNSET
+        self.flags, self.lens = [not n and l < layers for l in range(19)], [0] * 19
+        if not n:
+            self.zero()
+        return n
+
+    def zero(self):
+        a, b, c, d = self.lengths()
+        self.counters, self.norms, self.entries, self.counts = [0] * a, [0] * b, [0] * c, [0] * d
+
+    def clear(self):
+        return self.new(*self.shape) if self.sound() else 9
+
+    def hash(self, words, l):
+        return words[2 + 2 * l] << 64 | words[3 + 2 * l]
+
+    def entry_of(self, words, l):
+        return [words[0], words[1], words[2 + 2 * l], words[3 + 2 * l]]
+
+    def update(self, words, w, mode):
+        if not self.sound():
+            return 9
+        if len(words) != 2 + 2 * self.shape[3]:
+            return 12
+        if w < 0:
+            return 5
+        if self.mode not in (UNSET, mode):
+            return 6
+        if self.weight + w > TOP:
+            return 7
+        b = bottom_layer(words[1], self.shape[3])
+        sent = [(l, self.places(l, self.hash(words, l))) for l in range(0 if mode == STANDARD else b, b + 1)]
+        if not all(self.counts_read(l) and all(self.read(l, r, at) for r, at, _ in places) for l, places in sent):
+            return 9
+        if any(abs(self.counters[at] + s * w) > TOP for _, places in sent for _, at, s in places):
+            return 11
+        self.mode, self.weight = mode, self.weight + w
+        for l, places in sent:
+            for r, at, s in places:
+                self.add(l, r, at, s * w)
+            kept = self.offer(l, self.entry_of(words, l), self.count(l, self.hash(words, l)))
+            self.flags[l] = self.flags[l] and kept
+        return 0
+
+    def delta(self, l, row, col, n, words, promoted_only):
+        if not self.sound():
+            return 9
+        if len(words) != 2 + 2 * self.shape[3]:
+            return 12
+        if l >= self.shape[3] or row >= self.shape[1] or col >= self.shape[2]:
+            return 8
+        at = self.at(l, row, col)
+        if not (self.read(l, row, at) and self.counts_read(l) and self.estimate_reads(l, self.hash(words, l))):
+            return 9
+        if abs(self.counters[at] + n) > TOP:
+            return 11
+        self.mode = self.mode or STANDARD
+        self.add(l, row, at, n)
+        kept = self.offer(l, self.entry_of(words, l), self.count(l, self.hash(words, l)))
+        self.flags[l] = self.flags[l] and kept and not promoted_only
+        return 0
+
+    def set_total_weight(self, w):
+        if not self.head_sound():
+            return 9
+        if self.mode == TERMINAL:
+            return 6
+        if w > TOP:
+            return 7
+        self.weight, self.mode = w, self.mode or STANDARD
+        return 0
+
+    def mark(self, l):
+        if not self.head_sound():
+            return 9
+        if l >= self.shape[3]:
+            return 8
+        self.flags[l] = False
+        return 0
+
+    def mark_all(self):
+        if not self.head_sound():
+            return 9
+        self.flags = [False] * 19
+        return 0
+
+    def merge(self, o):
+        if not self.sound() or not o.sound():
+            return 9
+        if self.shape != o.shape:
+            return 10
+        if self.mode and o.mode and self.mode != o.mode:
+            return 6
+        if self.weight + o.weight > TOP:
+            return 7
+        heap, rows, cols, layers = self.shape
+        if any(abs(x) > TOP for x in self.counters + o.counters) or not all(r.counts_read(l) for r in (self, o) for l in range(layers)):
+            return 9
+        if any(abs(x + y) > TOP for x, y in zip(self.counters, o.counters)):
+            return 11
+        self.counters = [x + y for x, y in zip(self.counters, o.counters)]
+        self.weight, self.mode = self.weight + o.weight, self.mode or o.mode
+        for l in range(layers):
+            for r in range(rows):
+                self.put_norm(l, r, sum(capped(x) for x in self.counters[self.at(l, r, 0):self.at(l, r, 0) + cols]))
+            first = {}
+            for e in [self.entry(l, i) for i in range(self.lens[l])] + [o.entry(l, i) for i in range(o.lens[l])]:
+                first.setdefault(e[0], e)
+            self.flags[l] = self.flags[l] and o.flags[l] and len(first) <= heap
+            self.lens[l] = 0
+            self.entries[4 * l * heap:4 * (l + 1) * heap], self.counts[l * heap:(l + 1) * heap] = [0] * (4 * heap), [0] * heap
+            for e in first.values():
+                self.offer(l, e, self.count(l, e[2] << 64 | e[3]))
+        return 0
+
+    # ---- answers: (refusal, value)
+
+    def norms_read(self, layers):
+        return all(self.norm(l, r) <= self.shape[2] * CAP for l in layers for r in range(self.shape[1]))
+
+    def l2_squared(self, l):
+        return median([float(min(self.norm(l, r), CAP - 1)) for r in range(self.shape[1])])
+
+    def l1(self):
+        return (0, float(self.weight)) if self.head_sound() else (9, 0.0)
+
+    def l2(self):
+        if not self.norms_sound():
+            return 9, 0.0
+        layers = range(self.shape[3]) if self.mode == TERMINAL else [0]
+        if not self.norms_read(layers):
+            return 9, 0.0
+        total = 0.0
+        for l in layers:
+            total += self.l2_squared(l)
+        return 0, math.sqrt(total)
+
+    def candidates(self, l):
+        for i in range(self.lens[l]):
+            e = self.entry(l, i)
+            yield e[0], e[1], e[2] << 64 | e[3]
+
+    def g_sum(self, g, every):
+        if not self.sound():
+            return 9, 0.0
+        if self.weight == 0 and not every:
+            return 0, 0.0
+        layers = range(self.shape[3])
+        if not all(self.counts_read(l) and all(self.estimate_reads(l, h) for _, _, h in self.candidates(l)) for l in layers):
+            return 9, 0.0
+        if self.mode == TERMINAL and not self.norms_read(layers):
+            return 9, 0.0
+        return 0, self.terminal(g, every) if self.mode == TERMINAL else self.standard(g, every)
+
+    def standard(self, g, every):
+        last, y = self.shape[3] - 1, 0.0
+        for l in range(last, -1, -1):
+            t = 0.0
+            for _, bottom, h in self.candidates(l):
+                n = self.count(l, h)
+                if every or n > 0:
+                    t += (1.0 if l == last else 1.0 - 2.0 * (bottom >> (l + 1) & 1)) * g(float(n))
+            y = t if l == last else 2.0 * y + t
+        return y
+
+    def terminal(self, g, every):
+        heap, last = self.shape[0], self.shape[3] - 1
+        y, suffix, whole, held = 0.0, 0.0, True, {}
+        for l in range(last, -1, -1):
+            whole = whole and self.flags[l]
+            for key, bottom, h in self.candidates(l):
+                n = self.count(l, h)
+                held[key] = (max(held[key][0], n), held[key][1]) if key in held else (n, bottom)
+            kept = sorted((-n, b, k) for k, (n, b) in held.items())
+            complete = whole and len(kept) <= heap
+            kept = kept[:heap]
+            held = {k: (-n, b) for n, b, k in kept}
+            root = math.sqrt(self.l2_squared(l))
+            suffix += root * root
+            threshold = 0 if complete else int(math.sqrt(suffix) / math.sqrt(float(heap)))
+            t = 0.0
+            for n, b, _ in kept:
+                if every or -n > threshold:
+                    t += (1.0 if l == last else 1.0 - 2.0 * (b >> (l + 1) & 1)) * g(float(-n))
+            y = t if l == last else 2.0 * y + t
+        return y
+
+    # ---- what a reader compares
+
+    def words(self):
+        """the header as 44 words"""
+        return self.shape + [self.weight, self.mode] + [int(f) for f in self.flags] + self.lens
+
+    def digest(self):
+        d = 0
+        for x in self.words() + self.counters + self.norms + self.entries + self.counts:
+            d = (d * 65599 + (x & MASK) % PRIME) % PRIME
+        return d
+
+    def text(self):
+        """the oracle's line for this state"""
+        heap, rows, cols, layers = self.shape
+        out = "state weight=%d mode=%d flags=%s" % (self.weight, self.mode, "".join("01"[f] for f in self.flags[:layers]))
+        for l in range(layers):
+            rows_text = ";".join(",".join(map(str, self.counters[self.at(l, r, 0):self.at(l, r, 0) + cols])) for r in range(rows))
+            norms = ",".join(str(self.norm(l, r)) for r in range(rows))
+            cands = ",".join("%d:%d" % (self.entry(l, i)[0], self.counts[l * heap + i]) for i in range(self.lens[l]))
+            out += " | %d counters=%s norms=%s cand=%s" % (l, rows_text, norms, cands)
+        return out
+
+
+G = {"one": lambda x: 1.0, "value": lambda x: x, "square": lambda x: x * x}
