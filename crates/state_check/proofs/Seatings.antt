@@ -1,20 +1,19 @@
 -- The places of a layer's candidates in the slices. Assumes nothing.
 use mathlib.Core.Path.{_≡_, refl, sym, ap, ap₂, _∙_}
-use mathlib.Core.Bool.{Bool, true, false, cond, _&&_}
-use Prim.Native.Nat.{ℕ, zero, suc, _+_, _*_, _^_, _≤_, _<_}
+use mathlib.Core.Bool.{Bool, true, false, _&&_}
+use Prim.Native.Nat.{ℕ, zero, suc, _^_, _≤_, _<_}
 use native.Mathlib.Omega.{arith}
 use mathlib.Core.List.{List}
 use lib.ListN.{length, getD}
 use lib.IntN.{ℤ, pos, negsuc}
 use lib.Signed.{leZ, mag}
-use lib.Dec.{leb}
 use borrow.Author.Needs.{sfits-of}
 use borrow.Author.Tests.{le-leb, lt-ltb, le-ltb}
 use mir.Syntax.{w64}
 use mir.Val.{toZ, ofZ}
 use mir.Facts.{toZ-ofZ}
 use Rattle.words.specs.Num.{inRange}
-use Rattle.heap_moves.specs.Cands.{Cand, parent, countAt}
+use Rattle.heap_moves.specs.Cands.{parent}
 use Rattle.heap_moves.specs.Flat.{candsOf, candOf, whoOf}
 use Rattle.heap_moves.proofs.Views.{cand-at, count-at}
 use Rattle.heap.specs.Offer.{Table}
