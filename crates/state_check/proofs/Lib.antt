@@ -1,2 +1,6 @@
 pub mod RowSums
 pub mod Seatings
+pub mod Passed
+pub mod Whole
+pub mod WholeStates
+pub mod KeptLayers
