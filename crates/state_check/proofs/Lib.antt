@@ -4,3 +4,5 @@ pub mod Passed
 pub mod Whole
 pub mod WholeStates
 pub mod KeptLayers
+pub mod ReadLayers
+pub mod NeverNine
