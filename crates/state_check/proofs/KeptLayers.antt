@@ -1,17 +1,17 @@
 -- A whole layer stays whole: an update and a delta that fit, and a merge of two whose sums fit. Assumes nothing.
-use mathlib.Core.Path.{_≡_, refl, sym, ap, _∙_}
-use mathlib.Core.Bool.{Bool, true, false, _&&_}
-use Prim.Native.Nat.{ℕ, zero, suc, _+_, _*_, _≤_, _<_}
+use mathlib.Core.Path.{_≡_, refl, sym, _∙_}
+use mathlib.Core.Bool.{true}
+use Prim.Native.Nat.{ℕ, zero, suc, _≤_, _<_}
 use native.Mathlib.Omega.{arith}
 use mathlib.Core.List.{List, [], _∷_}
-use lib.ListN.{length, getD, set, replicate, length-replicate}
+use lib.ListN.{set, length-replicate}
 use lib.IntN.{ℤ, pos, _+ℤ_}
 use Rattle.words.specs.Num.{inRange, allIn}
 use Rattle.words.proofs.Bools.{and-left, and-right, both}
 use Rattle.matrix_storage.specs.Bits.{signed}
 use Rattle.countsketch_l2_norm.specs.Sketch.{Sketch, cellOf, cellAt, addCell, addRow, addRows, rowsFit}
-use Rattle.countsketch_l2_norm.specs.Merge.{sums, rowNorms, mergeSketch}
-use Rattle.countsketch_l2_norm.proofs.Kept.{kept-cell, kept-rows, kept-merge}
+use Rattle.countsketch_l2_norm.specs.Merge.{sums}
+use Rattle.countsketch_l2_norm.proofs.Kept.{kept-cell, kept-rows}
 use Rattle.countsketch_l2_norm.proofs.Merges.{length-sums, length-rowNorms}
 use Rattle.countsketch_l2_norm.proofs.Places.{cell-before}
 use Rattle.countsketch_l2_norm.proofs.Rows.{fit-later}
@@ -24,7 +24,7 @@ use Rattle.heap.specs.Offer.{Table}
 use Rattle.heap.specs.Sound.{Sound}
 use Rattle.heap.proofs.Sounds.{offer-sound, offer-long}
 use Rattle.layer.specs.declared.Dims.{Dims}
-use Rattle.layer.specs.Layer.{Layer, Item, hashBy, countOf, offerTo, addSketch, addLayer, addFits, noTable, noLayer}
+use Rattle.layer.specs.Layer.{Layer, Item, hashBy, countOf, offerTo, addSketch, addLayer, addFits, noTable}
 use Rattle.layer.specs.Delta.{Delta, placeBy, deltaLayer, deltaFits}
 use Rattle.layer.specs.Merge.{bothWhos, offerAll, mergeLayer, mergeFits}
 use Rattle.shared_streams.proofs.Lists.{getD-all}

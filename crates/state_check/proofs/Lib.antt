@@ -6,3 +6,5 @@ pub mod WholeStates
 pub mod KeptLayers
 pub mod ReadLayers
 pub mod NeverNine
+pub mod KeptStates
+pub mod KeptCalls

@@ -2,32 +2,30 @@
 -- First what is read by each call, then the calls. Assumes nothing.
 use mathlib.Core.Path.{_≡_, refl, sym, ap, _∙_, subst}
 use mathlib.Core.Bool.{Bool, true, false, cond, not, _&&_, _||_}
-use Prim.Native.Nat.{ℕ, zero, suc, _+_, _*_, _≤_, _<_}
+use Prim.Native.Nat.{ℕ, _<_}
 use native.Mathlib.Omega.{arith}
 use mathlib.Core.List.{List, [], _∷_}
-use lib.ListN.{length, getD}
+use lib.ListN.{length}
 use lib.IntN.{ℤ}
-use lib.Dec.{eqb, leb}
+use lib.Dec.{leb}
 use borrow.Author.Tests.{eq-eqb, leb-false, not-false}
-use Rattle.words.proofs.Bools.{never, both}
+use Rattle.words.proofs.Bools.{never}
 use Rattle.header.specs.declared.Shape.{Shape}
 use Rattle.header.specs.declared.Mode.{Mode}
 use Rattle.header.specs.declared.Mode.the-variants as mode
-use Rattle.header.specs.Header.{headerOk}
 use Rattle.header.proofs.Bottoms.{bottom-lt}
 use Rattle.countsketch_l2_norm.specs.L2 as l2
-use Rattle.layer.specs.Layer.{Layer, addReads}
+use Rattle.layer.specs.Layer.{addReads}
 use Rattle.layer.specs.Delta.{deltaReads}
 use Rattle.layer.specs.Merge.{mergeReads}
 use Rattle.univmon.specs.declared.Kind.{Kind}
 use Rattle.univmon.specs.State.{State, shapeOf, dimsAt, layerAt, allLayers}
 use Rattle.univmon.specs.Judged.{Out, refused, done, judge, unsound}
-use Rattle.univmon.specs.Slices.{Lent, lentOk, view, freshLent}
+use Rattle.univmon.specs.Slices.{Lent, view, freshLent}
 use Rattle.univmon.specs.Updates.{bottomWord, bottomBy, itemAt, firstSent, manySent, sentAll, updateTests, updated, update}
 use Rattle.univmon.specs.Deltas.{Arrival, deltaBy, outside, deltaTests, arrived, applyDelta}
 use Rattle.univmon.specs.Merges.{sameShape, mergeTests, merged, merge}
 use Rattle.univmon.specs.Calls.{Outcome, outcomeOf, updateCall, deltaCall, mergeCall, clearCall}
-use Rattle.univmon.proofs.Lengths.{sizes-of}
 use Rattle.univmon.proofs.MergeCalls.{same-of}
 use Rattle.univmon.proofs.Updating.{sound-of}
 use Rattle.sums.specs.declared.G.{G}

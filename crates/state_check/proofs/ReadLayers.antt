@@ -19,7 +19,7 @@ use Rattle.countsketch_l2_norm.proofs.Merges.{row-at, squares-most}
 use Rattle.heap_moves.specs.declared.Who.{Who}
 use Rattle.layer.specs.declared.Dims.{Dims}
 use Rattle.layer.specs.Layer.{Layer, Item, hashBy, countsRead, addReads}
-use Rattle.layer.specs.Delta.{Delta, placeBy, deltaReads}
+use Rattle.layer.specs.Delta.{Delta, deltaReads}
 use Rattle.layer.specs.Merge.{whos, mergeReads}
 use Rattle.estimates.specs.Sums.{whosRead, layerReads}
 use Rattle.shared_streams.proofs.Ranges.{counts-read}

@@ -1,7 +1,7 @@
 -- What the check asks of one layer, as facts instead of tests. Assumes nothing.
 use mathlib.Core.Path.{_≡_, refl, sym, ap, _∙_, subst}
-use mathlib.Core.Bool.{Bool, true, false, cond, _&&_}
-use Prim.Native.Nat.{ℕ, zero, suc, _+_, _*_, _/_, _%_, _≤_, _<_}
+use mathlib.Core.Bool.{true, false, _&&_}
+use Prim.Native.Nat.{ℕ, zero, suc, _*_, _/_, _%_, _≤_, _<_}
 use native.Mathlib.Omega.{arith}
 use native.Mathlib.Nat.{mod-lt, div-add-mod', div-lt-iff-lt-mul}
 use native.Mathlib.Decide.{decLt}
@@ -10,8 +10,8 @@ use lib.ListN.{length, getD, drop}
 use lib.Seq.{ext-getD}
 use lib.IntN.{ℤ, pos, negsuc}
 use lib.Signed.{ltZ, leZ}
-use lib.Dec.{eqb, ltb}
-use borrow.Author.Tests.{eq-eqb, eqb-true, lt-ltb, le-ltb, ltb-true, ltb-false, le-leb, leb-true}
+use lib.Dec.{eqb}
+use borrow.Author.Tests.{eq-eqb, eqb-true, lt-ltb, le-ltb, ltb-false, le-leb, leb-true}
 use Rattle.words.specs.Num.{inRange, allIn}
 use Rattle.words.specs.Parts.{part}
 use Rattle.words.proofs.Bools.{never, and-left, and-right, both}
@@ -21,7 +21,7 @@ use Rattle.countsketch_l2_norm.specs.Sketch.{Sketch, cellAt}
 use Rattle.countsketch_l2_norm.specs.Merge.{rowNorm, rowNorms}
 use Rattle.countsketch_l2_norm.proofs.Kept.{Kept}
 use Rattle.countsketch_l2_norm.proofs.Merges.{length-rowNorms, row-at}
-use Rattle.heap_moves.specs.Cands.{Cand, noCand, countAt, parent, smaller}
+use Rattle.heap_moves.specs.Cands.{Cand, noCand, countAt, parent}
 use Rattle.heap_moves.specs.Totals.{Each}
 use Rattle.heap_moves.proofs.Views.{who-path, cand-path}
 use Rattle.heap.specs.Offer.{Table}

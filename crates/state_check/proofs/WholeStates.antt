@@ -1,7 +1,7 @@
 -- What the check asks of a state, as facts instead of tests, and layers that are replaced. Assumes nothing.
-use mathlib.Core.Path.{_≡_, refl, sym, ap, _∙_, subst}
-use mathlib.Core.Bool.{Bool, true, false, cond, not, _&&_}
-use Prim.Native.Nat.{ℕ, zero, suc, _+_, _≤_, _<_}
+use mathlib.Core.Path.{_≡_, sym, ap, _∙_, subst}
+use mathlib.Core.Bool.{Bool, true, false, not, _&&_}
+use Prim.Native.Nat.{ℕ, _+_, _≤_, _<_}
 use native.Mathlib.Omega.{arith}
 use native.Mathlib.Decide.{decLt}
 use mathlib.Core.List.{List}
@@ -17,20 +17,20 @@ use Rattle.header.specs.declared.Header.{Header}
 use Rattle.header.specs.declared.Mode.{Mode}
 use Rattle.header.specs.Shape.{maxLayers, shapeRefusal}
 use Rattle.header.specs.Header as head
-use Rattle.header.specs.Header.{headerOk, lensFrom, begun, withMode, withWeight}
+use Rattle.header.specs.Header.{headerOk, lensFrom, withMode, withWeight, withFlags}
 use Rattle.header.specs.Accepted.{Accepted}
-use Rattle.header.proofs.Ranges.{Ranged, ranged-of}
+use Rattle.header.proofs.Ranges.{ranged-of}
 use Rattle.header.proofs.Refusals.{accepted-of}
 use Rattle.header.proofs.Steps.{lens-step, lens-none}
 use Rattle.layer.specs.Layer.{Layer}
-use Rattle.univmon.specs.State.{State, shapeOf, dimsAt, layerAt, putLayer, overLayers, allLayers, withHead}
+use Rattle.univmon.specs.State.{State, dimsAt, layerAt, putLayer, overLayers, allLayers, withHead}
 use Rattle.univmon.specs.Slices.{Lent, lentOk, view, flat}
 use Rattle.univmon.specs.Needs.{Standing}
 use Rattle.univmon.proofs.States as univmon
 use Rattle.univmon.proofs.Lengths.{standing-of}
 use Rattle.univmon.proofs.Sending.{long-view}
 use Rattle.univmon.proofs.Judging.{layers-step, layers-none}
-use Rattle.shared_streams.proofs.States.{Sized, Fits, Over, over}
+use Rattle.shared_streams.proofs.States.{Sized, Over, over}
 use Rattle.shared_streams.proofs.Values.{view-flat, flat-lengths}
 use Rattle.shared_streams.proofs.Relays.{wide}
 use Rattle.state_check.specs.Check.{layerOk, layersOk, stateOk}
@@ -141,12 +141,15 @@ module _ (s : State) (w : WholeState s) where
       passed-all (λ k i. allLayers (λ m y. layerOk (dimsAt (s .head .shape) m) y) k i s) (λ i. layerOk (dimsAt (s .head .shape) i) (layerAt s i)) (layers-step (λ m y. layerOk (dimsAt (s .head .shape) m) y) s)
       (layers-none (λ m y. layerOk (dimsAt (s .head .shape) m) y) s) (s .head .shape .layers) 0 (λ l p q. whole-pass (dimsAt (s .head .shape) l) (layerAt s l) (w .layers l (omega arith)))
 
-  pub state-pass : stateOk (flat s) ≡ true
-  unfolding stateOk flat
-  state-pass = both (both head-pass (flat-lengths s (w .sized))) (ap layersOk (view-flat s (w .sized)) ∙ layers-pass)
-
   pub state-accepted : Accepted (s .head .shape)
   state-accepted = accepted-of (s .head .shape) (w .shape)
+
+pub lent-pass : (r : Lent) → lentOk r ≡ true → WholeState (view r) → stateOk r ≡ true
+unfolding stateOk view
+lent-pass r h w = both (both (head-pass (view r) w) h) (layers-pass (view r) w)
+
+pub state-pass : (s : State) → WholeState s → stateOk (flat s) ≡ true
+state-pass s w = lent-pass (flat s) (flat-lengths s (w .sized)) (subst WholeState (sym (view-flat s (w .sized))) w)
 
 -- ---- layers replaced
 
@@ -187,7 +190,7 @@ put-whole s l y w h n =
     (λ m p q x. let e : l ≡ m = omega arith in
     subst (λ (i : ℕ). Whole (dimsAt (s .head .shape) i) y) e n)
 
--- ---- another weight and mode
+-- ---- another weight and mode, other flags
 
 pub head-whole : (s : State) (n : ℕ) (m : Mode) → WholeState s → n ≤ top → WholeState (withHead s (withMode (withWeight (s .head) n) m))
 unfolding layerAt
@@ -199,4 +202,17 @@ head-whole s n m w h =
       pastLens = w .pastLens;
       pastFlags = w .pastFlags;
       layers = w .layers;
+    }
+
+pub flags-whole : (s : State) (fs : List Bool) → WholeState s → length fs ≡ maxLayers → ((l : ℕ) → s .head .shape .layers ≤ l → getD fs l false ≡ false) → WholeState (withHead s (withFlags (s .head) fs))
+unfolding layerAt
+flags-whole s fs w h p =
+    record {
+      sized = record { counters = w .sized .counters; norms = w .sized .norms; cands = w .sized .cands; flags = h; lens = w .sized .lens; few = w .sized .few };
+      shape = w .shape;
+      light = w .light;
+      pastLens = w .pastLens;
+      pastFlags = p;
+      layers = λ l k. let y = w .layers l k in
+          record { fits = record { cells = y .fits .cells; norms = y .fits .norms; cands = y .fits .cands }; cells = y .cells; norms = y .norms; table = y .table; counts = y .counts };
     }
