@@ -1,7 +1,6 @@
 -- The check's yes is kept: a `new` that is not refused leaves a state that passes, and each accepted call on states that pass leaves one that passes.
 -- `kept` collects the calls: every state that is reached from a fresh one passes. Assumes nothing.
---
--- The laws on single calls also ask for the header's arrays to have 19 places, `Arrays`: the code's types say so, the lists of the definitions do not.
+-- `Passing` says of a header also that its arrays have 19 places: the code's types say so, the lists of the definitions do not.
 use mathlib.Core.Path.{_≡_, refl, sym, _∙_, subst}
 use mathlib.Core.Bool.{Bool, true, false, cond, not, _||_}
 use Prim.Native.Nat.{ℕ, _≤_, _<_}
@@ -32,14 +31,9 @@ use Rattle.univmon.specs.Calls.{Outcome, outcomeOf, left, answered, newCall, up
 use Rattle.shared_streams.proofs.Calls.{no-yes}
 use Rattle.shared_streams.proofs.Lists.{getD-all}
 use Rattle.state_check.specs.Check.{stateOk}
-use Rattle.state_check.specs.Reached.{Arrays, under, Reached}
+use Rattle.state_check.specs.Reached.{Passing, under, Reached}
 use Rattle.state_check.proofs.WholeStates.{WholeState, state-whole, lent-pass, state-pass, head-whole, flags-whole, ok-lengths}
 use Rattle.state_check.proofs.KeptStates.{update-state, delta-state, merge-state, new-whole, fresh-view, fresh-lengths}
-
--- a state that passes, in a header with arrays of 19 places
-pub record Passing (r : Lent) : Type 0 where
-  pub arrays : Arrays (r .head)
-  pub ok : stateOk r ≡ true
 
 -- ---- from whole states
 

@@ -8,3 +8,4 @@ pub mod ReadLayers
 pub mod NeverNine
 pub mod KeptStates
 pub mod KeptCalls
+pub mod NormsKept

@@ -1,9 +1,9 @@
 -- The state check: "Yes exactly if lengths and ranges hold, each norm equals its row's sum, no count in a layer is below its heap parent's, and unused entries are zero."
 use Prim.Native.Nat.{ℕ, zero, suc, _*_}
-use mathlib.Core.Bool.{Bool, true, cond, not, _&&_}
+use mathlib.Core.Bool.{Bool, true, cond, _&&_}
 use mathlib.Core.List.{List}
 use lib.ListN.{getD}
-use lib.IntN.{ℤ, pos}
+use lib.IntN.{pos}
 use lib.Dec.{eqb, ltb}
 use lib.Signed.{leZ}
 use Rattle.words.specs.Num.{inRange, allIn}

@@ -1,5 +1,6 @@
--- The states that calls can leave, from a fresh one on.
+-- The states that calls can leave, from a fresh one on, and those that pass the check.
 use mathlib.Core.Path.{_≡_}
+use mathlib.Core.Bool.{true}
 use Prim.Native.Nat.{ℕ}
 use mathlib.Core.List.{List}
 use lib.ListN.{length}
@@ -11,11 +12,17 @@ use Rattle.univmon.specs.declared.Kind.{Kind}
 use Rattle.univmon.specs.Slices.{Lent, lent}
 use Rattle.univmon.specs.Deltas.{Arrival}
 use Rattle.univmon.specs.Calls.{Outcome, newCall, updateCall, deltaCall, mergeCall, clearCall, weightCall, markCall, markLayerCall}
+use Rattle.state_check.specs.Check.{stateOk}
 
 -- "arrays of 19 flags and 19 candidate lengths": so it is for every header that the code holds; the lists of the definitions are of any length
 pub record Arrays (h : Header) : Type 0 where
   pub flags : length (h .flags) ≡ maxLayers
   pub lens : length (h .lens) ≡ maxLayers
+
+-- a state that passes the check, in such a header
+pub record Passing (r : Lent) : Type 0 where
+  pub arrays : Arrays (r .head)
+  pub ok : stateOk r ≡ true
 
 -- the slices with another header: what a call on the header alone leaves
 abbrev pub under : Lent → Header → Lent
