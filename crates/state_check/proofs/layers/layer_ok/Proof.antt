@@ -15,7 +15,9 @@ unfolding layerOk
 returns c = λ f. sym (rw (sym (c .before .rows-ok .ensures) ∙ not-true _ (c .if1 .taken)))
 
 seats-ok-requires : tie.Need-seats-ok-requires
-seats-ok-requires c κs = let h = c .before .before .before .before .pre .0 in ((h .seats, c .before .before .before .before .pre .1), h .few)
+seats-ok-requires c κs =
+    let h = c .before .before .before .before .pre .0 in
+    ((omega (arith, h .seats, h .used), omega (arith, c .before .before .before .before .pre .1, h .used)), omega (arith, h .few, h .used))
 
 returns-2 : tie.Need-returns-2
 unfolding layerOk
