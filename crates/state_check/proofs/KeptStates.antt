@@ -1,6 +1,6 @@
 -- A whole state stays whole by each accepted call, and a fresh state is whole. Assumes nothing.
-use mathlib.Core.Path.{_≡_, refl, sym, ap, ap₂, _∙_, subst}
-use mathlib.Core.Bool.{Bool, true, false, _||_}
+use mathlib.Core.Path.{_≡_, sym, ap, ap₂, _∙_, subst}
+use mathlib.Core.Bool.{Bool, true, _||_}
 use Prim.Native.Nat.{ℕ, _+_, _*_, _≤_, _<_}
 use native.Mathlib.Omega.{arith}
 use mathlib.Core.List.{List, []}
@@ -11,7 +11,7 @@ use lib.Dec.{leb}
 use borrow.Author.Tests.{leb-true, leb-false, eq-eqb, not-false}
 use Rattle.words.specs.Num.{top}
 use Rattle.words.specs.Wide.{twoWords}
-use Rattle.words.proofs.Bools.{never, both}
+use Rattle.words.proofs.Bools.{both}
 use Rattle.countsketch_l2_norm.specs.Norms.{normsOf}
 use Rattle.countsketch_l2_norm.proofs.Norms.{norm-at, length-norms}
 use Rattle.heap_moves.specs.Cands.{Cand, noCand}
@@ -45,7 +45,7 @@ use Rattle.shared_streams.proofs.Ranges.{weights, cells-in}
 use Rattle.shared_streams.proofs.Refusals.{Off, judged}
 use Rattle.shared_streams.proofs.Relays.{wide, RelayBy, by-fits}
 use Rattle.state_check.proofs.KeptLayers.{add-whole, delta-whole, merge-whole}
-use Rattle.state_check.proofs.Passed.{passed-at}
+use Rattle.state_check.proofs.Passed.{passed-at, neither}
 use Rattle.state_check.proofs.Whole.{Whole}
 use Rattle.state_check.proofs.WholeStates.{WholeState, state-accepted, over-whole, put-whole, head-whole}
 
@@ -86,10 +86,6 @@ update-state k s t words w g e =
     fits = not-false (sentAll k (λ l y. addFits (dimsAt (shapeOf s) l) (itemAt words w l) y) s words) (out .1 .1 .1 .1 .1 .1 .1 .0)
 
 -- ---- a delta
-
-neither : (p q : Bool) → (p || q) ≡ false → (p ≡ false) × (q ≡ false)
-neither true q z = absurd (never (sym z))
-neither false q z = (refl, z)
 
 pub delta-state : (s t : State) (words : List ℕ) (a : Arrival) → WholeState s → applyDelta s words a ≡ done t → WholeState t
 unfolding applyDelta deltaTests arrived layerAt

@@ -36,6 +36,7 @@ use Rattle.shared_streams.proofs.BookLaws.{sent-room}
 use Rattle.shared_streams.proofs.Relays.{wide}
 use Rattle.shared_streams.proofs.States.{all-layers}
 use Rattle.state_check.specs.Check.{stateOk}
+use Rattle.state_check.proofs.Passed.{neither}
 use Rattle.state_check.proofs.ReadLayers.{add-reads, delta-reads, merge-reads, norms-read, sum-reads}
 use Rattle.state_check.proofs.WholeStates.{ok-head, ok-lengths, ok-standing, whole-at}
 
@@ -62,10 +63,6 @@ module _ (r : Lent) (e : stateOk r ≡ true) where
       (leb-false (dimsAt (r .head .shape) (a .layer) .rows) (a .row) (neither rows cols (neither layers (rows || cols) o .1) .0))
       (leb-false (dimsAt (r .head .shape) (a .layer) .cols) (a .col) (neither rows cols (neither layers (rows || cols) o .1) .1))
       (whole-at r e (a .layer) (leb-false (r .head .shape .layers) (a .layer) (neither layers (rows || cols) o .0)))
-    where
-      neither : (p q : Bool) → (p || q) ≡ false → (p ≡ false) × (q ≡ false)
-      neither true q z = absurd (never (sym z))
-      neither false q z = (refl, z)
 
   -- a merge with another state that passes, of the same shape
   pub merge-read : (t : Lent) → stateOk t ≡ true → sameShape (shapeOf (view r)) (shapeOf (view t)) ≡ true

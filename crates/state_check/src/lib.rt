@@ -1,5 +1,5 @@
-// The state check: whether a header and four slices are a state that calls can have left. It reads
-// every word once, and answers on any numbers.
+// The state check: whether a header and four slices have what every accepted call keeps. It goes once
+// over each slice, and answers on any numbers.
 mod candidates;
 mod layers;
 mod rows;
