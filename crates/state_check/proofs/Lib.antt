@@ -1,0 +1,11 @@
+pub mod RowSums
+pub mod Seatings
+pub mod Passed
+pub mod Whole
+pub mod WholeStates
+pub mod KeptLayers
+pub mod ReadLayers
+pub mod NeverNine
+pub mod KeptStates
+pub mod KeptCalls
+pub mod NormsKept

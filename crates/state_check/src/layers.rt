@@ -1,0 +1,121 @@
+// The check of a state: header and lengths, then layer by layer.
+ghost use mathlib.Core.Path.{_≡_};
+ghost use mathlib.Core.Bool.{Bool, false};
+ghost use Prim.Native.Nat.{ℕ, _*_, _<_, _≤_};
+ghost use lib.ListN.{length};
+ghost use Rattle.layer.specs.Layer.{layerOf};
+ghost use Rattle.layer.specs.Needs.{Housed};
+ghost use Rattle.univmon.specs.State.{dimsAt, layerAt, allLayers};
+ghost use Rattle.univmon.specs.Slices.{lent, view};
+ghost use Rattle.univmon.specs.Needs.{Standing};
+ghost use Rattle.state_check.specs.Check.{layerOk, layersOk, stateOk};
+use crate::candidates::seats_ok;
+use crate::rows::rows_ok;
+use header::Header;
+use layer::Dims;
+
+// Of one layer, in its parts of the slices.
+fn layer_ok(
+    cells: &[i64],
+    norms: &[u64],
+    entries: &[u64],
+    counts: &[i64],
+    dims: Dims,
+    len: usize,
+) -> bool
+    requires { ⌜ Housed dims (length (now cells)) (length (now norms)) (length (now counts)) len ⌝ }
+    requires { ⌜ length (now entries) ≡ 4 * dims .size ⌝ }
+    ensures { λ r. ⌜ ((flag : Bool) → r ≡ layerOk dims
+        (layerOf dims (now (cells .entry)) (now (norms .entry)) (now (entries .entry)) (now (counts .entry)) len flag)) ⌝ }
+{
+    if !rows_ok(cells, norms, dims.rows, dims.cols) {
+        return false;
+    }
+    seats_ok(entries, counts, dims.size, len)
+}
+
+// Of layer l of a state.
+fn layer_at(
+    header: Header,
+    counters: &[i64],
+    norms: &[u64],
+    entries: &[u64],
+    counts: &[i64],
+    l: usize,
+) -> bool
+    requires { ⌜ Standing (lent header (now counters) (now norms) (now entries) (now counts)) ⌝ }
+    requires { ⌜ l < header .shape .layers ⌝ }
+    ensures { λ r. ⌜ r ≡ layerOk (dimsAt (header .shape) l)
+        (layerAt (view (lent header (now (counters .entry)) (now (norms .entry)) (now (entries .entry)) (now (counts .entry)))) l) ⌝ }
+{
+    let shape = header.shape;
+    let lens = header.lens;
+    let dims = univmon::sizes::dims(shape, l);
+    let s = univmon::sizes::span_of(shape, l);
+    let a = s.cells;
+    let b = s.cells_end;
+    let c = s.norms;
+    let d = s.norms_end;
+    let e = s.words;
+    let f = s.words_end;
+    let g = s.seats;
+    let h = s.seats_end;
+    layer_ok(
+        &counters[a..b],
+        &norms[c..d],
+        &entries[e..f],
+        &counts[g..h],
+        dims,
+        lens[l],
+    )
+}
+
+// Of every layer.
+fn layers_ok(
+    header: Header,
+    counters: &[i64],
+    norms: &[u64],
+    entries: &[u64],
+    counts: &[i64],
+) -> bool
+    requires { ⌜ Standing (lent header (now counters) (now norms) (now entries) (now counts)) ⌝ }
+    ensures { λ r. ⌜ r ≡ layersOk
+        (view (lent header (now (counters .entry)) (now (norms .entry)) (now (entries .entry)) (now (counts .entry)))) ⌝ }
+{
+    let layers = header.shape.layers;
+    let mut l = 0;
+    while l < layers {
+        if !layer_at(header, counters, norms, entries, counts, l) {
+            return false;
+        }
+        l += 1;
+    }
+    true
+}
+
+// Yes exactly if lengths and ranges hold, each norm equals its row's sum, no count in a layer is
+// below its heap parent's, and unused entries are zero.
+pub fn check_state(
+    header: Header,
+    counters: &[i64],
+    norms: &[u64],
+    entries: &[u64],
+    counts: &[i64],
+) -> bool
+    ensures { λ r. ⌜ r ≡ stateOk (lent header (now (counters .entry)) (now (norms .entry)) (now (entries .entry)) (now (counts .entry))) ⌝ }
+{
+    if !header.in_range() {
+        return false;
+    }
+    let shape = header.shape;
+    if !univmon::sizes::lengths_match(
+        shape,
+        counters.len(),
+        norms.len(),
+        entries.len(),
+        counts.len(),
+    ) {
+        return false;
+    }
+    layers_ok(header, counters, norms, entries, counts)
+}
