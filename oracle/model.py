@@ -369,6 +369,26 @@ class Relay:
             y = t if l == last else 2.0 * y + t
         return y
 
+    # ---- the state check
+
+    def check(self):
+        if not self.sound() or any(abs(x) > TOP for x in self.counters):
+            return False
+        heap, rows, cols, layers = self.shape
+        for l in range(layers):
+            for r in range(rows):
+                a = self.at(l, r, 0)
+                if self.norm(l, r) != sum(capped(x) for x in self.counters[a:a + cols]):
+                    return False
+            a = l * heap
+            for i in range(heap):
+                if i < self.lens[l]:
+                    if abs(self.counts[a + i]) > TOP or self.counts[a + i] < self.counts[a + max(0, i - 1) // 2]:
+                        return False
+                elif any(self.entry(l, i)) or self.counts[a + i]:
+                    return False
+        return True
+
     # ---- what a reader compares
 
     def words(self):

@@ -81,7 +81,10 @@ def use(i):
 
 
 def left(r, n):
-    return [(n << 56) + r.digest()]
+    """the number, whether what is left passes the check, and a digest of it; what no hand has touched passes"""
+    sound = r.check()
+    assert sound or not r.name
+    return [(n << 56) + (sound << 48) + r.digest()]
 
 
 def lent(r, lengths):
@@ -237,6 +240,12 @@ def poke(i, slice, at, x):
 def poke_norm(i, at, n):
     poke(i, 2, 2 * at, n & MASK)
     poke(i, 2, 2 * at + 1, n >> 64)
+
+
+def check(i):
+    r = use(i)
+    call(18, [], [int(r.check())])
+    return r.check()
 
 
 def shape(limit=600):
@@ -548,6 +557,22 @@ for mode in (STANDARD, TERMINAL):
             prepared(mode)
             poke(1, 4, at, x)
             everything(1)
+# the state check: each kind of damage once, and each damage undone
+prepared()
+assert check(1)
+for slice, at, bad in [(1, 3, 1), (1, 15, TOP + 1), (2, 0, 1), (2, 7, 1), (4, 1, -1), (4, 5, 1), (3, 23, 1), (3, 20, 1), (0, 25, 2), (0, 26, 3), (0, 8, 1), (0, 27, 1), (0, 4, TOP + 1),
+                       (0, 0, 2), (0, 3, 20)]:
+    r = use(1)
+    had = [r.words(), r.counters, r.norms, r.entries, r.counts][slice][at]
+    poke(1, slice, at, had + bad if slice in (1, 2) and at < 15 else bad)
+    assert not check(1), (slice, at, bad)
+    poke(1, slice, at, had)
+    assert check(1)
+for at in range(4):
+    r = use(1)
+    lent(r, [x - (j == at) for j, x in enumerate(r.lengths())])
+    assert not check(1)
+    prepared()
 # 12, and the order: 9, 12, 10, 5, 8, 6, 7, 9, 11
 prepared()
 for length in (0, 5, 6, 7, 38, 40):

@@ -2,6 +2,7 @@
 use crate::Call;
 use crate::Relay;
 use crate::digest::say;
+use crate::heads::bit_of;
 use estimates::Answer;
 use header::BottomLayer;
 use header::Header;
@@ -32,6 +33,12 @@ pub fn answers(r: Relay, counters: &[i64], norms: &[u64], entries: &[u64], count
     vectors::print(float64::to_bits(p.l1));
     vectors::print(float64::to_bits(p.l2));
     vectors::print(float64::to_bits(p.cardinality));
+}
+
+// 18: whether it passes the state check.
+pub fn check(r: Relay, counters: &[i64], norms: &[u64], entries: &[u64], counts: &[i64]) {
+    let h = r.header;
+    vectors::print(bit_of(state_check::check_state(h, counters, norms, entries, counts)));
 }
 
 fn same_words(xs: &[u64], ys: &[u64]) -> bool {
@@ -117,12 +124,12 @@ pub fn bare(call: Call) {
             call.c as usize,
             call.d as usize,
         );
-        say(n, 0);
+        say(n, false, 0);
         return;
     }
     let b = header::bottom_layer_for_hash(call.a, call.b as usize);
     match b {
-        BottomLayer::At(l) => say(0, l as u64),
-        BottomLayer::Refused(n) => say(n, 0),
+        BottomLayer::At(l) => say(0, false, l as u64),
+        BottomLayer::Refused(n) => say(n, false, 0),
     }
 }

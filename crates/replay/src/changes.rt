@@ -1,4 +1,5 @@
-// The calls that change a relay. Each says the refusal's number and a digest of all that is left.
+// The calls that change a relay. Each says the refusal's number, whether what is left passes the state check,
+// and a digest of it all.
 use crate::Call;
 use crate::Lens;
 use crate::Relay;
@@ -39,7 +40,12 @@ fn told(
     let header = out.header;
     let lens = r.lens;
     let left = Relay { header, lens };
-    say(out.refusal, whole(left, counters, norms, entries, counts));
+    let sound = state_check::check_state(header, counters, norms, entries, counts);
+    say(
+        out.refusal,
+        sound,
+        whole(left, counters, norms, entries, counts),
+    );
     left
 }
 

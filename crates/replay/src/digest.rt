@@ -1,5 +1,6 @@
 // A whole state as one number: the polynomial of its words at 65,599, modulo the greatest prime below 2^32.
 use crate::Relay;
+use crate::heads::bit_of;
 use crate::heads::word;
 use header::Header;
 
@@ -48,10 +49,12 @@ pub fn whole(r: Relay, counters: &[i64], norms: &[u64], entries: &[u64], counts:
     of_signed(d, counts)
 }
 
-// A refusal's number in the top byte, and a digest.
-pub fn say(refusal: u64, digest: u64) {
+// A refusal's number in the top byte, 1 below it where the state passes the check, and a digest.
+pub fn say(refusal: u64, sound: bool, digest: u64) {
     if 255 < refusal {
         return;
     }
-    vectors::print(refusal * 0x100_0000_0000_0000 + digest % PRIME);
+    vectors::print(
+        refusal * 0x100_0000_0000_0000 + bit_of(sound) * 0x1_0000_0000_0000 + digest % PRIME,
+    );
 }

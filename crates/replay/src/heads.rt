@@ -1,4 +1,5 @@
 // Headers as 44 words: shape, weight, mode, 19 flags, 19 lengths.
+ghost use Prim.Native.Nat.{_<_};
 use header::Header;
 use header::Mode;
 use header::Shape;
@@ -21,7 +22,9 @@ fn number_of(m: Mode) -> u64 {
     }
 }
 
-fn bit_of(b: bool) -> u64 {
+pub fn bit_of(b: bool) -> u64
+    ensures { λ r. ⌜ r < 2 ⌝ }
+{
     if b {
         return 1;
     }

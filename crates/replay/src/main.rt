@@ -310,6 +310,10 @@ fn at_work(
         asked::answers(r, &*counters, &*norms, &*entries, &*counts);
         return r;
     }
+    if op == 18 {
+        asked::check(r, &*counters, &*norms, &*entries, &*counts);
+        return r;
+    }
     lent_both(
         op,
         r,
@@ -374,7 +378,10 @@ fn is_work(op: u64) -> bool {
     if op == 11 {
         return true;
     }
-    op == 12
+    if op == 12 {
+        return true;
+    }
+    op == 18
 }
 
 // One operation.
