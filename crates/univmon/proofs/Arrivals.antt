@@ -11,13 +11,11 @@ use Rattle.words.specs.Parts.{part}
 use Rattle.words.proofs.Bools.{and-left}
 use Rattle.countsketch_l2_norm.specs.Sketch.{sketchOf, cellAt}
 use Rattle.countsketch_l2_norm.specs.Estimate.{cellsIn}
-use Rattle.countsketch_l2_norm.proofs.After.{length-cell, length-cell-norms}
 use Rattle.heap_moves.specs.declared.Who.{Who}
-use Rattle.heap.proofs.Sounds.{offer-long}
 use Rattle.layer.specs.declared.Dims.{Dims}
 use Rattle.layer.specs.Layer.{Layer, layerOf, hashBy}
-use Rattle.layer.specs.Delta.{Delta, delta, placeBy, deltaLayer, deltaReads, deltaFits}
-use Rattle.layer.specs.Needs.{DeltaReady, Fits}
+use Rattle.layer.specs.Delta.{Delta, delta, deltaReads, deltaFits}
+use Rattle.layer.specs.Needs.{DeltaReady}
 use Rattle.layer.proofs.Tests.{delta-reads-are}
 use Rattle.univmon.specs.State.{dimsAt, layerAt}
 use Rattle.univmon.specs.Slices.{Lent, view}
@@ -108,12 +106,3 @@ module _ (r : Lent) (words : List ℕ) (l row col : ℕ) (n : ℤ) (p : Arrives 
       here = handed-is r (p .placed .standing) l (p .placed .inside) ca ce na ne ea ee ta te s
 
 -- ---- a layer keeps its lengths
-
-pub delta-lengths : (d : Dims) (u : Delta) (y : Layer) → Fits d y → Fits d (deltaLayer d u y)
-unfolding deltaLayer
-delta-lengths d u y f =
-    record {
-      cells = length-cell (placeBy d u) (u .row) (u .count) (y .sketch) ∙ f .cells;
-      norms = length-cell-norms (placeBy d u) (u .row) (u .count) (y .sketch) ∙ f .norms;
-      cands = offer-long (d .size) (y .table) _ ∙ f .cands;
-    }

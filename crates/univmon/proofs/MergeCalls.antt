@@ -3,45 +3,30 @@ use mathlib.Core.Path.{_≡_, refl, sym, ap, _∙_}
 use mathlib.Core.Bool.{Bool, true, false, cond, not, _&&_, _||_}
 use Prim.Native.Nat.{ℕ, zero, suc, _+_, _≤_}
 use native.Mathlib.Omega.{arith}
-use lib.ListN.{length}
 use lib.Dec.{eqb, leb}
 use borrow.Author.Tests.{eq-eqb, ne-eqb, eqb-true, leb-true}
 use Rattle.words.specs.Num.{top}
-use Rattle.words.proofs.Bools.{never, both, and-left, and-right}
-use Rattle.countsketch_l2_norm.proofs.Norms.{length-norms}
-use Rattle.heap_moves.proofs.Views.{length-cands}
+use Rattle.words.proofs.Bools.{never, and-left, and-right}
 use Rattle.header.specs.declared.Shape.{Shape}
 use Rattle.header.specs.declared.Mode.{Mode}
 use Rattle.header.specs.Header.{headerOk, clash, begun}
-use Rattle.header.proofs.Ranges.{ranged-of, len-few}
+use Rattle.header.proofs.Ranges.{ranged-of}
 use Rattle.layer.specs.Layer.{Layer}
 use Rattle.univmon.specs.State.{State, sizesOk, layerAt, overLayers, allLayers}
-use Rattle.univmon.specs.Slices.{Lent, lent, lentOk, normsIn, view, flat}
+use Rattle.univmon.specs.Slices.{Lent, lent, lentOk, view, flat}
 use Rattle.univmon.specs.Judged.{refused, done}
 use Rattle.univmon.specs.Merges.{sameShape, mergeTests, merged, merge}
 use Rattle.univmon.specs.Calls.{Outcome, outcomeOf, left, leftBy, mergeCall}
 use Rattle.univmon.specs.Needs.{Standing}
 use Rattle.univmon.specs.Pairs.{Paired, MergesReady, readsWith, fitsWith, mergesWith, lentStands, headsNumber, layersNumber, mergeNumber}
-use Rattle.univmon.proofs.Lengths.{sizes-of}
+use Rattle.univmon.proofs.Lengths.{standing-of, sized-view}
 
 -- a header in range and slices of its lengths fit together
 pub stands-of : (r : Lent) → lentStands r ≡ true → Standing r
-stands-of r e =
-    let h = and-left (headerOk (r .head)) (lentOk r) e in
-    record {
-      accepted = ranged-of (r .head) h .accepted;
-      sizes = sizes-of (r .head .shape) _ _ _ _ (and-right (headerOk (r .head)) (lentOk r) e);
-      lens = λ m k. len-few (r .head) (ranged-of (r .head) h) m k;
-    }
+stands-of r e = standing-of r (and-left (headerOk (r .head)) (lentOk r) e) (and-right (headerOk (r .head)) (lentOk r) e)
 
 pub light-of : (r : Lent) → lentStands r ≡ true → r .head .weight ≤ top
 light-of r e = ranged-of (r .head) (and-left (headerOk (r .head)) (lentOk r) e) .light
-
-sized-view : (r : Lent) → lentOk r ≡ true → sizesOk (view r) ≡ true
-unfolding sizesOk view
-sized-view r z =
-    let s = sizes-of (r .head .shape) (length (r .counters)) (length (r .norms)) (length (r .entries)) (length (r .counts)) z in
-    both (both (eq-eqb _ _ (s .cells)) (eq-eqb _ _ (length-norms (r .norms) (normsIn (r .head .shape))))) (eq-eqb _ _ (length-cands (r .entries) (r .counts) ∙ s .counts))
 
 -- ---- one shape
 

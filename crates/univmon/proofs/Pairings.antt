@@ -1,6 +1,6 @@
 -- The loops over the layers of two states: the tests, and the merge. Assumes nothing.
 use mathlib.Core.Path.{_≡_, refl, sym, ap, _∙_, subst}
-use mathlib.Core.Bool.{Bool, true, _&&_}
+use mathlib.Core.Bool.{Bool, true}
 use Prim.Native.Nat.{ℕ, zero, suc, _+_, _≤_, _<_}
 use native.Mathlib.Omega.{arith}
 use native.Mathlib.Numerals.{add-one}
@@ -18,14 +18,6 @@ use Rattle.univmon.proofs.States.{at-fits, all-later}
 use Rattle.univmon.proofs.Sending.{long-view}
 
 -- ---- the tests
-
-pub each-step : (p : ℕ → Layer → Bool) (s : State) (k l : ℕ) → allLayers p (suc k) l s ≡ p l (layerAt s l) && allLayers p k (suc l) s
-unfolding allLayers
-each-step p s k l = refl
-
-pub each-none : (p : ℕ → Layer → Bool) (s : State) (l : ℕ) → allLayers p 0 l s ≡ true
-unfolding allLayers
-each-none p s l = refl
 
 -- one layer of many passes
 each-at : (p : ℕ → Layer → Bool) (s : State) (k l i : ℕ) → allLayers p k l s ≡ true → l ≤ i → i < k + l → p i (layerAt s i) ≡ true

@@ -11,7 +11,8 @@ use Rattle.univmon.specs.Calls.{left}
 use Rattle.words.proofs.Scans.{Scan, scan-start, scan-on, scan-stop, scan-end}
 use Rattle.univmon.specs.State.{allLayers}
 use Rattle.univmon.specs.Pairs.{readsWith}
-use Rattle.univmon.proofs.Pairings.{each-step, each-none, pair-one}
+use Rattle.univmon.proofs.Judging.{layers-step, layers-none}
+use Rattle.univmon.proofs.Pairings.{pair-one}
 use Rattle.univmon.proofs.merging.all_read.Statement.{statement}
 use Rattle.univmon.proofs.merging.all_read.Tie as tie
 
@@ -39,7 +40,7 @@ reads-at-requires c κs = pair-one (lent-of (c .before .before .before .before .
 
 returns : tie.Need-returns Inv-loop μ-loop
 returns c =
-    scan-stop (tested (c .before .before .before .before .before .before .before .before)) (c .before .before .before .before .before .before .before .before .args .many) 0 (c .before .before .before .loop .l) _ (c .before .before .before .loop .inv) (omega (arith, c .before .before .loop-test .taken)) (λ k. each-step _ (view (lent-of (c .before .before .before .before .before .before .before .before))) k (c .before .before .before .loop .l)) (sym (c .before .reads-at .ensures) ∙ not-true _ (c .if1 .taken))
+    scan-stop (tested (c .before .before .before .before .before .before .before .before)) (c .before .before .before .before .before .before .before .before .args .many) 0 (c .before .before .before .loop .l) _ (c .before .before .before .loop .inv) (omega (arith, c .before .before .loop-test .taken)) (λ k. layers-step _ (view (lent-of (c .before .before .before .before .before .before .before .before))) k (c .before .before .before .loop .l)) (sym (c .before .reads-at .ensures) ∙ not-true _ (c .if1 .taken))
 
 add-l : tie.Need-add-l Inv-loop μ-loop
 add-l c = let p = c .before .before .before .before .before .before .before .before .pre in record { fits = omega (arith, p .inside, p .standing .accepted .few, c .before .before .loop-test .taken) }
@@ -49,11 +50,11 @@ loop-less c = omega (arith, c .before .before .loop-test .taken)
 
 loop-again : tie.Need-loop-again Inv-loop μ-loop
 loop-again c =
-    scan-on (tested (c .before .before .before .before .before .before .before .before)) (c .before .before .before .before .before .before .before .before .args .many) 0 (c .before .before .before .loop .l) _ (c .before .before .before .loop .inv) (omega (arith, c .before .before .loop-test .taken)) (λ k. each-step _ (view (lent-of (c .before .before .before .before .before .before .before .before))) k (c .before .before .before .loop .l)) (sym (c .before .reads-at .ensures) ∙ not-false _ (c .if1 .left))
+    scan-on (tested (c .before .before .before .before .before .before .before .before)) (c .before .before .before .before .before .before .before .before .args .many) 0 (c .before .before .before .loop .l) _ (c .before .before .before .loop .inv) (omega (arith, c .before .before .loop-test .taken)) (λ k. layers-step _ (view (lent-of (c .before .before .before .before .before .before .before .before))) k (c .before .before .before .loop .l)) (sym (c .before .reads-at .ensures) ∙ not-false _ (c .if1 .left))
 
 returns-2 : tie.Need-returns-2 Inv-loop μ-loop
 returns-2 c =
-    scan-end (tested (c .before .before .before .before .before .before)) (c .before .before .before .before .before .before .args .many) 0 (c .before .loop .l) (c .before .loop .inv) (omega (arith, c .loop-test .left)) (each-none _ (view (lent-of (c .before .before .before .before .before .before))) (c .before .loop .l))
+    scan-end (tested (c .before .before .before .before .before .before)) (c .before .before .before .before .before .before .args .many) 0 (c .before .loop .l) (c .before .loop .inv) (omega (arith, c .loop-test .left)) (layers-none _ (view (lent-of (c .before .before .before .before .before .before))) (c .before .loop .l))
 
 pub all-read-spec : {M : Type 1} → statement M
 all-read-spec = tie.close (tie.spec Inv-loop μ-loop loop-holds reads-at-requires returns add-l loop-less loop-again returns-2)
