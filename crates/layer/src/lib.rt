@@ -15,6 +15,8 @@ pub use adding::add_ready;
 pub use deltas::apply_delta;
 pub use deltas::delta_fits;
 pub use deltas::delta_reads;
+pub use filling::zero_counts;
+pub use filling::zero_words;
 pub use merging::merge;
 pub use merging::merge_fits;
 pub use merging::merge_reads;

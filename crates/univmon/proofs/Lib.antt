@@ -1,5 +1,4 @@
 pub mod Offsets
-pub mod Fills
 pub mod Lengths
 pub mod States
 pub mod Views

@@ -9,36 +9,16 @@ ghost use lib.IntN.{pos};
 ghost use Rattle.univmon.specs.Slices.{lent};
 ghost use Rattle.univmon.specs.Calls.{left, leftBy, newCall, clearCall};
 
-fn zero_words(xs: &mut [u64])
-    ensures { λ _. ⌜ now (xs .exit) ≡ replicate (length (now (xs .entry))) 0 ⌝ }
-{
-    let mut i = 0;
-    while i < xs.len() {
-        xs[i] = 0;
-        i += 1;
-    }
-}
-
-fn zero_counts(xs: &mut [i64])
-    ensures { λ _. ⌜ now (xs .exit) ≡ replicate (length (now (xs .entry))) (pos 0) ⌝ }
-{
-    let mut i = 0;
-    while i < xs.len() {
-        xs[i] = 0;
-        i += 1;
-    }
-}
-
 fn zero_all(counters: &mut [i64], norms: &mut [u64], entries: &mut [u64], counts: &mut [i64])
     ensures { λ _. ⌜ now (counters .exit) ≡ replicate (length (now (counters .entry))) (pos 0) ⌝ }
     ensures { λ _. ⌜ now (norms .exit) ≡ replicate (length (now (norms .entry))) 0 ⌝ }
     ensures { λ _. ⌜ now (entries .exit) ≡ replicate (length (now (entries .entry))) 0 ⌝ }
     ensures { λ _. ⌜ now (counts .exit) ≡ replicate (length (now (counts .entry))) (pos 0) ⌝ }
 {
-    zero_counts(counters);
-    zero_words(norms);
-    zero_words(entries);
-    zero_counts(counts);
+    layer::zero_counts(counters);
+    layer::zero_words(norms);
+    layer::zero_words(entries);
+    layer::zero_counts(counts);
 }
 
 // A fresh state in lent slices: 1, 2, 3, 4 for the dimensions, 9 for the lengths.
