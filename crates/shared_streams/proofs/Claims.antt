@@ -18,12 +18,14 @@ use Rattle.univmon.specs.declared.Kind.{Kind}
 use Rattle.univmon.specs.declared.Kind.the-variants as kind
 use Rattle.univmon.specs.State.{State}
 use Rattle.univmon.specs.Updates.{modeOf}
-use Rattle.univmon.specs.Slices.{Lent, view, flat, freshLent}
+use Rattle.univmon.specs.Slices.{Lent, lentOk, view, flat, freshLent}
 use Rattle.univmon.specs.Calls.{Outcome}
 use Rattle.sums.specs.Terminal.{terminalSum, heavy}
 use Rattle.sums.specs.Layers.{standardSum}
 use Rattle.sums.specs.declared.G.the-variants as g
 use Rattle.estimates.specs.Sums.{strataOf, sumBy, gSumOf, cardinalityOf, sumRefusal}
+use Rattle.estimates.specs.declared.Answer.{Answer}
+use Rattle.estimates.specs.Calls.{answer, sumCall, cardinalityCall}
 use Rattle.shared_streams.specs.Books.{Book, bookKeys, keysSent, times, distinct, OneRecord, Reordered, Holds}
 use Rattle.shared_streams.specs.Relays.{Relay, takes}
 use Rattle.shared_streams.specs.SharedStreams.{SameValues, Alone, Claimed}
@@ -94,6 +96,11 @@ counts sh w b s r one few = rw (and-false (eqb (s .head .weight) 0)) (go (s .hea
     go mode.Standard e = own (kinds kind.Standard mode.Standard e (λ k. same-kind k kind.Standard))
     go mode.Terminal e = terminal-counts sh v h b s r (kinds kind.Terminal mode.Terminal e (λ k. same-kind k kind.Terminal)) c few (heavy (strataOf s)) (s .head .shape .layers - 1) last
 
+-- the call, where nothing refuses it
+card-call : (r : Lent) → lentOk r ≡ true → sumRefusal (view r) true ≡ 0 → cardinalityCall r ≡ answer 0 (cardinalityOf (view r))
+unfolding sumCall
+card-call r z e = rw (z, e)
+
 -- ---- a fresh relay that takes the book in any order
 
 module _ (sh : Shape) (v : shapeRefusal sh ≡ 0) (r : Relay) (x : LentBy sh (r .book) (r .lends)) where
@@ -117,12 +124,17 @@ module _ (sh : Shape) (v : shapeRefusal sh ≡ 0) (r : Relay) (x : LentBy sh (r 
       record {
         holds = subst (Holds sh (r .book)) (sym (x .is)) (holds-by sh (r .book) (x .state) (x .by));
         alone = alone;
-        lengths = lent-lengths sh (r .book) (r .lends) x;
-        answered = subst (λ (z : Shape). shapeRefusal z ≡ 0 → RelayBy z (r .book) (view (r .lends)) → sumRefusal (view (r .lends)) true ≡ 0) (by .shape) (sum-accepted (view (r .lends)) (r .book)) v by;
-        counted = λ one few. counts sh v (r .book) (view (r .lends)) by one few;
+        answered = ap (λ (a : Answer). a .refusal) call;
+        counted = λ one few. call ∙ ap (answer 0) (counts sh v (r .book) (view (r .lends)) by one few);
         mode = λ e f m n. same-kind (e .kind) (f .kind) (all-at (OfMode (bookMode (r .book))) (r .book) (by .kinds) e m ∙ sym (all-at (OfMode (bookMode (r .book))) (r .book) (by .kinds) f n));
         light = by .light;
       }
     where
       by : RelayBy sh (r .book) (view (r .lends))
       by = lent-view sh (r .book) (r .lends) x
+
+      accepted : sumRefusal (view (r .lends)) true ≡ 0
+      accepted = subst (λ (z : Shape). shapeRefusal z ≡ 0 → RelayBy z (r .book) (view (r .lends)) → sumRefusal (view (r .lends)) true ≡ 0) (by .shape) (sum-accepted (view (r .lends)) (r .book)) v by
+
+      call : cardinalityCall (r .lends) ≡ answer 0 (cardinalityOf (view (r .lends)))
+      call = card-call (r .lends) (lent-lengths sh (r .book) (r .lends) x) accepted

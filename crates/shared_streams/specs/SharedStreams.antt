@@ -2,8 +2,8 @@
 --
 -- The definitions that it needs, beside those of this page:
 -- `Books`: books, the values "by the book", the premises of a book, "in any order"; `Relays`: relays, listed calls, `run`, `accepted`, `takes`;
--- and the calls' own, which the code's contracts cite: `shapeRefusal` (header), `freshLent`, `newCall`, `updateCall`, `mergeCall`, `lentOk`, `view` (univmon),
--- `sumRefusal`, `cardinalityOf` (estimates).
+-- and the calls' own, which the code's contracts cite: `shapeRefusal` (header), `freshLent`, `newCall`, `updateCall`, `mergeCall` (univmon),
+-- `cardinalityCall` (estimates).
 -- The proofs stand in proofs/SharedStreams.antt, under the names `shared-streams`, `with-premises`, `two-shares`, `fresh`.
 use Prim.Native.Nat.{ℕ, _≤_, _<_}
 use mathlib.Core.Path.{_≡_}
@@ -14,9 +14,9 @@ use lib.Ieee.{binary64, ofInt}
 use Rattle.words.specs.Num.{top}
 use Rattle.header.specs.declared.Shape.{Shape}
 use Rattle.header.specs.Shape.{shapeRefusal}
-use Rattle.univmon.specs.Slices.{Lent, lentOk, view, freshLent}
+use Rattle.univmon.specs.Slices.{Lent, freshLent}
 use Rattle.univmon.specs.Calls.{Outcome, newCall, mergeCall}
-use Rattle.estimates.specs.Sums.{cardinalityOf, sumRefusal}
+use Rattle.estimates.specs.Calls.{answer, cardinalityCall}
 use Rattle.shared_streams.specs.Books.{Book, Holds, bookKeys, weightOf, distinct, OneMode, OneRecord, Reordered}
 use Rattle.shared_streams.specs.Relays.{Relay, Call, start, relayAt, run, accepted, Listed, takes}
 
@@ -41,11 +41,10 @@ pub record Claimed (sh : Shape) (r : Relay) : Type 0 where
   pub holds : Holds sh (r .book) (r .lends)
   -- "and so does one fresh relay of that shape that takes the updates of that relay's book in any order; lent right lengths, the fresh one refuses none"
   pub alone : (b : Book) → Reordered (r .book) b → Alone sh r b
-  -- `estimate_cardinality` is not refused, whatever the book is: 9 for lengths and header, 9 for what is read
-  pub lengths : lentOk (r .lends) ≡ true
-  pub answered : sumRefusal (view (r .lends)) true ≡ 0
+  -- `estimate_cardinality` is not refused, whatever the book is
+  pub answered : cardinalityCall (r .lends) .refusal ≡ 0
   -- "If a relay's book has at most heap size distinct keys, `estimate_cardinality` on that relay answers exactly their number.", with one record per key
-  pub counted : OneRecord (r .book) → distinct (bookKeys (r .book)) ≤ sh .«heap_size» → cardinalityOf (view (r .lends)) ≡ ofInt binary64 (pos (distinct (bookKeys (r .book))))
+  pub counted : OneRecord (r .book) → distinct (bookKeys (r .book)) ≤ sh .«heap_size» → cardinalityCall (r .lends) ≡ answer 0 (ofInt binary64 (pos (distinct (bookKeys (r .book)))))
   -- the other premises hold of every book by themselves: refusals 6 and 7
   pub mode : OneMode (r .book)
   pub light : weightOf (r .book) ≤ top
@@ -70,7 +69,7 @@ pub record Premises (b : Book) : Type 0 where
 -- what is then claimed: cardinality has no premise left but the number of keys
 pub record Counted (sh : Shape) (r : Relay) : Type 0 where
   pub claimed : Claimed sh r
-  pub counted : distinct (bookKeys (r .book)) ≤ sh .«heap_size» → cardinalityOf (view (r .lends)) ≡ ofInt binary64 (pos (distinct (bookKeys (r .book))))
+  pub counted : distinct (bookKeys (r .book)) ≤ sh .«heap_size» → cardinalityCall (r .lends) ≡ answer 0 (ofInt binary64 (pos (distinct (bookKeys (r .book)))))
 
 -- of each "relay not retired", after a list in which every call may be listed
 abbrev pub Corollary : Type 0
