@@ -1,0 +1,4 @@
+pub mod Rooms
+pub mod Fronts
+pub mod Weights
+pub mod Replies
