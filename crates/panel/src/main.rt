@@ -3,15 +3,21 @@ use header::Header;
 use panel_lines::split::take_line;
 use panel_step::Told;
 use panel_step::answer_line;
+ghost use mathlib.Core.Path.{_≡_};
+ghost use Prim.Native.Nat.{ℕ, _+_, _*_, _≤_};
+ghost use lib.ListN.{length, take};
+ghost use Rattle.univmon.specs.Slices.{lent};
+ghost use Rattle.panel_lines.specs.Split.{chunkLines, chunkHeld};
+ghost use Rattle.panel_step.specs.Panel.{answerLine, answersOf, found, put, behind};
 
-// What is known after a chunk: the header, the bytes held of the line that goes on, the bytes of answers.
+// What is known after a chunk: the header, the bytes held of the line that goes on, the bytes of the answers.
 struct Taken {
     header: Header,
     held: usize,
     len: usize,
 }
 
-// Answers the line in the first k bytes, behind the answers that `out` has up to `at`.
+// Answers the line in the first k bytes, behind the answers that `out` has up to a place.
 fn reply(
     line: &[u8],
     k: usize,
@@ -22,7 +28,13 @@ fn reply(
     counts: &mut [i64],
     out: &mut [u8],
     at: usize,
-) -> Told {
+) -> Told
+    requires { ⌜ k ≤ length (now line) ⌝ }
+    requires { ⌜ at + 121 ≤ length (now out) ⌝ }
+    ensures { λ r. ⌜ found (lent (r .header) (now (counters .exit)) (now (norms .exit)) (now (entries .exit)) (now (counts .exit))) (r .len) (now (out .exit))
+        ≡ behind at (answerLine (lent header (now (counters .entry)) (now (norms .entry)) (now (entries .entry)) (now (counts .entry))) (take k (now (line .entry)))) (now (out .entry)) ⌝ }
+    ensures { λ r. ⌜ r .len ≤ at + 121 ⌝ }
+{
     let t = answer_line(
         &line[..k],
         header,
@@ -39,8 +51,8 @@ fn reply(
     }
 }
 
-// Answers the lines that end in a chunk. Of each byte at most one line ends, so 121 bytes of `out` for
-// each byte of the chunk are enough.
+// Answers the lines that end in a chunk, from the start of `out` on. No byte ends more than one line, so 121
+// bytes of `out` for each byte of the chunk are enough.
 fn take_chunk(
     chunk: &[u8],
     line: &mut [u8],
@@ -51,7 +63,15 @@ fn take_chunk(
     entries: &mut [u64],
     counts: &mut [i64],
     out: &mut [u8],
-) -> Taken {
+) -> Taken
+    requires { ⌜ held ≤ 1025 ⌝ }
+    requires { ⌜ 1025 ≤ length (now line) ⌝ }
+    requires { ⌜ 121 * length (now chunk) ≤ length (now out) ⌝ }
+    ensures { λ r. ⌜ found (lent (r .header) (now (counters .exit)) (now (norms .exit)) (now (entries .exit)) (now (counts .exit))) (r .len) (now (out .exit))
+        ≡ put (answersOf (lent header (now (counters .entry)) (now (norms .entry)) (now (entries .entry)) (now (counts .entry))) (chunkLines (take held (now (line .entry))) (now (chunk .entry)))) (now (out .entry)) ⌝ }
+    ensures { λ r. ⌜ take (r .held) (now (line .exit)) ≡ chunkHeld (take held (now (line .entry))) (now (chunk .entry)) ⌝ }
+    ensures { λ r. ⌜ (r .held ≤ 1025) × (r .len ≤ 121 * length (now (chunk .entry))) ⌝ }
+{
     let mut at = 0;
     let mut n = held;
     let mut len = 0;
@@ -76,12 +96,14 @@ fn take_chunk(
     }
 }
 
-fn print(s: &[u8], k: usize) {
-    if k <= s.len() {
-        io::write_all(1, &s[..k]);
-    }
+fn print(s: &[u8], k: usize)
+    requires { ⌜ k ≤ length (now s) ⌝ }
+{
+    io::write_all(1, &s[..k]);
 }
 
+// The slices have room for every shape that is accepted: 4,096 counters, 19 x 20 norms, 512 candidates. 121 bytes of
+// answers for each byte of a chunk are written before the next chunk is read.
 fn main() {
     let mut counters = [0i64; 4096];
     let mut norms = [0u64; 760];

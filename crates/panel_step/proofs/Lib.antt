@@ -2,3 +2,4 @@ pub mod Rooms
 pub mod Fronts
 pub mod Weights
 pub mod Replies
+pub mod Runs

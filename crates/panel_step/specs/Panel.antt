@@ -1,6 +1,6 @@
 -- The program `panel`: what each line is answered, and what it leaves of the state. To be held beside the paper's paragraph
 -- "The program `panel` reads lines and answers each line with one".
-use Prim.Native.Nat.{ℕ, _*_}
+use Prim.Native.Nat.{ℕ, _+_, _*_}
 use mathlib.Core.Bool.{Bool, cond, not, _&&_}
 use mathlib.Core.List.{List, [], _∷_, _++_}
 use lib.ListN.{length, take, drop}
@@ -19,6 +19,7 @@ use Rattle.estimates.specs.Calls.{panelCall}
 use Rattle.panel_lines.specs.declared.line.Request.{Request}
 use Rattle.panel_lines.specs.declared.line.Request.the-variants as ask
 use Rattle.panel_lines.specs.Line.{Reading, readOf}
+use Rattle.panel_lines.specs.Split.{someLast, chunkLines, chunkHeld}
 use Rattle.panel_lines.specs.Answers.{okText, refusedText, showText}
 use Rattle.panel_step.specs.declared.extent.Extent.{Extent}
 
@@ -142,6 +143,10 @@ found r n o = record { lends = r; len = n; out = o }
 abbrev pub put : Answer → List ℕ → Found
 put a o = found (a .lends) (length (a .text)) (sets o 0 (a .text))
 
+-- from a place on, where answers stand before it
+abbrev pub behind : ℕ → Answer → List ℕ → Found
+behind at a o = found (a .lends) (at + length (a .text)) (sets o at (a .text))
+
 -- `(show ..)` of 19 layers, and a newline
 abbrev pub longest : ℕ
 longest = 121
@@ -149,3 +154,13 @@ longest = 121
 -- nothing is done where the longest answer has no room
 unfoldable pub answerWithin : ℕ → Lent → List ℕ → Answer
 answerWithin room r line = cond (ltb room longest) (record { lends = r; text = [] }) (answerLine r line)
+
+-- ---- the whole input, in chunks as they are read
+
+-- The lines that end in a chunk are answered, and what is held of the next one goes on to the next chunk; "The last line needs no newline."
+unfoldable pub runOf : Lent → List ℕ → List (List ℕ) → Answer
+runOf r held [] = answersOf r (someLast held)
+runOf r held (c ∷ cs) =
+    let a : Answer = answersOf r (chunkLines held c) in
+    let b : Answer = runOf (a .lends) (chunkHeld held c) cs in
+    record { lends = b .lends; text = a .text ++ b .text }
