@@ -11,12 +11,19 @@ ghost use Prim.Native.Nat.{ℕ, _≤_};
 ghost use lib.ListN.{length};
 ghost use lib.Seq.{sets};
 ghost use Rattle.univmon.specs.Slices.{lent};
-ghost use Rattle.univmon.specs.Calls.{left};
+ghost use Rattle.univmon.specs.Calls.{left, answered};
 ghost use Rattle.estimates.specs.Calls.{panelCall};
 ghost use Rattle.panel_step.specs.Panel.{shapeCall, addCall, showLine, panelText};
 
 // 13 before a shape.
 const NO_SHAPE: u64 = 13;
+
+// A refused request: the header stays as it is.
+fn refused(refusal: u64, header: Header) -> Answered
+    ensures { λ r. ⌜ r ≡ answered refusal header ⌝ }
+{
+    Answered { refusal, header }
+}
 
 // Starts afresh with a shape, or refuses it.
 pub fn start(
@@ -38,7 +45,7 @@ pub fn start(
         counts.len(),
     );
     if refusal != 0 {
-        return Answered { refusal, header };
+        return refused(refusal, header);
     }
     let e = extent_of(shape);
     let cells = e.cells;
@@ -80,10 +87,7 @@ pub fn add(
     )
         != 0
     {
-        return Answered {
-            refusal: NO_SHAPE,
-            header,
-        };
+        return refused(NO_SHAPE, header);
     }
     let e = extent_of(shape);
     let cells = e.cells;

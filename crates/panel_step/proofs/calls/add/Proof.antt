@@ -21,12 +21,15 @@ use Rattle.panel_step.proofs.calls.add.Tie as tie
 panel-refusal-requires : tie.Need-panel-refusal-requires
 panel-refusal-requires c κs = search needs
 
+refused-requires : tie.Need-refused-requires
+refused-requires c κs = search needs
+
 -- the state that is lent
 abbrev here : tie.Start → Lent
 here c = lent (c .args .header) (now (c .args .counters)) (now (c .args .norms)) (now (c .args .entries)) (now (c .args .counts))
 
 returns : tie.Need-returns
-returns c = no-shape (here (c .before .before .before .before .before .before)) (now (c .before .before .before .before .before .before .args .words)) (c .before .before .before .before .before .before .args .weight) (rw (c .before .panel-refusal .ensures) at (c .if1 .taken))
+returns c = rw (c .refused .ensures) (no-shape (here (c .before .before .before .before .before .before .before)) (now (c .before .before .before .before .before .before .before .args .words)) (c .before .before .before .before .before .before .before .args .weight) (rw (c .before .before .panel-refusal .ensures) at (c .before .if1 .taken)))
 
 -- the shape was taken
 taken : (c : tie.Else1) → refusalIn (here (c .before .before .before .before .before .before)) (c .before .before .before .before .before .before .args .header .shape) ≡ 0
@@ -96,4 +99,4 @@ returns-2 c =
     (rw (toZ-ofZ (c .before .before .before .before .before .before .before .before .before .before .before .before .before .before .before .before .before .before .fits .weight)) at (c .before .before .before .before .before .before .update-weighted .ensures))
 
 pub add-spec : {M : Type 1} → statement M
-add-spec = tie.close (tie.spec panel-refusal-requires returns extent-of-requires slice-relend-prefix-update-weighted slice-aggregate-update-weighted slice-relend-prefix-update-weighted-2 slice-aggregate-update-weighted-2 slice-relend-prefix-update-weighted-3 slice-aggregate-update-weighted-3 slice-relend-prefix-update-weighted-4 slice-aggregate-update-weighted-4 update-weighted-requires same-length same-length-2 same-length-3 same-length-4 returns-2)
+add-spec = tie.close (tie.spec panel-refusal-requires refused-requires returns extent-of-requires slice-relend-prefix-update-weighted slice-aggregate-update-weighted slice-relend-prefix-update-weighted-2 slice-aggregate-update-weighted-2 slice-relend-prefix-update-weighted-3 slice-aggregate-update-weighted-3 slice-relend-prefix-update-weighted-4 slice-aggregate-update-weighted-4 update-weighted-requires same-length same-length-2 same-length-3 same-length-4 returns-2)

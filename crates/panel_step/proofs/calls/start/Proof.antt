@@ -20,12 +20,15 @@ use Rattle.panel_step.proofs.calls.start.Tie as tie
 panel-refusal-requires : tie.Need-panel-refusal-requires
 panel-refusal-requires c κs = search needs
 
+refused-requires : tie.Need-refused-requires
+refused-requires c κs = search needs
+
 -- the state that is lent
 abbrev here : tie.Start → Lent
 here c = lent (c .args .header) (now (c .args .counters)) (now (c .args .norms)) (now (c .args .entries)) (now (c .args .counts))
 
 returns : tie.Need-returns
-returns c = not-started (here (c .before .before .before .before)) (c .before .before .before .before .args .shape) (c .before .panel-refusal .result) (c .before .panel-refusal .ensures) (c .if1 .taken)
+returns c = rw (c .refused .ensures) (not-started (here (c .before .before .before .before .before)) (c .before .before .before .before .before .args .shape) (c .before .before .panel-refusal .result) (c .before .before .panel-refusal .ensures) (c .before .if1 .taken))
 
 -- the shape was taken
 taken : (c : tie.Else1) → refusalIn (here (c .before .before .before .before)) (c .before .before .before .before .args .shape) ≡ 0
@@ -93,4 +96,4 @@ returns-2 : tie.Need-returns-2
 returns-2 c = has-started (here (c .before .before .before .before .before .before .before .before .before .before .before .before .before .before .before .before)) (c .before .before .before .before .before .before .before .before .before .before .before .before .before .before .before .before .args .shape) (c .before .before .before .before .before .before .before .before .before .before .before .extent-of .result) _ (taken (c .before .before .before .before .before .before .before .before .before .before .before .before)) (c .before .before .before .before .before .before .before .before .before .before .before .extent-of .ensures) (c .before .before .before .before .before .before .new .ensures)
 
 pub start-spec : {M : Type 1} → statement M
-start-spec = tie.close (tie.spec panel-refusal-requires returns extent-of-requires slice-relend-prefix-new slice-aggregate-new slice-relend-prefix-new-2 slice-aggregate-new-2 slice-relend-prefix-new-3 slice-aggregate-new-3 slice-relend-prefix-new-4 slice-aggregate-new-4 new-requires same-length same-length-2 same-length-3 same-length-4 returns-2)
+start-spec = tie.close (tie.spec panel-refusal-requires refused-requires returns extent-of-requires slice-relend-prefix-new slice-aggregate-new slice-relend-prefix-new-2 slice-aggregate-new-2 slice-relend-prefix-new-3 slice-aggregate-new-3 slice-relend-prefix-new-4 slice-aggregate-new-4 new-requires same-length same-length-2 same-length-3 same-length-4 returns-2)
