@@ -3,3 +3,4 @@ pub mod Fronts
 pub mod Weights
 pub mod Replies
 pub mod Runs
+pub mod Figures

@@ -1,18 +1,17 @@
 -- Answers as they are put into a slice. Assumes nothing.
 use Prim.Native.Nat.{ℕ, suc, _+_, _≤_, _<_}
 use mathlib.Core.Path.{_≡_, refl, sym, ap, _∙_}
-use mathlib.Core.Bool.{Bool, true, false, cond}
+use mathlib.Core.Bool.{Bool}
 use mathlib.Core.List.{List, [], _∷_, _++_, map}
 use borrow.Author.Tests.{eq-eqb, ne-eqb, le-ltb, lt-ltb}
 use lib.ListN.{length, take}
 use lib.Seq.{sets}
-use lib.Dec.{eqb, ltb}
 use lib.IntN.{ℤ}
 use lib.Ieee.{binary64, toBits}
 use Rattle.text.proofs.Puts.{joined}
 use Rattle.header.specs.declared.Shape.{Shape}
 use Rattle.header.specs.declared.Header.{Header}
-use Rattle.univmon.specs.Slices.{Lent, lent}
+use Rattle.univmon.specs.Slices.{Lent}
 use Rattle.univmon.specs.Calls.{Left, left}
 use Rattle.estimates.specs.declared.PanelAnswer.{PanelAnswer}
 use Rattle.estimates.specs.Calls.{panelCall}
@@ -22,7 +21,7 @@ use Rattle.panel_lines.specs.Line.{readOf}
 use Rattle.panel_lines.specs.Answers.{okText, refusedText, showText}
 use Rattle.panel_step.specs.declared.extent.Extent.{Extent}
 use Rattle.panel_step.proofs.Fronts.{partsIn}
-use Rattle.panel_step.specs.Panel.{extentOf, inUse, refusalIn, shapeCall, addCall, panelText, showLine, Answer, answer, replyText, replied, answerTo, answerLine, Found, found, put, longest, answerWithin}
+use Rattle.panel_step.specs.Panel.{extentOf, refusalIn, shapeCall, addCall, panelText, showLine, Answer, answer, replyText, replied, answerTo, answerLine, Found, found, put, longest, answerWithin}
 
 -- a text and a newline behind it
 pub ended : (l o p : List ℕ) (i j : ℕ) (a : List ℕ) → o ≡ sets l 0 a → i ≡ length a → p ≡ sets o i (10 ∷ []) → j ≡ i + 1 → (j ≡ length (a ++ (10 ∷ []))) × (p ≡ sets l 0 (a ++ (10 ∷ [])))

@@ -1,16 +1,14 @@
 -- What a shape needs of the slices, and what the panel's test of it says. Assumes nothing.
 use Prim.Native.Nat.{ℕ, _*_, _≤_}
-use mathlib.Core.Path.{_≡_, refl, sym, _∙_}
+use mathlib.Core.Path.{_≡_, refl}
 use mathlib.Core.Bool.{Bool, true, false, cond, not, _&&_}
 use native.Mathlib.Omega.{arith}
 use borrow.Author.Tests.{eqb-true, eqb-false, leb-true}
 use lib.Dec.{eqb, ltb, leb}
-use Rattle.words.proofs.Bools.{never}
 use Rattle.header.specs.declared.Shape.{Shape}
 use Rattle.header.specs.Shape.{shapeRefusal}
 use Rattle.univmon.specs.Slices.{cellsIn, normsIn, candsIn}
 use Rattle.univmon.proofs.Offsets.{norm-off, cand-off, cells-are}
-use Rattle.panel_step.specs.declared.extent.Extent.{Extent}
 use Rattle.panel_step.specs.Panel.{extentOf, maxCounters, maxCandidates, roomy, panelRefusal}
 
 -- the extent as the code works it out

@@ -1,6 +1,6 @@
 -- Lines one after another, and THE THEOREM ON THE PROGRAM'S INPUT: however the input is cut into chunks, the chunks' answers one
 -- after another are the answers to the lines of the whole input (`run-whole`). Assumes nothing.
-use Prim.Native.Nat.{ℕ, _+_, _-_, _≤_, _<_}
+use Prim.Native.Nat.{ℕ, _+_, _-_, _≤_}
 use mathlib.Core.Path.{_≡_, refl, sym, ap, _∙_}
 use mathlib.Core.List.{List, [], _∷_, _++_, append-assoc, append-nil, map}
 use native.Mathlib.Omega.{arith}
@@ -9,7 +9,7 @@ use lib.ListN.{length, take, drop, length-append, length-drop, drop-of-length-le
 use lib.Seq.{sets, sets-eq, drop-drop, take-all}
 use Rattle.text.proofs.Puts.{sets-append}
 use Rattle.univmon.specs.Slices.{Lent}
-use Rattle.panel_lines.specs.Line.{Reading, readOf}
+use Rattle.panel_lines.specs.Line.{Reading}
 use Rattle.panel_lines.specs.Split.{held, someLast, chunkLines, chunkHeld, runLines, runHeld, linesOfChunks, lines, wholeOf}
 use Rattle.panel_lines.proofs.Chunks.{held-reads, chunks-make-lines}
 use Rattle.panel_step.specs.Panel.{Answer, answerTo, answerLine, answersOf, Found, found, put, behind, longest, answerWithin, runOf}

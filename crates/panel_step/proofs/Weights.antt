@@ -1,6 +1,6 @@
 -- The weight that a line spells is a signed word. Assumes nothing.
 use Prim.Native.Nat.{ℕ, _+_, _*_}
-use mathlib.Core.Path.{_≡_, refl, sym, ap, _∙_, subst}
+use mathlib.Core.Path.{_≡_, sym, ap, _∙_, subst}
 use mathlib.Core.List.{List}
 use lib.IntN.{ℤ, pos, negsuc}
 use lib.ListN.{length}
@@ -9,7 +9,6 @@ use mir.Syntax.{w64}
 use mir.Val.{toZ, ofZ}
 use Rattle.text.specs.Signs.{SignedWord}
 use Rattle.text.proofs.IntTexts.{back-neg, back-pos}
-use Rattle.panel_lines.specs.declared.line.Request.{Request}
 use Rattle.panel_lines.specs.declared.line.Request.the-variants.{Shape, Add, Show, Unreadable}
 use Rattle.panel_lines.specs.Line.{Reading, readOf}
 use Rattle.panel_lines.specs.Ask.{Ask, shape, add, show, readingOf, Writes, Readable}
