@@ -96,13 +96,14 @@ module _ (chunk line₀ : List ℕ) (held : ℕ) (r₀ : Lent) (out₀ line : Li
     sym (held-end chunk (take n line) at l) ∙ z .rest,
   )
 
--- between two chunks: no more than 1,025 bytes are held, and every array has its length
-pub record Ready (held : ℕ) (line₀ chunk₀ : List ℕ) (r : Lent) (out₀ : List ℕ) : Type 0 where
+-- between two chunks: no more than 1,025 bytes are held, and the slices keep their lengths
+pub record Between (chunk₀ line₀ : List ℕ) (r₀ : Lent) (out₀ chunk line : List ℕ) (r : Lent) (out : List ℕ) (held : ℕ) : Type 0 where
   pub few : held ≤ 1025
-  pub line : length line₀ ≡ 1025
-  pub chunk : length chunk₀ ≡ 16384
-  pub out : length out₀ ≡ 1982464
-  pub counters : length (r .counters) ≡ 4096
-  pub norms : length (r .norms) ≡ 760
-  pub entries : length (r .entries) ≡ 2048
-  pub counts : length (r .counts) ≡ 512
+  pub chunks : length chunk ≡ length chunk₀
+  pub lines : length line ≡ length line₀
+  pub outs : length out ≡ length out₀
+  pub kept : Kept r₀ r
+
+pub kept-on : (r s t : Lent) → Kept r s → Kept s t → Kept r t
+kept-on r s t a b =
+    record { counters = b .counters ∙ a .counters; norms = b .norms ∙ a .norms; entries = b .entries ∙ a .entries; counts = b .counts ∙ a .counts }

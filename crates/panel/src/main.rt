@@ -102,53 +102,77 @@ fn print(s: &[u8], k: usize)
     io::write_all(1, &s[..k]);
 }
 
-// The slices have room for every shape that is accepted: 4,096 counters, 19 x 20 norms, 512 candidates. 121 bytes of
-// answers for each byte of a chunk are written before the next chunk is read.
-fn main() {
-    let mut counters = [0i64; 4096];
-    let mut norms = [0u64; 760];
-    let mut entries = [0u64; 2048];
-    let mut counts = [0i64; 512];
-    let mut line = [0u8; 1025];
-    let mut chunk = [0u8; 16384];
-    let mut out = [0u8; 1982464];
+// Reads the input, chunk by chunk, and writes each chunk's answers before it reads the next.
+fn run(
+    chunk: &mut [u8],
+    line: &mut [u8],
+    counters: &mut [i64],
+    norms: &mut [u64],
+    entries: &mut [u64],
+    counts: &mut [i64],
+    out: &mut [u8],
+)
+    requires { ⌜ 1025 ≤ length (now line) ⌝ }
+    requires { ⌜ 121 ≤ length (now out) ⌝ }
+    requires { ⌜ 121 * length (now chunk) ≤ length (now out) ⌝ }
+{
     let mut header = Header::zero();
     let mut held = 0;
     let mut turns = u64::MAX;
     while turns > 0 {
-        let got = libc::read(0, &mut chunk);
-        let n = io::count(got, &chunk);
+        let got = libc::read(0, chunk);
+        let n = io::count(got, &*chunk);
         if n == 0 {
             break;
         }
         let t = take_chunk(
             &chunk[..n],
-            &mut line,
+            line,
             held,
             header,
-            &mut counters,
-            &mut norms,
-            &mut entries,
-            &mut counts,
-            &mut out,
+            counters,
+            norms,
+            entries,
+            counts,
+            out,
         );
-        print(&out, t.len);
+        print(&*out, t.len);
         header = t.header;
         held = t.held;
         turns -= 1;
     }
     if held > 0 {
         let t = reply(
-            &line,
+            &*line,
             held,
             header,
-            &mut counters,
-            &mut norms,
-            &mut entries,
-            &mut counts,
-            &mut out,
+            counters,
+            norms,
+            entries,
+            counts,
+            out,
             0,
         );
-        print(&out, t.len);
+        print(&*out, t.len);
     }
+}
+
+// The slices have room for every shape that is accepted: 4,096 counters, 2 x 19 x 20 norm words, 512 candidates.
+fn main() {
+    let mut chunk = [0u8; 16384];
+    let mut line = [0u8; 1025];
+    let mut counters = [0i64; 4096];
+    let mut norms = [0u64; 760];
+    let mut entries = [0u64; 2048];
+    let mut counts = [0i64; 512];
+    let mut out = [0u8; 1982464];
+    run(
+        &mut chunk,
+        &mut line,
+        &mut counters,
+        &mut norms,
+        &mut entries,
+        &mut counts,
+        &mut out,
+    );
 }
