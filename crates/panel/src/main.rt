@@ -52,7 +52,7 @@ fn reply(
 }
 
 // Answers the lines that end in a chunk, from the start of `out` on. No byte ends more than one line, so 121
-// bytes of `out` for each byte of the chunk are enough.
+// bytes of `out` for each byte of the chunk are enough. What `line` has past the held bytes is left open.
 fn take_chunk(
     chunk: &[u8],
     line: &mut [u8],

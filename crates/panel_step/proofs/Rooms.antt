@@ -3,12 +3,14 @@ use Prim.Native.Nat.{ℕ, _*_, _≤_}
 use mathlib.Core.Path.{_≡_, refl}
 use mathlib.Core.Bool.{Bool, true, false, cond, not, _&&_}
 use native.Mathlib.Omega.{arith}
-use borrow.Author.Tests.{eqb-true, eqb-false, leb-true}
+use native.Mathlib.Nat.{le-refl}
+use borrow.Author.Tests.{eqb-true, eqb-false, leb-true, ltb-false, le-leb}
 use lib.Dec.{eqb, ltb, leb}
 use Rattle.header.specs.declared.Shape.{Shape}
 use Rattle.header.specs.Shape.{shapeRefusal}
+use Rattle.header.proofs.Refusals.{accepted-of}
 use Rattle.univmon.specs.Slices.{cellsIn, normsIn, candsIn}
-use Rattle.univmon.proofs.Offsets.{norm-off, cand-off, cells-are}
+use Rattle.univmon.proofs.Offsets.{norm-off, cand-off, cells-are, rows-few}
 use Rattle.panel_step.specs.Panel.{extentOf, maxCounters, maxCandidates, roomy, panelRefusal}
 
 -- the extent as the code works it out
@@ -47,3 +49,30 @@ fit-of sh xs ws es ns e =
           words = leb-true (4 * candsIn sh) es pr;
           seats = leb-true (candsIn sh) ns ps;
         }
+
+-- ---- the program's own slices: 4,096 counters, 760 norm words, 2,048 entry words, 512 counts
+
+-- the paper's words alone
+unfoldable pub paperRefusal : Shape → ℕ
+paperRefusal sh =
+    cond (not (eqb (shapeRefusal sh) 0)) (shapeRefusal sh)
+    (cond (ltb maxCounters (cellsIn sh)) 4
+    (cond (ltb maxCandidates (candsIn sh)) 4 0))
+
+-- they have room for every shape that the paper lets pass
+roomy-own : (sh : Shape) → shapeRefusal sh ≡ 0 → cellsIn sh ≤ maxCounters → candsIn sh ≤ maxCandidates → roomy (extentOf sh) 4096 760 2048 512 ≡ true
+unfolding roomy
+roomy-own sh e c d =
+    let n : normsIn sh ≤ 380 = omega (arith, norm-off sh (sh .layers), rows-few sh (accepted-of sh e) (sh .layers) (le-refl _)) in
+    rw (le-leb (cellsIn sh) 4096 c, le-leb (2 * normsIn sh) 760 (omega arith), le-leb (4 * candsIn sh) 2048 (omega arith), le-leb (candsIn sh) 512 d)
+
+pub own-refusal : (sh : Shape) → panelRefusal sh 4096 760 2048 512 ≡ paperRefusal sh
+unfolding panelRefusal paperRefusal
+own-refusal sh = go (eqb (shapeRefusal sh) 0) refl (ltb maxCounters (cellsIn sh)) refl (ltb maxCandidates (candsIn sh)) refl
+  where
+    go : (a : Bool) → eqb (shapeRefusal sh) 0 ≡ a → (b : Bool) → ltb maxCounters (cellsIn sh) ≡ b → (c : Bool) → ltb maxCandidates (candsIn sh) ≡ c
+        → cond (not a) (shapeRefusal sh) (cond b 4 (cond c 4 (cond (roomy (extentOf sh) 4096 760 2048 512) 0 4))) ≡ cond (not a) (shapeRefusal sh) (cond b 4 (cond c 4 0))
+    go false pa b pb c pc = refl
+    go true pa true pb c pc = refl
+    go true pa false pb true pc = refl
+    go true pa false pb false pc = rw (roomy-own sh (eqb-true (shapeRefusal sh) 0 pa) (ltb-false maxCounters (cellsIn sh) pb) (ltb-false maxCandidates (candsIn sh) pc))
