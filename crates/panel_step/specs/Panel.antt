@@ -50,7 +50,7 @@ maxCounters = 4096
 abbrev pub maxCandidates : ℕ
 maxCandidates = 512
 
--- the slices have room for it; the program's own have room for every shape within the bounds above
+-- the slices have room for it; the program's own have room for every shape within the bounds above (law `own-refusal`)
 unfoldable pub roomy : Extent → ℕ → ℕ → ℕ → ℕ → Bool
 roomy e xs ws es ns = leb (e .cells) xs && (leb (e .norms) ws && (leb (e .words) es && leb (e .seats) ns))
 
@@ -110,7 +110,7 @@ replyText n = cond (eqb n 0) okText (refusedText n)
 abbrev pub replied : Left → Answer
 replied l = answer (l .lends) (replyText (l .refusal))
 
--- "In the program 13 comes first."
+-- "In the program 13 comes first.": an unreadable line looks at nothing else, and without a shape `add` and `show` do not either
 unfoldable pub answerTo : Lent → Request → List ℕ → Answer
 answerTo r (ask.Shape heap rows cols layers) words = replied (shapeCall r (record { «heap_size» = heap; rows = rows; cols = cols; layers = layers }))
 answerTo r (ask.Add weight n) words = replied (addCall r words weight)
