@@ -1,0 +1,58 @@
+-- `panel::main` meets its contract. Written by hand: the check prints no file for it, since its own search goes through the
+-- elements of the longest array. A law gives each array's length instead.
+use Prim.Native.Nat.{ℕ, _*_, _≤_}
+use mathlib.Core.Path.{_≡_, sym}
+use lib.ListN.{length, replicate, length-replicate}
+use lib.IntN.{pos}
+use native.Mathlib.Omega.{arith}
+use borrow.Author.Needs.{needs}
+use Rattle.panel.proofs.main.Statement.{statement}
+use Rattle.panel.proofs.main.Tie as tie
+use Rattle.panel.proofs.main.Reads as reads
+use Rattle.panel.proofs.main.Lts as lts
+use Rattle.panel.proofs.run.Reads as run-reads
+
+slice-aggregate-run : tie.Need-slice-aggregate-run
+slice-aggregate-run c = sym (length-replicate {A = ℕ} 16384 0)
+
+slice-aggregate-run-2 : tie.Need-slice-aggregate-run-2
+slice-aggregate-run-2 c = sym (length-replicate {A = ℕ} 1025 0)
+
+slice-aggregate-run-3 : tie.Need-slice-aggregate-run-3
+slice-aggregate-run-3 c = sym (length-replicate 4096 (pos 0))
+
+slice-aggregate-run-4 : tie.Need-slice-aggregate-run-4
+slice-aggregate-run-4 c = sym (length-replicate {A = ℕ} 760 0)
+
+slice-aggregate-run-5 : tie.Need-slice-aggregate-run-5
+slice-aggregate-run-5 c = sym (length-replicate {A = ℕ} 2048 0)
+
+slice-aggregate-run-6 : tie.Need-slice-aggregate-run-6
+slice-aggregate-run-6 c = sym (length-replicate 512 (pos 0))
+
+slice-aggregate-run-7 : tie.Need-slice-aggregate-run-7
+slice-aggregate-run-7 c = sym (length-replicate {A = ℕ} 1982464 0)
+
+-- lists of these lengths are long enough
+enough : (line out chunk : ℕ) → line ≡ 1025 → out ≡ 1982464 → chunk ≡ 16384 → (1025 ≤ line) × ((121 ≤ out) × (121 * chunk ≤ out))
+enough line out chunk a b c = (omega arith, (omega arith, omega arith))
+
+run-requires : tie.Need-run-requires
+run-requires c κs = enough _ _ _ (length-replicate {A = ℕ} 1025 0) (length-replicate {A = ℕ} 1982464 0) (length-replicate {A = ℕ} 16384 0)
+
+returns : tie.Need-returns
+returns c = tt
+
+pub main-spec : {M : Type 1} → statement M
+main-spec =
+    tie.close
+    (tie.spec
+    slice-aggregate-run
+    slice-aggregate-run-2
+    slice-aggregate-run-3
+    slice-aggregate-run-4
+    slice-aggregate-run-5
+    slice-aggregate-run-6
+    slice-aggregate-run-7
+    run-requires
+    returns)

@@ -1,0 +1,20 @@
+-- `panel::print` meets its contract.
+-- Written by tools/places.py from answers.txt; assumes nothing.
+use mathlib.Core.Path.{sym}
+use lib.Seq.{length-take-le}
+use borrow.Author.Needs.{needs}
+use denote.Ref.{now}
+use Rattle.panel.proofs.print.Statement.{statement}
+use Rattle.panel.proofs.print.Tie as tie
+
+slice-aggregate-write-all : tie.Need-slice-aggregate-write-all
+slice-aggregate-write-all c = sym (length-take-le (c .before .before .args .k) (now (c .before .before .args .s)) (c .before .before .pre))
+
+write-all-requires : tie.Need-write-all-requires
+write-all-requires c κs = search needs
+
+returns : tie.Need-returns
+returns c = search needs
+
+pub print-spec : {M : Type 1} → statement M
+print-spec = tie.close (tie.spec slice-aggregate-write-all write-all-requires returns)

@@ -1,0 +1,77 @@
+// How much of the panel's slices a shape uses, and whether the panel takes it.
+use header::Shape;
+ghost use mathlib.Core.Path.{_≡_};
+ghost use mathlib.Core.Bool.{Bool};
+ghost use Prim.Native.Nat.{ℕ};
+ghost use Rattle.header.specs.Accepted.{Accepted};
+ghost use Rattle.panel_step.specs.Panel.{extentOf, roomy, panelRefusal};
+
+// The greatest numbers of counters and of candidates, over all layers.
+const MAX_COUNTERS: usize = 4096;
+
+const MAX_CANDIDATES: usize = 512;
+
+// Counters, norm words, entry words and counts of a shape.
+pub struct Extent {
+    pub cells: usize,
+    pub norms: usize,
+    pub words: usize,
+    pub seats: usize,
+}
+
+pub fn extent_of(shape: Shape) -> Extent
+    requires { ⌜ Accepted shape ⌝ }
+    ensures { λ r. ⌜ r ≡ extentOf shape ⌝ }
+{
+    let rows = shape.layers * shape.rows;
+    let seats = shape.layers * shape.heap_size;
+    Extent {
+        cells: rows * shape.cols,
+        norms: 2 * rows,
+        words: 4 * seats,
+        seats,
+    }
+}
+
+// Whether slices of these lengths have room.
+fn has_room(e: Extent, counters: usize, norms: usize, entries: usize, counts: usize) -> bool
+    ensures { λ r. ⌜ r ≡ roomy e counters norms entries counts ⌝ }
+{
+    if counters < e.cells {
+        return false;
+    }
+    if norms < e.norms {
+        return false;
+    }
+    if entries < e.words {
+        return false;
+    }
+    e.seats <= counts
+}
+
+// 0, or the refusal of a shape in slices of these lengths.
+pub fn panel_refusal(
+    shape: Shape,
+    counters: usize,
+    norms: usize,
+    entries: usize,
+    counts: usize,
+) -> u64
+    ensures { λ r. ⌜ r ≡ panelRefusal shape counters norms entries counts ⌝ }
+{
+    let own = shape.refusal();
+    if own != 0 {
+        return own;
+    }
+    let e = extent_of(shape);
+    if MAX_COUNTERS < e.cells {
+        return 4;
+    }
+    if MAX_CANDIDATES < e.seats {
+        return 4;
+    }
+    if has_room(e, counters, norms, entries, counts) {
+        return 0;
+    }
+    4
+}

@@ -1,0 +1,140 @@
+// A line, answered.
+use crate::Told;
+use crate::calls::add;
+use crate::calls::show;
+use crate::calls::start;
+use header::Header;
+use header::Shape;
+use panel_lines::answer::put_ok;
+use panel_lines::answer::put_refused;
+use panel_lines::line::Request;
+use panel_lines::line::read_line;
+use text::word::put_word;
+ghost use mathlib.Core.Path.{_≡_};
+ghost use mathlib.Core.List.{[], _∷_, _++_};
+ghost use Prim.Native.Nat.{ℕ, _≤_};
+ghost use lib.ListN.{length};
+ghost use lib.Seq.{sets};
+ghost use Rattle.univmon.specs.Slices.{lent};
+ghost use Rattle.univmon.specs.Calls.{left};
+ghost use Rattle.panel_step.specs.Panel.{shapeCall, addCall, showLine, replyText, replied, answer, found, put, answerWithin};
+
+// The longest answer, with its newline: `(show ..)` of 19 layers.
+const LONGEST: usize = 121;
+
+const UNREADABLE: u64 = 13;
+
+// `(ok)` for 0, `(refused N)` for N, and a newline.
+fn put_reply(out: &mut [u8], refusal: u64) -> usize
+    requires { ⌜ 121 ≤ length (now out) ⌝ }
+    ensures { λ r. ⌜ r ≡ length (replyText refusal ++ (10 ∷ [])) ⌝ }
+    ensures { λ _. ⌜ now (out .exit) ≡ sets (now (out .entry)) 0 (replyText refusal ++ (10 ∷ [])) ⌝ }
+    ensures { λ r. ⌜ r ≤ 121 ⌝ }
+{
+    if refusal == 0 {
+        let a = put_ok(out);
+        return put_word(out, a, b"\n");
+    }
+    let b = put_refused(out, refusal);
+    put_word(out, b, b"\n")
+}
+
+fn answer_shape(
+    header: Header,
+    counters: &mut [i64],
+    norms: &mut [u64],
+    entries: &mut [u64],
+    counts: &mut [i64],
+    shape: Shape,
+    out: &mut [u8],
+) -> Told
+    requires { ⌜ 121 ≤ length (now out) ⌝ }
+    ensures { λ r. ⌜ found (lent (r .header) (now (counters .exit)) (now (norms .exit)) (now (entries .exit)) (now (counts .exit))) (r .len) (now (out .exit))
+        ≡ put (replied (shapeCall (lent header (now (counters .entry)) (now (norms .entry)) (now (entries .entry)) (now (counts .entry))) shape)) (now (out .entry)) ⌝ }
+    ensures { λ r. ⌜ r .len ≤ 121 ⌝ }
+{
+    let a = start(header, counters, norms, entries, counts, shape);
+    let len = put_reply(out, a.refusal);
+    let next = a.header;
+    Told { header: next, len }
+}
+
+fn answer_add(
+    header: Header,
+    counters: &mut [i64],
+    norms: &mut [u64],
+    entries: &mut [u64],
+    counts: &mut [i64],
+    words: &[u64],
+    weight: i64,
+    out: &mut [u8],
+) -> Told
+    requires { ⌜ 121 ≤ length (now out) ⌝ }
+    ensures { λ r. ⌜ found (lent (r .header) (now (counters .exit)) (now (norms .exit)) (now (entries .exit)) (now (counts .exit))) (r .len) (now (out .exit))
+        ≡ put (replied (addCall (lent header (now (counters .entry)) (now (norms .entry)) (now (entries .entry)) (now (counts .entry))) (now (words .entry)) weight)) (now (out .entry)) ⌝ }
+    ensures { λ r. ⌜ r .len ≤ 121 ⌝ }
+{
+    let a = add(header, counters, norms, entries, counts, words, weight);
+    let len = put_reply(out, a.refusal);
+    let next = a.header;
+    Told { header: next, len }
+}
+
+fn answer_show(
+    header: Header,
+    counters: &[i64],
+    norms: &[u64],
+    entries: &[u64],
+    counts: &[i64],
+    out: &mut [u8],
+) -> Told
+    requires { ⌜ 121 ≤ length (now out) ⌝ }
+    ensures { λ r. ⌜ found (lent (r .header) (now (counters .entry)) (now (norms .entry)) (now (entries .entry)) (now (counts .entry))) (r .len) (now (out .exit))
+        ≡ put (answer (lent header (now (counters .entry)) (now (norms .entry)) (now (entries .entry)) (now (counts .entry))) (showLine (lent header (now (counters .entry)) (now (norms .entry)) (now (entries .entry)) (now (counts .entry))))) (now (out .entry)) ⌝ }
+    ensures { λ r. ⌜ r .len ≤ 121 ⌝ }
+{
+    let k = show(header, counters, norms, entries, counts, out);
+    let len = put_word(out, k, b"\n");
+    Told { header, len }
+}
+
+// Answers a line: its answer and a newline go to the start of `out`, if that has room for the longest one.
+pub fn answer_line(
+    line: &[u8],
+    header: Header,
+    counters: &mut [i64],
+    norms: &mut [u64],
+    entries: &mut [u64],
+    counts: &mut [i64],
+    out: &mut [u8],
+) -> Told
+    ensures { λ r. ⌜ found (lent (r .header) (now (counters .exit)) (now (norms .exit)) (now (entries .exit)) (now (counts .exit))) (r .len) (now (out .exit))
+        ≡ put (answerWithin (length (now (out .entry))) (lent header (now (counters .entry)) (now (norms .entry)) (now (entries .entry)) (now (counts .entry))) (now (line .entry))) (now (out .entry)) ⌝ }
+    ensures { λ r. ⌜ r .len ≤ 121 ⌝ }
+{
+    if out.len() < LONGEST {
+        return Told { header, len: 0 };
+    }
+    let mut words = [0u64; 56];
+    let q = read_line(line, &mut words);
+    match q {
+        Request::Shape(heap_size, rows, cols, layers) => {
+            let shape = Shape {
+                heap_size: heap_size as usize,
+                rows: rows as usize,
+                cols: cols as usize,
+                layers: layers as usize,
+            };
+            answer_shape(header, counters, norms, entries, counts, shape, out)
+        }
+        Request::Add(weight, n) => {
+            let spelt = &words[..n];
+            answer_add(header, counters, norms, entries, counts, spelt, weight, out)
+        }
+        Request::Show => answer_show(header, counters, norms, entries, counts, out),
+        Request::Unreadable => {
+            let len = put_reply(out, UNREADABLE);
+            Told { header, len }
+        }
+    }
+}
