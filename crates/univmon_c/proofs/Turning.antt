@@ -1,8 +1,9 @@
 -- A call as C makes it is the library's own on the header that C's stands for.
-use Prim.Native.Nat.{ℕ, _≤_, _<_}
+use Prim.Native.Nat.{ℕ, zero, suc, _≤_, _<_}
 use mathlib.Core.Path.{_≡_, refl, sym, ap, _∙_}
 use mathlib.Core.Bool.{Bool, true, false, cond, _&&_}
 use lib.Dec.{leb}
+use native.Mathlib.Omega.{arith}
 use borrow.Author.Tests.{le-leb, lt-leb}
 use Rattle.header.specs.declared.Header.{Header}
 use Rattle.header.specs.declared.Answered.{Answered}
@@ -12,7 +13,7 @@ use Rattle.estimates.specs.declared.Answer.{Answer}
 use Rattle.estimates.specs.declared.PanelAnswer.{PanelAnswer}
 use Rattle.estimates.specs.Calls.{refusedBy, noPanel}
 use Rattle.univmon_c.specs.declared.CHeader.{CHeader}
-use Rattle.univmon_c.specs.Crossing.{isMode, headerOf, cAnswered, cAnswer, cPanel}
+use Rattle.univmon_c.specs.Crossing.{isMode, modeOf, modeNumber, headerOf, cHeader, cAnswered, cAnswer, cPanel}
 use Rattle.univmon_c.specs.Calls.{CLent, lentOf, ofLent, cLeft, crossed, changeBy, mergeBy, headBy, answerBy, panelBy}
 
 -- ---- calls that change a state
@@ -74,3 +75,15 @@ panel-no-mode h a k = simp (lt-leb _ _ k)
 pub panelled : (h : CHeader) (a b : PanelAnswer) → h .mode ≤ 2 → b ≡ a → cPanel b ≡ panelBy h a
 unfolding panelBy
 panelled h a b k q = ap cPanel q ∙ simp (le-leb _ _ k)
+
+-- ---- a refused call gives the header back as it came
+
+number-back : (n : ℕ) → n ≤ 2 → modeNumber (modeOf n) ≡ n
+unfolding modeOf
+number-back zero h = refl
+number-back (suc zero) h = refl
+number-back (suc (suc zero)) h = refl
+number-back (suc (suc (suc n))) h = absurd (omega arith)
+
+pub header-back : (h : CHeader) → h .mode ≤ 2 → cHeader (headerOf h) ≡ h
+header-back h k = rw (number-back (h .mode) k)

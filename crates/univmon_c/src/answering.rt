@@ -17,6 +17,7 @@ ghost use Rattle.univmon_c.specs.Calls.{cLent, lentOf, answerBy, panelBy
 
 // The greatest number that is a mode, and the greatest that is a choice of g.
 const LAST_MODE: u64 = 2;
+
 const LAST_G: u64 = 2;
 
 // L1: the exact weight.

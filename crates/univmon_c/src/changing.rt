@@ -19,13 +19,19 @@ ghost use Rattle.univmon_c.specs.Calls.{cLent, cLeft, crossed, changeBy,
 
 // The greatest number that is a mode, and the greatest that is a fidelity.
 const LAST_MODE: u64 = 2;
+
 const LAST_FIDELITY: u64 = 1;
 
 // ---- shapes
 
 // 0, or the refusal of these dimensions.
 #[no_mangle]
-pub extern "C" fn univmon_check_shape(heap_size: usize, rows: usize, cols: usize, layers: usize) -> u64
+pub extern "C" fn univmon_check_shape(
+    heap_size: usize,
+    rows: usize,
+    cols: usize,
+    layers: usize,
+) -> u64
     ensures { λ r. ⌜ r ≡ shapeRefusal (record { «heap_size» = «heap_size»; rows = rows; cols = cols; layers = layers }) ⌝ }
 {
     header::check_shape(heap_size, rows, cols, layers)
@@ -107,15 +113,7 @@ pub extern "C" fn univmon_update_weighted(
         return CAnswered { refusal: 9, header };
     }
     let h = header_of(header);
-    c_answered(univmon::update_weighted(
-        h,
-        counters,
-        norms,
-        entries,
-        counts,
-        words,
-        weight,
-    ))
+    c_answered(univmon::update_weighted(h, counters, norms, entries, counts, words, weight))
 }
 
 // The key goes to its bottom layer only.
@@ -260,7 +258,10 @@ pub extern "C" fn univmon_mark_candidates_incomplete(header: CHeader) -> CAnswer
 
 // Marks one layer's candidates as partial.
 #[no_mangle]
-pub extern "C" fn univmon_mark_layer_candidates_incomplete(header: CHeader, layer: usize) -> CAnswered
+pub extern "C" fn univmon_mark_layer_candidates_incomplete(
+    header: CHeader,
+    layer: usize,
+) -> CAnswered
     ensures { λ r. ⌜ r ≡ headBy (λ h. markLayerCall h layer) header ⌝ }
 {
     if LAST_MODE < header.mode {

@@ -1,8 +1,8 @@
 // UnivMon for programs in C and Rust: the public calls under plain names with the prefix `univmon_`.
 // A header crosses by value with its mode as a number, a slice as a pointer and a length.
-mod crossing;
 pub mod answering;
 pub mod changing;
+mod crossing;
 
 // A header as C has it: mode 0 is unset, 1 standard, 2 terminal; another number is refused with 9.
 #[repr(C)]

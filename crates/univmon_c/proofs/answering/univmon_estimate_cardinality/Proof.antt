@@ -2,6 +2,7 @@
 -- Written by tools/places.py from answers.txt; assumes nothing.
 use mathlib.Core.Path.{refl, _∙_}
 use mathlib.Core.Bool.{true}
+use native.Mathlib.Omega.{arith}
 use borrow.Author.Needs.{needs}
 use denote.Ref.{now}
 use Rattle.univmon.specs.Slices.{Lent}
@@ -24,7 +25,7 @@ abbrev stood : tie.Start → Lent
 stood c = lentOf (here c)
 
 returns : tie.Need-returns
-returns c = c .no-answer .ensures ∙ answer-no-mode true (c .before .before .before .before .before .args .header) (cardinalityCall (stood (c .before .before .before .before .before))) (c .before .if1 .taken)
+returns c = c .no-answer .ensures ∙ answer-no-mode true (c .before .before .before .before .before .args .header) (cardinalityCall (stood (c .before .before .before .before .before))) (omega (arith, c .before .if1 .taken))
 
 header-of-requires : tie.Need-header-of-requires
 header-of-requires c κs = search needs
@@ -38,7 +39,7 @@ c-answer-requires c κs = search needs
 returns-2 : tie.Need-returns-2
 returns-2 c =
     c .c-answer .ensures
-    ∙ answers true (c .before .before .before .before .before .before .before .args .header) (cardinalityCall (stood (c .before .before .before .before .before .before .before))) _ (c .before .before .before .if1 .left) refl (rw (c .before .before .header-of .ensures) at (c .before .estimate-cardinality .ensures))
+    ∙ answers true (c .before .before .before .before .before .before .before .args .header) (cardinalityCall (stood (c .before .before .before .before .before .before .before))) _ (omega (arith, c .before .before .before .if1 .left)) refl (rw (c .before .before .header-of .ensures) at (c .before .estimate-cardinality .ensures))
 
 pub univmon-estimate-cardinality-spec : {M : Type 1} → statement M
 univmon-estimate-cardinality-spec = tie.close (tie.spec no-answer-requires returns header-of-requires estimate-cardinality-requires c-answer-requires returns-2)

@@ -1,6 +1,7 @@
 -- `univmon_c::answering::univmon_panel_answer` meets its contract.
 -- Written by tools/places.py from answers.txt; assumes nothing.
 use mathlib.Core.Path.{_∙_}
+use native.Mathlib.Omega.{arith}
 use borrow.Author.Needs.{needs}
 use denote.Ref.{now}
 use Rattle.univmon.specs.Slices.{Lent}
@@ -23,7 +24,7 @@ abbrev stood : tie.Start → Lent
 stood c = lentOf (here c)
 
 returns : tie.Need-returns
-returns c = c .no-panel .ensures ∙ panel-no-mode (c .before .before .before .before .before .args .header) (panelCall (stood (c .before .before .before .before .before))) (c .before .if1 .taken)
+returns c = c .no-panel .ensures ∙ panel-no-mode (c .before .before .before .before .before .args .header) (panelCall (stood (c .before .before .before .before .before))) (omega (arith, c .before .if1 .taken))
 
 header-of-requires : tie.Need-header-of-requires
 header-of-requires c κs = search needs
@@ -37,7 +38,7 @@ c-panel-requires c κs = search needs
 returns-2 : tie.Need-returns-2
 returns-2 c =
     c .c-panel .ensures
-    ∙ panelled (c .before .before .before .before .before .before .before .args .header) (panelCall (stood (c .before .before .before .before .before .before .before))) _ (c .before .before .before .if1 .left) (rw (c .before .before .header-of .ensures) at (c .before .panel-answer .ensures))
+    ∙ panelled (c .before .before .before .before .before .before .before .args .header) (panelCall (stood (c .before .before .before .before .before .before .before))) _ (omega (arith, c .before .before .before .if1 .left)) (rw (c .before .before .header-of .ensures) at (c .before .panel-answer .ensures))
 
 pub univmon-panel-answer-spec : {M : Type 1} → statement M
 univmon-panel-answer-spec = tie.close (tie.spec no-panel-requires returns header-of-requires panel-answer-requires c-panel-requires returns-2)

@@ -1,5 +1,6 @@
 -- `univmon_c::changing::univmon_apply_delta` meets its contract.
 -- Written by tools/places.py from answers.txt; assumes nothing.
+use native.Mathlib.Omega.{arith}
 use borrow.Author.Needs.{needs}
 use borrow.Author.Tests.{le-leb, lt-leb}
 use denote.Ref.{now}
@@ -22,10 +23,10 @@ abbrev call : tie.Start → Lent → Outcome
 call c s = deltaCall s (now (c .args .words)) (arrival (c .args .layer) (c .args .row) (c .args .col) (c .args .count) (fidelityOf (c .args .fidelity)))
 
 returns : tie.Need-returns
-returns c = change-no-mode (isFidelity (c .before .before .before .before .before .args .fidelity)) (call (c .before .before .before .before .before)) (here (c .before .before .before .before .before)) (c .if1 .taken)
+returns c = change-no-mode (isFidelity (c .before .before .before .before .before .args .fidelity)) (call (c .before .before .before .before .before)) (here (c .before .before .before .before .before)) (omega (arith, c .if1 .taken))
 
 returns-2 : tie.Need-returns-2
-returns-2 c = change-no-choice (isFidelity (c .before .before .before .before .before .before .args .fidelity)) (call (c .before .before .before .before .before .before)) (here (c .before .before .before .before .before .before)) (c .before .if1 .left) (lt-leb _ _ (c .if2 .taken))
+returns-2 c = change-no-choice (isFidelity (c .before .before .before .before .before .before .args .fidelity)) (call (c .before .before .before .before .before .before)) (here (c .before .before .before .before .before .before)) (omega (arith, c .before .if1 .left)) (lt-leb _ _ (c .if2 .taken))
 
 header-of-requires : tie.Need-header-of-requires
 header-of-requires c κs = search needs
@@ -54,7 +55,7 @@ same-length-4 c = search needs
 returns-3 : tie.Need-returns-3
 returns-3 c =
     rw (c .c-answered .ensures)
-    (changed (isFidelity (c .before .before .before .before .before .before .before .before .before .before .before .before .before .before .before .before .before .before .before .before .args .fidelity)) (call (c .before .before .before .before .before .before .before .before .before .before .before .before .before .before .before .before .before .before .before .before)) (here (c .before .before .before .before .before .before .before .before .before .before .before .before .before .before .before .before .before .before .before .before)) (c .before .before .before .before .before .before .before .before .before .before .before .before .before .before .before .if1 .left) (le-leb _ _ (c .before .before .before .before .before .before .before .before .before .before .before .before .before .before .if2 .left)) _ _
+    (changed (isFidelity (c .before .before .before .before .before .before .before .before .before .before .before .before .before .before .before .before .before .before .before .before .args .fidelity)) (call (c .before .before .before .before .before .before .before .before .before .before .before .before .before .before .before .before .before .before .before .before)) (here (c .before .before .before .before .before .before .before .before .before .before .before .before .before .before .before .before .before .before .before .before)) (omega (arith, c .before .before .before .before .before .before .before .before .before .before .before .before .before .before .before .if1 .left)) (le-leb _ _ (c .before .before .before .before .before .before .before .before .before .before .before .before .before .before .if2 .left)) _ _
     (rw (c .before .before .before .before .before .before .before .before .before .before .before .before .before .header-of .ensures, c .before .before .before .before .before .before .before .before .before .before .before .before .fidelity-of .ensures, toZ-ofZ (c .before .before .before .before .before .before .before .before .before .before .before .before .before .before .before .before .before .before .before .before .fits .count)) at (c .before .before .before .before .before .before .before .apply-delta .ensures)))
 
 pub univmon-apply-delta-spec : {M : Type 1} → statement M

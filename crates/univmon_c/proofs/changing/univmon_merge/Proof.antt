@@ -1,5 +1,6 @@
 -- `univmon_c::changing::univmon_merge` meets its contract.
 -- Written by tools/places.py from answers.txt; assumes nothing.
+use native.Mathlib.Omega.{arith}
 use borrow.Author.Needs.{needs}
 use denote.Ref.{now}
 use Rattle.univmon.specs.Calls.{left, mergeCall}
@@ -17,10 +18,10 @@ abbrev there : tie.Start → CLent
 there c = cLent (c .args .other) (now (c .args .other-counters)) (now (c .args .other-norms)) (now (c .args .other-entries)) (now (c .args .other-counts))
 
 returns : tie.Need-returns
-returns c = merge-no-mode mergeCall (here (c .before .before .before .before .before .before)) (there (c .before .before .before .before .before .before)) (c .if1 .taken)
+returns c = merge-no-mode mergeCall (here (c .before .before .before .before .before .before)) (there (c .before .before .before .before .before .before)) (omega (arith, c .if1 .taken))
 
 returns-2 : tie.Need-returns-2
-returns-2 c = merge-no-other mergeCall (here (c .before .before .before .before .before .before .before .before)) (there (c .before .before .before .before .before .before .before .before)) (c .before .before .if1 .left) (c .if2 .taken)
+returns-2 c = merge-no-other mergeCall (here (c .before .before .before .before .before .before .before .before)) (there (c .before .before .before .before .before .before .before .before)) (omega (arith, c .before .before .if1 .left)) (c .if2 .taken)
 
 header-of-requires : tie.Need-header-of-requires
 header-of-requires c κs = search needs
@@ -49,7 +50,7 @@ same-length-4 c = search needs
 returns-3 : tie.Need-returns-3
 returns-3 c =
     rw (c .c-answered .ensures)
-    (merged mergeCall (here (c .before .before .before .before .before .before .before .before .before .before .before .before .before .before .before .before .before .before .before .before .before .before)) (there (c .before .before .before .before .before .before .before .before .before .before .before .before .before .before .before .before .before .before .before .before .before .before)) (c .before .before .before .before .before .before .before .before .before .before .before .before .before .before .before .before .if1 .left) (c .before .before .before .before .before .before .before .before .before .before .before .before .before .before .if2 .left) _ _
+    (merged mergeCall (here (c .before .before .before .before .before .before .before .before .before .before .before .before .before .before .before .before .before .before .before .before .before .before)) (there (c .before .before .before .before .before .before .before .before .before .before .before .before .before .before .before .before .before .before .before .before .before .before)) (omega (arith, c .before .before .before .before .before .before .before .before .before .before .before .before .before .before .before .before .if1 .left)) (c .before .before .before .before .before .before .before .before .before .before .before .before .before .before .if2 .left) _ _
     (rw (c .before .before .before .before .before .before .before .before .before .before .before .before .before .header-of .ensures, c .before .before .before .before .before .before .before .before .before .before .before .before .header-of2 .ensures) at (c .before .before .before .before .before .before .before .merge .ensures)))
 
 pub univmon-merge-spec : {M : Type 1} → statement M
