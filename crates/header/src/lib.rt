@@ -53,12 +53,13 @@ pub enum Mode {
     Terminal,
 }
 
+// The fields stand by falling alignment, so that no copy of a header starts at an odd byte.
 pub struct Header {
     pub shape: Shape,
     pub weight: u64,
-    pub mode: Mode,
-    pub flags: [bool; 19],
     pub lens: [usize; 19],
+    pub flags: [bool; 19],
+    pub mode: Mode,
 }
 
 // What a call on a header answers: a refusal and the header as it was, or 0 and the new header.
@@ -278,16 +279,18 @@ impl Header {
         self
     }
 
-    // A layer's new length; its flag falls where a key was not kept.
-    pub fn touched(self, layer: usize, len: usize, kept: bool) -> Self
+    // A layer's new length; its flag falls where a key was not kept. Stored in place: a copy of the
+    // header for each of the two would cost more than the rest of a layer's bookkeeping.
+    pub fn touched(mut self, layer: usize, len: usize, kept: bool) -> Self
         requires { ⌜ layer < 19 ⌝ }
         ensures { λ r. ⌜ r ≡ withLayer self layer (getD (self .flags) layer false && kept) len ⌝ }
     {
-        let next = self.with_len(layer, len);
+        self.lens[layer] = len;
         if kept {
-            return next;
+            return self;
         }
-        next.clear_flag(layer)
+        self.flags[layer] = false;
+        self
     }
 
     // Weight and mode of an update: 5, 6 or 7, or the header that it begins with.

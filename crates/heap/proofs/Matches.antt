@@ -4,6 +4,7 @@ use mathlib.Core.Logic.{_≢_}
 use Prim.Native.Nat.{ℕ, zero, suc, _+_, _*_, _≤_, _<_}
 use native.Mathlib.Omega.{arith}
 use native.Mathlib.Decide.{ℕ-discrete}
+use mathlib.Core.Bool.{Bool, true, not, _&&_}
 use mathlib.Core.List.{List, [], _∷_}
 use lib.ListN.{length, getD, take}
 use lib.Seq.{getD-take, length-take-le}
@@ -12,6 +13,9 @@ use borrow.Author.Tests.{eq-eqb, ne-eqb}
 use Rattle.heap_moves.specs.Cands.{Cand, noCand}
 use Rattle.heap_moves.specs.Flat.{candsOf}
 use Rattle.heap_moves.proofs.Views.{length-cands, cand-at}
+use lib.Dec.{eqb}
+use Rattle.words.proofs.Bools.{never, and-left, and-right}
+use Rattle.heap.specs.Fours.{fourOther}
 use Rattle.heap.specs.Offer.{find}
 
 pub find-first : (k : ℕ) (cs : List Cand) (i : ℕ) → i < length cs → ((j : ℕ) → j < i → getD cs j noCand .who .key ≢ k) → getD cs i noCand .who .key ≡ k → i ≡ find k cs
@@ -54,3 +58,31 @@ pub find-end : (es : List ℕ) (ns : List ℤ) (k n : ℕ) → n ≤ length ns �
 find-end es ns k n l m =
     sym (taken-long es ns n l)
     ∙ find-none k (take n (candsOf es ns)) (λ j hj q. m j (omega (arith, taken-long es ns n l)) (sym (taken-key es ns n j (omega (arith, taken-long es ns n l)) l) ∙ q))
+
+-- ---- four entries at once
+
+not-same : (x k : ℕ) → not (eqb x k) ≡ true → x ≢ k
+not-same x k t e = never (sym (ap not (eq-eqb x k e)) ∙ t)
+
+pub missed-four : (es : List ℕ) (k i : ℕ) → Missed es k i → fourOther es k (4 * i) ≡ true → Missed es k (i + 4)
+missed-four es k i m t =
+    let m1 : Missed es k (i + 1) = missed-next es k i m (not-same (getD es (4 * i) 0) k (and-left b0 (b 4) t1)) in
+    let m2 : Missed es k (i + 1 + 1) = missed-next es k (i + 1) m1 (at 1 (and-right b0 (b 4) t1)) in
+    let m3 : Missed es k (i + 2 + 1) = missed-next es k (i + 2) (λ j l. m2 j (omega (arith, l))) (at 2 (and-right (b0 && b 4) (b 8) t2)) in
+    let m4 : Missed es k (i + 3 + 1) = missed-next es k (i + 3) (λ j l. m3 j (omega (arith, l))) (at 3 (and-right ((b0 && b 4) && b 8) (b 12) t)) in
+    λ j l. m4 j (omega (arith, l))
+  where
+    b : ℕ → Bool
+    b d = not (eqb (getD es (4 * i + d) 0) k)
+
+    b0 : Bool
+    b0 = not (eqb (getD es (4 * i) 0) k)
+
+    t2 : (b0 && b 4) && b 8 ≡ true
+    t2 = and-left ((b0 && b 4) && b 8) (b 12) t
+
+    t1 : b0 && b 4 ≡ true
+    t1 = and-left (b0 && b 4) (b 8) t2
+
+    at : (d : ℕ) → b (4 * d) ≡ true → getD es (4 * (i + d)) 0 ≢ k
+    at d s = let e : 4 * (i + d) ≡ 4 * i + 4 * d = omega arith in rw e (not-same (getD es (4 * i + 4 * d) 0) k s)

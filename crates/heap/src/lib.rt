@@ -1,4 +1,6 @@
 // One layer's candidates (the Rust's `TopKHeap`): the first `len` of `size` places are used.
+mod blocks;
+
 ghost use mathlib.Core.Path.{_≡_};
 ghost use Prim.Native.Nat.{ℕ, _≤_, _<_, _*_};
 ghost use mathlib.Core.List.{List};
@@ -20,12 +22,12 @@ pub enum Answer {
     TurnedAway,
 }
 
-// The first of the n entries with the key; n if there is none. A plain scan over every fourth word.
+// The first of the n entries with the key; n if there is none. A scan over every fourth word.
 pub fn find(entries: &[u64], n: usize, key: u64) -> usize
     requires { ⌜ 4 * n ≤ length (now entries) ⌝ }
     ensures { λ r. ⌜ ((ns : List ℤ) → n ≤ length ns → r ≡ Rattle.heap.specs.Offer.find key (take n (candsOf (now (entries .entry)) ns))) × (r ≤ n) ⌝ }
 {
-    let mut i = 0;
+    let mut i = blocks::front_other(entries, n, key);
     while i < n {
         if entries[4 * i] == key {
             return i;
@@ -132,7 +134,7 @@ pub fn counts_in_range(counts: &[i64], n: usize) -> bool
     requires { ⌜ n ≤ length (now counts) ⌝ }
     ensures { λ r. ⌜ r ≡ allIn (take n (now (counts .entry))) ⌝ }
 {
-    let mut i = 0;
+    let mut i = blocks::front_in(counts, n);
     while i < n {
         if !words::in_range(counts[i]) {
             return false;

@@ -53,17 +53,4 @@ returns-2 c =
     (bottom-end (a .hash) (a .layers) (c .before .loop .l) (i .1 .0) (c .loop-test .left) ∙ sym (i .1 .1), omega arith)
 
 pub bottom-of-spec : {M : Type 1} → statement M
-bottom-of-spec =
-    tie.close
-    (tie.spec
-    Inv-loop
-    μ-loop
-    loop-holds
-    shr-if1
-    sub-result
-    returns
-    add-l
-    loop-less
-    loop-again
-    sub-result-2
-    returns-2)
+bottom-of-spec = tie.close (tie.spec Inv-loop μ-loop loop-holds shr-if1 sub-result returns add-l loop-less loop-again sub-result-2 returns-2)

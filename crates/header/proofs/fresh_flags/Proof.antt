@@ -36,6 +36,4 @@ returns : tie.Need-returns Inv-loop μ-loop
 returns c = let e : c .before .loop .l ≡ c .before .before .args .layers = omega arith in c .before .loop .inv .1 ∙ ap (λ (l : ℕ). replicate l true ++ replicate (19 - l) false) e
 
 pub fresh-flags-spec : {M : Type 1} → statement M
-fresh-flags-spec =
-    tie.close
-    (tie.spec Inv-loop μ-loop loop-holds array-write-flags add-l loop-less loop-again returns)
+fresh-flags-spec = tie.close (tie.spec Inv-loop μ-loop loop-holds array-write-flags add-l loop-less loop-again returns)

@@ -65,18 +65,4 @@ returns-2 c =
     (lens-none (a .layers) (a .heap-size) (now (a .lens)) (now (a .flags)) (c .before .loop .l))
 
 pub lens-in-range-spec : {M : Type 1} → statement M
-lens-in-range-spec =
-    tie.close
-    (tie.spec
-    Inv-loop
-    μ-loop
-    loop-holds
-    mul-layer-in-range
-    element-copy-out-layer-in-range
-    element-copy-out-layer-in-range-2
-    layer-in-range-requires
-    returns
-    add-l
-    loop-less
-    loop-again
-    returns-2)
+lens-in-range-spec = tie.close (tie.spec Inv-loop μ-loop loop-holds mul-layer-in-range element-copy-out-layer-in-range element-copy-out-layer-in-range-2 layer-in-range-requires returns add-l loop-less loop-again returns-2)

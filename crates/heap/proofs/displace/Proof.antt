@@ -34,14 +34,4 @@ returns-2 : tie.Need-returns-2
 returns-2 c = displace-no _ _ _ _ _ _ (toZ-ofZ (c .before .before .before .fits .v)) (omega arith) (c .before .if12 .given) (c .if1 .left)
 
 pub displace-spec : {M : Type 1} → statement M
-displace-spec =
-    tie.close
-    (tie.spec
-    slice-copy-out-if1
-    slice-read-out
-    put-cand-requires
-    bubble-down-requires
-    same-length
-    same-length-2
-    returns
-    returns-2)
+displace-spec = tie.close (tie.spec slice-copy-out-if1 slice-read-out put-cand-requires bubble-down-requires same-length same-length-2 returns returns-2)

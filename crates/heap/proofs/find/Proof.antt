@@ -2,6 +2,7 @@
 -- Written by tools/places.py from answers.txt; assumes nothing.
 use Prim.Native.Nat.{_-_, _≤_}
 use native.Mathlib.Omega.{arith}
+use borrow.Author.Needs.{needs}
 use denote.Ref.{now}
 use Rattle.heap.proofs.Matches.{Missed, missed-next, find-at, find-end}
 use Rattle.heap.proofs.find.Statement.{statement}
@@ -13,8 +14,11 @@ Inv-loop entries n key i₀ i = (i ≤ n) × Missed entries key i
 abbrev μ-loop : tie.MeasureT-loop
 μ-loop entries n key i₀ i = n - i
 
+front-other-requires : tie.Need-front-other-requires Inv-loop μ-loop
+front-other-requires c κs = search needs
+
 loop-holds : tie.Need-loop-holds Inv-loop μ-loop
-loop-holds c = (omega arith, λ j h. absurd (omega arith))
+loop-holds c = c .front-other .ensures
 
 mul-if1 : tie.Need-mul-if1 Inv-loop μ-loop
 mul-if1 c = omega arith
@@ -27,7 +31,7 @@ shared-slice-read-if1 c = omega arith
 
 returns : tie.Need-returns Inv-loop μ-loop
 returns c =
-    let a = c .before .before .before .before .args in
+    let a = c .before .before .before .before .before .before .args in
     (λ ns h. find-at (now (a .entries)) ns (a .key) (a .n) (c .before .before .before .loop .i) (omega arith) h (c .before .before .before .loop .inv .1) (c .if1 .taken), c .before .before .before .loop .inv .0)
 
 add-i : tie.Need-add-i Inv-loop μ-loop
@@ -38,26 +42,13 @@ loop-less c = omega arith
 
 loop-again : tie.Need-loop-again Inv-loop μ-loop
 loop-again c =
-    let a = c .before .before .before .before .args in
+    let a = c .before .before .before .before .before .before .args in
     (omega arith, missed-next (now (a .entries)) (a .key) (c .before .before .before .loop .i) (c .before .before .before .loop .inv .1) (c .if1 .left))
 
 returns-2 : tie.Need-returns-2 Inv-loop μ-loop
 returns-2 c =
-    let a = c .before .before .args in
+    let a = c .before .before .before .before .args in
     (λ ns h. find-end (now (a .entries)) ns (a .key) (a .n) h (λ j l. c .before .loop .inv .1 j (omega arith)), omega arith)
 
 pub find-spec : {M : Type 1} → statement M
-find-spec =
-    tie.close
-    (tie.spec
-    Inv-loop
-    μ-loop
-    loop-holds
-    mul-if1
-    mul-if1-2
-    shared-slice-read-if1
-    returns
-    add-i
-    loop-less
-    loop-again
-    returns-2)
+find-spec = tie.close (tie.spec Inv-loop μ-loop front-other-requires loop-holds mul-if1 mul-if1-2 shared-slice-read-if1 returns add-i loop-less loop-again returns-2)

@@ -32,15 +32,4 @@ returns-4 : tie.Need-returns-4
 returns-4 c = search needs
 
 pub len-after-spec : {M : Type 1} → statement M
-len-after-spec =
-    tie.close
-    (tie.spec
-    enum-told
-    enum-told-2
-    add-result
-    enum-known-a
-    enum-told-3
-    returns
-    returns-2
-    returns-3
-    returns-4)
+len-after-spec = tie.close (tie.spec enum-told enum-told-2 add-result enum-known-a enum-told-3 returns returns-2 returns-3 returns-4)

@@ -53,19 +53,4 @@ returns-3 c =
     (offer-full _ _ _ _ _ _ (toZ-ofZ (c .before .before .before .before .before .before .before .before .before .before .before .fits .v)) _ _ (c .before .before .before .before .before .before .before .before .find .ensures .0 _ (omega arith)) _ _ _ (c .before .before .before .before .before .before .before .if1 .left) (c .before .before .before .before .before .before .if2 .left) (c .before .before .before .displace .ensures))
 
 pub offer-spec : {M : Type 1} → statement M
-offer-spec =
-    tie.close
-    (tie.spec
-    find-requires
-    rescore-requires
-    same-length
-    same-length-2
-    returns
-    seat-requires
-    same-length-3
-    same-length-4
-    returns-2
-    displace-requires
-    same-length-5
-    same-length-6
-    returns-3)
+offer-spec = tie.close (tie.spec find-requires rescore-requires same-length same-length-2 returns seat-requires same-length-3 same-length-4 returns-2 displace-requires same-length-5 same-length-6 returns-3)

@@ -27,6 +27,4 @@ returns : tie.Need-returns
 returns c = rescore-view _ _ _ _ _ _ (toZ-ofZ (c .before .before .before .before .before .before .before .fits .v)) _ (c .before .before .before .update-at .ensures)
 
 pub rescore-spec : {M : Type 1} → statement M
-rescore-spec =
-    tie.close
-    (tie.spec mul-v slice-set-from-v update-at-requires same-length same-length-2 returns)
+rescore-spec = tie.close (tie.spec mul-v slice-set-from-v update-at-requires same-length same-length-2 returns)

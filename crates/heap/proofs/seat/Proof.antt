@@ -22,5 +22,4 @@ returns : tie.Need-returns
 returns c = seat-view _ _ _ _ _ _ (toZ-ofZ (c .before .before .before .before .before .before .before .before .before .before .before .before .before .fits .v)) _ _ (c .before .before .before .before .before .before .before .before .before .put-cand .ensures) (c .before .before .before .bubble-up .ensures)
 
 pub seat-spec : {M : Type 1} → statement M
-seat-spec =
-    tie.close (tie.spec put-cand-requires bubble-up-requires same-length same-length-2 returns)
+seat-spec = tie.close (tie.spec put-cand-requires bubble-up-requires same-length same-length-2 returns)

@@ -83,17 +83,4 @@ returns-4 c =
     )
 
 pub begin-update-spec : {M : Type 1} → statement M
-begin-update-spec =
-    tie.close
-    (tie.spec
-    returns
-    clashes-requires
-    returns-2
-    cast-w
-    sub-if3
-    returns-3
-    add-sum
-    with-weight-requires
-    join-requires
-    with-mode-requires
-    returns-4)
+begin-update-spec = tie.close (tie.spec returns clashes-requires returns-2 cast-w sub-if3 returns-3 add-sum with-weight-requires join-requires with-mode-requires returns-4)

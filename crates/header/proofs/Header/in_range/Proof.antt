@@ -27,5 +27,4 @@ unfolding headerOk
 returns-3 c = let e = c .before .before .before .before .before .before .before .before .refusal .ensures in simp (eq-eqb _ 0 (sym e ∙ c .before .before .before .before .before .before .before .if1 .left), le-leb _ top (c .before .before .before .before .before .if2 .left), c .lens-in-range .ensures)
 
 pub in-range-spec : {M : Type 1} → statement M
-in-range-spec =
-    tie.close (tie.spec refusal-requires returns returns-2 lens-in-range-requires returns-3)
+in-range-spec = tie.close (tie.spec refusal-requires returns returns-2 lens-in-range-requires returns-3)

@@ -49,15 +49,4 @@ returns-8 : tie.Need-returns-8
 returns-8 c = let e = c .before .before .before .check-hash-bits .ensures in rw (rest (c .before .before .before .before), eq-eqb _ 0 (sym e ∙ c .before .before .if6 .left), le-ltb _ _ (c .if7 .left))
 
 pub refusal-spec : {M : Type 1} → statement M
-refusal-spec =
-    tie.close
-    (tie.spec
-    returns
-    returns-2
-    returns-3
-    returns-4
-    returns-5
-    check-hash-bits-requires
-    returns-6
-    returns-7
-    returns-8)
+refusal-spec = tie.close (tie.spec returns returns-2 returns-3 returns-4 returns-5 check-hash-bits-requires returns-6 returns-7 returns-8)

@@ -1,0 +1,245 @@
+/* UnivMon for a relay's own loop: the proved library under plain C names.
+ *
+ * Build:  rt staticlib univmon_c     (writes target/staticlib/libunivmon_c.a)
+ * Link:   cc relay.c -I bindings/c target/staticlib/libunivmon_c.a
+ *
+ * The library needs memcpy and memset and nothing else. It allocates nothing, keeps nothing between
+ * calls and has no global: calls on different states may run at the same time.
+ *
+ * A STATE is a header by value and four arrays that the caller owns. Their lengths are exactly
+ *   counters   layers * rows * cols       signed words, by layer, then row, then column
+ *   norms      2 * layers * rows          words, low half then high half of each row's norm
+ *   entries    4 * layers * heap_size     words: key, bottom hash, high and low half of the layer hash
+ *   counts     layers * heap_size         signed words, the candidates' counts
+ * The macros below give them. Every call tests them and refuses others.
+ *
+ * A RECORD is what a key is counted by, 2 + 2 * layers words: the key, its bottom hash, then for each
+ * layer from 0 the high and the low half of its 128-bit hash. The caller hashes.
+ *
+ * REFUSALS. Every call answers a number, 0 for none. A refused call leaves the header and every array
+ * as they were, its floats are +0.0, and a refused univmon_new gives an all-zero header:
+ *   1  a dimension is 0
+ *   2  layers above 19
+ *   3  hash bits above 128
+ *   4  rows above 20, cols above 4096 or heap_size above 1024
+ *   5  negative weight
+ *   6  mode mixed in an update or a merge, or weight set in terminal mode
+ *   7  weight would pass 2^52
+ *   8  layer, row or column outside the shape
+ *   9  wrong length; header out of range; something that the call reads is out of range;
+ *      a number that stands for no mode, no fidelity or no g
+ *   10 shapes differ in a merge
+ *   11 a counter would leave -2^52 to 2^52
+ *   12 wrong record length
+ * Where several apply, the order is 9 for header, lengths and numbers, then 12, 10, 5, 8, 6, 7, 9 for
+ * what is read, 11; for univmon_new 1, 2, 3, 4, 9.
+ *
+ * WHAT THE CALLER OWES. The proofs speak of every value of every argument, so no header, length,
+ * number or array content needs to be right. C itself asks for this, and the library cannot test it:
+ *   - a pointer is not NULL, not even with length 0, is aligned to 8 bytes, and its length is not more
+ *     than what lies behind it;
+ *   - the arrays that a call writes overlap no other array of that call;
+ *   - each byte of `flags` is a bool, 0 or 1, as it is wherever C code assigns it.
+ */
+#ifndef UNIVMON_H
+#define UNIVMON_H
+
+#include <stdbool.h>
+#include <stddef.h>
+#include <stdint.h>
+
+#ifdef __cplusplus
+extern "C" {
+#endif
+
+#define UNIVMON_MAX_LAYERS 19
+#define UNIVMON_MAX_ROWS 20
+#define UNIVMON_MAX_COLS 4096
+#define UNIVMON_MAX_HEAP_SIZE 1024
+
+/* Lengths of the four arrays and of a record. */
+#define UNIVMON_COUNTERS(rows, cols, layers) ((size_t)(layers) * (rows) * (cols))
+#define UNIVMON_NORMS(rows, layers) ((size_t)2 * (layers) * (rows))
+#define UNIVMON_ENTRIES(heap_size, layers) ((size_t)4 * (layers) * (heap_size))
+#define UNIVMON_COUNTS(heap_size, layers) ((size_t)(layers) * (heap_size))
+#define UNIVMON_RECORD(layers) ((size_t)2 + 2 * (size_t)(layers))
+
+/* Modes: how keys were sent to layers. */
+#define UNIVMON_UNSET 0
+#define UNIVMON_STANDARD 1
+#define UNIVMON_TERMINAL 2
+
+/* Fidelity of a delta: whether every insert was promoted. */
+#define UNIVMON_EVERY_INSERT 0
+#define UNIVMON_PROMOTED_ONLY 1
+
+/* g of a sum. */
+#define UNIVMON_G_ONE 0
+#define UNIVMON_G_VALUE 1
+#define UNIVMON_G_SQUARE 2
+
+/* A state beside its arrays. `weight` is the sum of the accepted weights, `lens` the number of
+ * candidates of each layer, a flag true while its layer's candidates are every key sent to it. */
+typedef struct univmon_header {
+    size_t heap_size;
+    size_t rows;
+    size_t cols;
+    size_t layers;
+    uint64_t weight;
+    uint64_t mode;
+    size_t lens[UNIVMON_MAX_LAYERS];
+    bool flags[UNIVMON_MAX_LAYERS];
+} univmon_header;
+
+/* A refusal and the header as it was, or 0 and the new header: put it in the place of the old one. */
+typedef struct univmon_answered {
+    uint64_t refusal;
+    univmon_header header;
+} univmon_answered;
+
+/* A refusal and layer 0, or 0 and the layer. */
+typedef struct univmon_bottom {
+    uint64_t refusal;
+    size_t layer;
+} univmon_bottom;
+
+/* A refusal and +0.0, or 0 and the answer. */
+typedef struct univmon_answer {
+    uint64_t refusal;
+    double value;
+} univmon_answer;
+
+/* A refusal and +0.0 three times, or 0 and the three answers. */
+typedef struct univmon_panel {
+    uint64_t refusal;
+    double l1;
+    double l2;
+    double cardinality;
+} univmon_panel;
+
+/* ---- shapes */
+
+/* 0 if univmon_new takes these dimensions, else their refusal: 1, 2, 3, 4. */
+uint64_t univmon_check_shape(size_t heap_size, size_t rows, size_t cols, size_t layers);
+
+/* The last layer that a key with this bottom hash reaches: l - 1 for the first l from 1 to layers - 1
+ * whose hash bit l is 0, else layers - 1. Refuses 1 (no layer) and 2 (above 19). */
+univmon_bottom univmon_bottom_layer_for_hash(uint64_t hash, size_t layers);
+
+/* ---- whole states */
+
+/* A fresh state: every array is filled with zeros, every flag of the shape's layers is true, the mode
+ * unset. Refuses 1, 2, 3, 4, 9. */
+univmon_answered univmon_new(
+    size_t heap_size, size_t rows, size_t cols, size_t layers,
+    int64_t *counters, size_t counters_len,
+    uint64_t *norms, size_t norms_len,
+    uint64_t *entries, size_t entries_len,
+    int64_t *counts, size_t counts_len);
+
+/* Nothing counted any more: as univmon_new with the header's shape. Refuses 9. */
+univmon_answered univmon_clear(
+    univmon_header header,
+    int64_t *counters, size_t counters_len,
+    uint64_t *norms, size_t norms_len,
+    uint64_t *entries, size_t entries_len,
+    int64_t *counts, size_t counts_len);
+
+/* ---- counting */
+
+/* Counts a key with a weight: it goes to layers 0 to its bottom layer. Refuses 9, 12, 5, 6, 7, 9, 11. */
+univmon_answered univmon_update_weighted(
+    univmon_header header,
+    int64_t *counters, size_t counters_len,
+    uint64_t *norms, size_t norms_len,
+    uint64_t *entries, size_t entries_len,
+    int64_t *counts, size_t counts_len,
+    const uint64_t *record, size_t record_len,
+    int64_t weight);
+
+/* The same, to its bottom layer only. */
+univmon_answered univmon_update_weighted_terminal(
+    univmon_header header,
+    int64_t *counters, size_t counters_len,
+    uint64_t *norms, size_t norms_len,
+    uint64_t *entries, size_t entries_len,
+    int64_t *counts, size_t counts_len,
+    const uint64_t *record, size_t record_len,
+    int64_t weight);
+
+/* A change of one counter that another relay saw, with the record of the key that made it. Sets an
+ * unset mode to standard and leaves the weight. Refuses 9, 12, 8, 9, 11. */
+univmon_answered univmon_apply_delta(
+    univmon_header header,
+    int64_t *counters, size_t counters_len,
+    uint64_t *norms, size_t norms_len,
+    uint64_t *entries, size_t entries_len,
+    int64_t *counts, size_t counts_len,
+    const uint64_t *record, size_t record_len,
+    size_t layer, size_t row, size_t col, int32_t count,
+    uint64_t fidelity);
+
+/* Puts the other state's stream behind this one's: counters and norms by the sums of the counters,
+ * candidates counted anew. The other state stays as it is. Refuses 9, 10, 6, 7, 9, 11. */
+univmon_answered univmon_merge(
+    univmon_header header,
+    int64_t *counters, size_t counters_len,
+    uint64_t *norms, size_t norms_len,
+    uint64_t *entries, size_t entries_len,
+    int64_t *counts, size_t counts_len,
+    univmon_header other,
+    const int64_t *other_counters, size_t other_counters_len,
+    const uint64_t *other_norms, size_t other_norms_len,
+    const uint64_t *other_entries, size_t other_entries_len,
+    const int64_t *other_counts, size_t other_counts_len);
+
+/* ---- the header alone */
+
+/* Sets the weight that a relay fed by deltas believes it has seen; an unset mode becomes standard.
+ * Refuses 9, 6 in terminal mode, 7. */
+univmon_answered univmon_set_total_weight(univmon_header header, uint64_t weight);
+
+/* Every flag falls. Refuses 9. */
+univmon_answered univmon_mark_candidates_incomplete(univmon_header header);
+
+/* One layer's flag falls. Refuses 9, 8. */
+univmon_answered univmon_mark_layer_candidates_incomplete(univmon_header header, size_t layer);
+
+/* ---- answers */
+
+/* L1: the weight. Refuses 9. */
+univmon_answer univmon_estimate_l1(univmon_header header);
+
+/* L2, from the norms: layer 0's, or in terminal mode the root of the sum over all layers. Refuses 9. */
+univmon_answer univmon_estimate_l2(univmon_header header, const uint64_t *norms, size_t norms_len);
+
+/* The sum of g over the keys. With count_every_key no candidate is left out for its count. Refuses 9. */
+univmon_answer univmon_estimate_g_sum(
+    univmon_header header,
+    const int64_t *counters, size_t counters_len,
+    const uint64_t *norms, size_t norms_len,
+    const uint64_t *entries, size_t entries_len,
+    const int64_t *counts, size_t counts_len,
+    uint64_t g, bool count_every_key);
+
+/* The number of distinct keys: the sum of one with every key counted. Refuses 9. */
+univmon_answer univmon_estimate_cardinality(
+    univmon_header header,
+    const int64_t *counters, size_t counters_len,
+    const uint64_t *norms, size_t norms_len,
+    const uint64_t *entries, size_t entries_len,
+    const int64_t *counts, size_t counts_len);
+
+/* What the panel shows: L1, L2 and cardinality. Refuses 9. */
+univmon_panel univmon_panel_answer(
+    univmon_header header,
+    const int64_t *counters, size_t counters_len,
+    const uint64_t *norms, size_t norms_len,
+    const uint64_t *entries, size_t entries_len,
+    const int64_t *counts, size_t counts_len);
+
+#ifdef __cplusplus
+}
+#endif
+
+#endif

@@ -1,0 +1,98 @@
+/* A relay's loop in C: two branches count their streams, one is marked, the two are merged, and the
+ * panel's numbers are shown. relay.rs is the same in Rust and writes the same lines. */
+#include <inttypes.h>
+#include <stdio.h>
+#include <stdlib.h>
+
+#include "univmon.h"
+
+enum { HEAP = 32, ROWS = 5, COLS = 256, LAYERS = 6 };
+
+/* One branch: a header and its arrays. */
+typedef struct branch {
+    univmon_header header;
+    int64_t counters[UNIVMON_COUNTERS(ROWS, COLS, LAYERS)];
+    uint64_t norms[UNIVMON_NORMS(ROWS, LAYERS)];
+    uint64_t entries[UNIVMON_ENTRIES(HEAP, LAYERS)];
+    int64_t counts[UNIVMON_COUNTS(HEAP, LAYERS)];
+} branch;
+
+#define MUT(b) \
+    (b)->counters, UNIVMON_COUNTERS(ROWS, COLS, LAYERS), (b)->norms, UNIVMON_NORMS(ROWS, LAYERS), \
+        (b)->entries, UNIVMON_ENTRIES(HEAP, LAYERS), (b)->counts, UNIVMON_COUNTS(HEAP, LAYERS)
+
+/* Takes over the header of an accepted call; a refused one ends the program, unless it is expected. */
+static void accept(branch *b, univmon_answered a, const char *what) {
+    if (a.refusal != 0) {
+        fprintf(stderr, "relay: %s refused %" PRIu64 "\n", what, a.refusal);
+        exit(1);
+    }
+    b->header = a.header;
+}
+
+/* Hashing is the relay's own: here a mixer (splitmix64) with a seed for each place of the record. */
+static uint64_t mixed(uint64_t key, uint64_t seed) {
+    uint64_t z = key + (seed + 1) * UINT64_C(0x9E3779B97F4A7C15);
+    z = (z ^ (z >> 30)) * UINT64_C(0xBF58476D1CE4E5B9);
+    z = (z ^ (z >> 27)) * UINT64_C(0x94D049BB133111EB);
+    return z ^ (z >> 31);
+}
+
+static void record_of(uint64_t key, uint64_t record[UNIVMON_RECORD(LAYERS)]) {
+    record[0] = key;
+    for (size_t i = 1; i < UNIVMON_RECORD(LAYERS); i++) {
+        record[i] = mixed(key, i);
+    }
+}
+
+/* A stream of 3000 arrivals, in which small keys come more often. */
+static void count_stream(branch *b, uint64_t seed, uint64_t keys) {
+    for (uint64_t i = 0; i < 3000; i++) {
+        uint64_t r = mixed(i, seed);
+        uint64_t key = (r % keys) * ((r >> 32) % keys) / keys;
+        uint64_t record[UNIVMON_RECORD(LAYERS)];
+        record_of(key, record);
+        accept(b, univmon_update_weighted(b->header, MUT(b), record, UNIVMON_RECORD(LAYERS), 1 + (int64_t)(r >> 60)), "update");
+    }
+}
+
+static void show(const char *name, const branch *b) {
+    univmon_panel p = univmon_panel_answer(b->header, MUT(b));
+    if (p.refusal != 0) {
+        fprintf(stderr, "relay: panel refused %" PRIu64 "\n", p.refusal);
+        exit(1);
+    }
+    printf("%s: l1 %.0f l2 %.6f keys %.0f flags ", name, p.l1, p.l2, p.cardinality);
+    for (size_t l = 0; l < b->header.layers; l++) {
+        putchar(b->header.flags[l] ? '1' : '0');
+    }
+    putchar('\n');
+}
+
+int main(void) {
+    static branch east, west;
+    accept(&east, univmon_new(HEAP, ROWS, COLS, LAYERS, MUT(&east)), "new");
+    accept(&west, univmon_new(HEAP, ROWS, COLS, LAYERS, MUT(&west)), "new");
+
+    count_stream(&east, 100, 60);
+    count_stream(&west, 200, 90);
+    show("east", &east);
+    show("west", &west);
+
+    /* West knows that it lost arrivals of layer 2. */
+    accept(&west, univmon_mark_layer_candidates_incomplete(west.header, 2), "mark");
+
+    /* A refused call changes nothing. */
+    uint64_t record[UNIVMON_RECORD(LAYERS)];
+    record_of(7, record);
+    univmon_answered refused = univmon_update_weighted(east.header, MUT(&east), record, UNIVMON_RECORD(LAYERS), -1);
+    printf("weight -1: refused %" PRIu64 "\n", refused.refusal);
+    show("east", &east);
+
+    accept(&east, univmon_merge(east.header, MUT(&east), west.header, MUT(&west)), "merge");
+    show("both", &east);
+
+    univmon_answer squares = univmon_estimate_g_sum(east.header, MUT(&east), UNIVMON_G_SQUARE, false);
+    printf("sum of squares: %.0f\n", squares.value);
+    return 0;
+}

@@ -1,0 +1,74 @@
+//! A relay's loop in Rust: two branches count their streams, one is marked, the two are merged, and the
+//! panel's numbers are shown. relay.c is the same in C and writes the same lines.
+use univmon::{Owned, Refused, Shape, State, G};
+
+const LAYERS: usize = 6;
+const SHAPE: Shape = Shape { heap_size: 32, rows: 5, cols: 256, layers: LAYERS };
+const RECORD: usize = 2 + 2 * LAYERS;
+
+/// Hashing is the relay's own: here a mixer (splitmix64) with a seed for each place of the record.
+fn mixed(key: u64, seed: u64) -> u64 {
+    let mut z = key.wrapping_add((seed + 1).wrapping_mul(0x9E37_79B9_7F4A_7C15));
+    z = (z ^ (z >> 30)).wrapping_mul(0xBF58_476D_1CE4_E5B9);
+    z = (z ^ (z >> 27)).wrapping_mul(0x94D0_49BB_1331_11EB);
+    z ^ (z >> 31)
+}
+
+fn record_of(key: u64) -> [u64; RECORD] {
+    let mut record = [key; RECORD];
+    for (i, word) in record.iter_mut().enumerate().skip(1) {
+        *word = mixed(key, i as u64);
+    }
+    record
+}
+
+/// A stream of 3000 arrivals, in which small keys come more often.
+fn count_stream(state: &mut State<'_>, seed: u64, keys: u64) -> Result<(), Refused> {
+    for i in 0..3000 {
+        let r = mixed(i, seed);
+        let key = (r % keys) * ((r >> 32) % keys) / keys;
+        state.update_weighted(&record_of(key), 1 + (r >> 60) as i64)?;
+    }
+    Ok(())
+}
+
+fn show(name: &str, state: &State<'_>) -> Result<(), Refused> {
+    let p = state.panel_answer()?;
+    let flags: String = state.header().flags[..LAYERS]
+        .iter()
+        .map(|&flag| if flag { '1' } else { '0' })
+        .collect();
+    println!("{name}: l1 {:.0} l2 {:.6} keys {:.0} flags {flags}", p.l1, p.l2, p.cardinality);
+    Ok(())
+}
+
+fn relay() -> Result<(), Refused> {
+    let mut east = Owned::new(SHAPE)?;
+    let mut west = Owned::new(SHAPE)?;
+    east.with(|s| count_stream(s, 100, 60))?;
+    west.with(|s| count_stream(s, 200, 90))?;
+    east.with(|s| show("east", s))?;
+    west.with(|s| show("west", s))?;
+
+    // West knows that it lost arrivals of layer 2.
+    west.with(|s| s.mark_layer_candidates_incomplete(2))?;
+
+    // A refused call changes nothing.
+    if let Err(Refused(n)) = east.with(|s| s.update_weighted(&record_of(7), -1)) {
+        println!("weight -1: refused {n}");
+    }
+    east.with(|s| show("east", s))?;
+
+    east.merge(&mut west)?;
+    east.with(|s| show("both", s))?;
+    let squares = east.with(|s| s.estimate_g_sum(G::Square, false))?;
+    println!("sum of squares: {squares:.0}");
+    Ok(())
+}
+
+fn main() {
+    if let Err(Refused(n)) = relay() {
+        eprintln!("relay: refused {n}");
+        std::process::exit(1);
+    }
+}

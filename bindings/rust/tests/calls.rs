@@ -1,0 +1,117 @@
+//! The figures of the papers through the wrapper, in lent slices.
+use univmon::{bottom_layer_for_hash, Fidelity, Header, Mode, Refused, Shape, State, G};
+
+const SHAPE: Shape = Shape { heap_size: 2, rows: 2, cols: 4, layers: 2 };
+
+/// The record of the papers' example: columns 2 and 1, signs + and -.
+fn record(key: u64, bottom: u64) -> [u64; 6] {
+    [key, bottom, 0x8000_0000_0000_0000, 6, 0, 0]
+}
+
+/// Runs calls on a fresh state in slices of the stack.
+fn with<R>(calls: impl FnOnce(&mut State<'_>) -> R) -> R {
+    let (mut counters, mut norms) = ([9i64; 16], [9u64; 8]);
+    let (mut entries, mut counts) = ([9u64; 16], [9i64; 4]);
+    let mut state = State::new(SHAPE, &mut counters, &mut norms, &mut entries, &mut counts).unwrap();
+    calls(&mut state)
+}
+
+#[test]
+fn layout_is_the_headers() {
+    assert_eq!(std::mem::size_of::<Header>(), 6 * 8 + 19 * 8 + 24);
+    assert_eq!(std::mem::offset_of!(Header, lens), 48);
+    assert_eq!(std::mem::offset_of!(Header, flags), 200);
+}
+
+#[test]
+fn bottom_layers() {
+    assert_eq!(bottom_layer_for_hash(6, 1), Ok(0));
+    assert_eq!(bottom_layer_for_hash(0, 3), Ok(0));
+    assert_eq!(bottom_layer_for_hash(2, 3), Ok(1));
+    assert_eq!(bottom_layer_for_hash(6, 3), Ok(2));
+    assert_eq!(bottom_layer_for_hash(6, 0), Err(Refused(1)));
+    assert_eq!(bottom_layer_for_hash(6, 20), Err(Refused(2)));
+}
+
+#[test]
+fn shapes() {
+    let shape = |heap_size, rows, cols, layers| Shape { heap_size, rows, cols, layers };
+    assert!(shape(2, 20, 32, 2).lengths().is_ok());
+    assert_eq!(shape(2, 2, 0, 2).lengths(), Err(Refused(1)));
+    assert_eq!(shape(2, 2, 4, 20).lengths(), Err(Refused(2)));
+    assert_eq!(shape(2, 20, 33, 2).lengths(), Err(Refused(3)));
+    assert_eq!(shape(2, 21, 1, 2).lengths(), Err(Refused(4)));
+    let far = usize::MAX;
+    assert!(shape(far, far, far, far).lengths().is_err());
+}
+
+#[test]
+fn one_update() {
+    with(|s| {
+        s.update_weighted(&record(7, 0), 5).unwrap();
+        assert_eq!(s.counters()[..8], [0, 0, 5, 0, 0, -5, 0, 0]);
+        assert_eq!(s.norms()[..4], [25, 0, 25, 0]);
+        assert_eq!((s.entries()[0], s.counts()[0]), (7, 5));
+        assert_eq!(s.header().mode(), Some(Mode::Standard));
+        let p = s.panel_answer().unwrap();
+        assert_eq!((p.l1, p.l2, p.cardinality), (5.0, 5.0, 1.0));
+    });
+}
+
+#[test]
+fn a_third_key_clears_the_flag() {
+    with(|s| {
+        s.update_weighted(&record(1, 0), 1).unwrap();
+        s.update_weighted(&record(2, 2), 1).unwrap();
+        assert_eq!(s.estimate_cardinality(), Ok(2.0));
+        assert!(s.header().flags[0]);
+        s.update_weighted(&record(3, 0), 1).unwrap();
+        assert!(!s.header().flags[0] && s.header().flags[1]);
+    });
+}
+
+#[test]
+fn refusals() {
+    with(|s| {
+        assert_eq!(s.update_weighted(&record(7, 0), -1), Err(Refused(5)));
+        assert_eq!(s.update_weighted(&record(7, 0)[..5], 1), Err(Refused(12)));
+        s.update_weighted(&record(7, 0), 1 << 52).unwrap();
+        assert_eq!(s.update_weighted_terminal(&record(7, 0), 1), Err(Refused(6)));
+        assert_eq!(s.update_weighted(&record(7, 0), 1), Err(Refused(7)));
+        let delta = |s: &mut State<'_>, col, count| s.apply_delta(&record(7, 0), 0, 0, col, count, Fidelity::EveryInsert);
+        assert_eq!(delta(s, 4, 1), Err(Refused(8)));
+        assert_eq!(delta(s, 2, 1), Err(Refused(11)));
+        assert_eq!(delta(s, 2, -1), Ok(()));
+        assert_eq!(s.mark_layer_candidates_incomplete(2), Err(Refused(8)));
+        assert_eq!(s.set_total_weight((1 << 52) + 1), Err(Refused(7)));
+    });
+}
+
+#[test]
+fn lent_again() {
+    let (mut counters, mut norms) = ([0i64; 16], [0u64; 8]);
+    let (mut entries, mut counts) = ([0u64; 16], [0i64; 4]);
+    let mut state = State::new(SHAPE, &mut counters, &mut norms, &mut entries, &mut counts).unwrap();
+    state.update_weighted(&record(7, 0), 5).unwrap();
+    let header = state.into_header();
+    assert!(State::lend(header, &mut counters[..15], &mut norms, &mut entries, &mut counts).is_err());
+    let state = State::lend(header, &mut counters, &mut norms, &mut entries, &mut counts).unwrap();
+    assert_eq!(state.estimate_g_sum(G::Square, true), Ok(25.0));
+    let odd = Header { mode: 3, ..header };
+    let state = State::lend(odd, &mut counters, &mut norms, &mut entries, &mut counts).unwrap();
+    assert_eq!(state.estimate_l1(), Err(Refused(9)));
+}
+
+#[test]
+fn merges() {
+    with(|one| {
+        one.update_weighted(&record(1, 0), 2).unwrap();
+        with(|two| {
+            two.update_weighted(&record(2, 0), 3).unwrap();
+            one.merge(two).unwrap();
+            assert_eq!(one.estimate_l1(), Ok(5.0));
+            assert_eq!(two.estimate_l1(), Ok(3.0));
+        });
+        assert_eq!(one.header().lens[0], 2);
+    });
+}

@@ -1,0 +1,89 @@
+-- A call as C makes it is the library's own on the header that C's stands for.
+use Prim.Native.Nat.{ℕ, zero, suc, _≤_, _<_}
+use mathlib.Core.Path.{_≡_, refl, sym, ap, _∙_}
+use mathlib.Core.Bool.{Bool, true, false, cond, _&&_}
+use lib.Dec.{leb}
+use native.Mathlib.Omega.{arith}
+use borrow.Author.Tests.{le-leb, lt-leb}
+use Rattle.header.specs.declared.Header.{Header}
+use Rattle.header.specs.declared.Answered.{Answered}
+use Rattle.univmon.specs.Slices.{Lent}
+use Rattle.univmon.specs.Calls.{Outcome, left, leftBy}
+use Rattle.estimates.specs.declared.Answer.{Answer}
+use Rattle.estimates.specs.declared.PanelAnswer.{PanelAnswer}
+use Rattle.estimates.specs.Calls.{refusedBy, noPanel}
+use Rattle.univmon_c.specs.declared.CHeader.{CHeader}
+use Rattle.univmon_c.specs.Crossing.{isMode, modeOf, modeNumber, headerOf, cHeader, cAnswered, cAnswer, cPanel}
+use Rattle.univmon_c.specs.Calls.{CLent, lentOf, ofLent, cLeft, crossed, changeBy, mergeBy, headBy, answerBy, panelBy}
+
+-- ---- calls that change a state
+
+pub change-no-mode : (ok : Bool) (f : Lent → Outcome) (r : CLent) → 2 < r .head .mode → cLeft 9 r ≡ changeBy ok f r
+unfolding changeBy
+change-no-mode ok f r h = simp (lt-leb _ _ h)
+
+pub change-no-choice : (ok : Bool) (f : Lent → Outcome) (r : CLent) → r .head .mode ≤ 2 → ok ≡ false → cLeft 9 r ≡ changeBy ok f r
+unfolding changeBy
+change-no-choice ok f r h k = simp (le-leb _ _ h, k)
+
+pub changed : (ok : Bool) (f : Lent → Outcome) (r : CLent) → r .head .mode ≤ 2 → ok ≡ true → (n : ℕ) (t : Lent)
+    → left n t ≡ leftBy (lentOf r) (f (lentOf r)) → cLeft n (ofLent t) ≡ changeBy ok f r
+unfolding changeBy
+changed ok f r h k n t e = ap crossed e ∙ simp (le-leb _ _ h, k)
+
+pub merge-no-mode : (f : Lent → Lent → Outcome) (r t : CLent) → 2 < r .head .mode → cLeft 9 r ≡ mergeBy f r t
+unfolding mergeBy
+merge-no-mode f r t h = simp (lt-leb _ _ h)
+
+pub merge-no-other : (f : Lent → Lent → Outcome) (r t : CLent) → r .head .mode ≤ 2 → 2 < t .head .mode → cLeft 9 r ≡ mergeBy f r t
+unfolding mergeBy
+merge-no-other f r t h k = simp (le-leb _ _ h, lt-leb _ _ k)
+
+pub merged : (f : Lent → Lent → Outcome) (r t : CLent) → r .head .mode ≤ 2 → t .head .mode ≤ 2 → (n : ℕ) (s : Lent)
+    → left n s ≡ leftBy (lentOf r) (f (lentOf r) (lentOf t)) → cLeft n (ofLent s) ≡ mergeBy f r t
+unfolding mergeBy
+merged f r t h k n s e = ap crossed e ∙ simp (le-leb _ _ h, le-leb _ _ k)
+
+-- ---- calls on the header alone
+
+pub head-no-mode : (f : Header → Answered) (h : CHeader) → 2 < h .mode → record { refusal = 9; header = h } ≡ headBy f h
+unfolding headBy
+head-no-mode f h k = simp (lt-leb _ _ k)
+
+pub headed : (f : Header → Answered) (h : CHeader) → h .mode ≤ 2 → (a : Answered) → a ≡ f (headerOf h) → cAnswered a ≡ headBy f h
+unfolding headBy
+headed f h k a e = ap cAnswered e ∙ simp (le-leb _ _ k)
+
+-- ---- calls that answer
+
+pub answer-no-mode : (ok : Bool) (h : CHeader) (a : Answer) → 2 < h .mode → cAnswer (refusedBy 9) ≡ answerBy ok h a
+unfolding answerBy
+answer-no-mode ok h a k = simp (lt-leb _ _ k)
+
+pub answer-no-choice : (ok : Bool) (h : CHeader) (a : Answer) → h .mode ≤ 2 → ok ≡ false → cAnswer (refusedBy 9) ≡ answerBy ok h a
+unfolding answerBy
+answer-no-choice ok h a k e = simp (le-leb _ _ k, e)
+
+pub answers : (ok : Bool) (h : CHeader) (a b : Answer) → h .mode ≤ 2 → ok ≡ true → b ≡ a → cAnswer b ≡ answerBy ok h a
+unfolding answerBy
+answers ok h a b k e q = ap cAnswer q ∙ simp (le-leb _ _ k, e)
+
+pub panel-no-mode : (h : CHeader) (a : PanelAnswer) → 2 < h .mode → cPanel (noPanel 9) ≡ panelBy h a
+unfolding panelBy
+panel-no-mode h a k = simp (lt-leb _ _ k)
+
+pub panelled : (h : CHeader) (a b : PanelAnswer) → h .mode ≤ 2 → b ≡ a → cPanel b ≡ panelBy h a
+unfolding panelBy
+panelled h a b k q = ap cPanel q ∙ simp (le-leb _ _ k)
+
+-- ---- a refused call gives the header back as it came
+
+number-back : (n : ℕ) → n ≤ 2 → modeNumber (modeOf n) ≡ n
+unfolding modeOf
+number-back zero h = refl
+number-back (suc zero) h = refl
+number-back (suc (suc zero)) h = refl
+number-back (suc (suc (suc n))) h = absurd (omega arith)
+
+pub header-back : (h : CHeader) → h .mode ≤ 2 → cHeader (headerOf h) ≡ h
+header-back h k = rw (number-back (h .mode) k)

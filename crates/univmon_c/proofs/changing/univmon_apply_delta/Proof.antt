@@ -1,0 +1,62 @@
+-- `univmon_c::changing::univmon_apply_delta` meets its contract.
+-- Written by tools/places.py from answers.txt; assumes nothing.
+use native.Mathlib.Omega.{arith}
+use borrow.Author.Needs.{needs}
+use borrow.Author.Tests.{le-leb, lt-leb}
+use denote.Ref.{now}
+use mir.Facts.{toZ-ofZ}
+use Rattle.univmon.specs.Slices.{Lent}
+use Rattle.univmon.specs.Arriving.{arrival}
+use Rattle.univmon.specs.Calls.{Outcome, left, deltaCall}
+use Rattle.univmon_c.specs.Crossing.{fidelityOf, isFidelity}
+use Rattle.univmon_c.specs.Calls.{CLent, cLent}
+use Rattle.univmon_c.proofs.Turning.{change-no-mode, change-no-choice, changed}
+use Rattle.univmon_c.proofs.changing.univmon_apply_delta.Statement.{statement}
+use Rattle.univmon_c.proofs.changing.univmon_apply_delta.Tie as tie
+
+-- what C lends
+abbrev here : tie.Start → CLent
+here c = cLent (c .args .header) (now (c .args .counters)) (now (c .args .norms)) (now (c .args .entries)) (now (c .args .counts))
+
+-- the call on the state that it stands for
+abbrev call : tie.Start → Lent → Outcome
+call c s = deltaCall s (now (c .args .words)) (arrival (c .args .layer) (c .args .row) (c .args .col) (c .args .count) (fidelityOf (c .args .fidelity)))
+
+returns : tie.Need-returns
+returns c = change-no-mode (isFidelity (c .before .before .before .before .before .args .fidelity)) (call (c .before .before .before .before .before)) (here (c .before .before .before .before .before)) (omega (arith, c .if1 .taken))
+
+returns-2 : tie.Need-returns-2
+returns-2 c = change-no-choice (isFidelity (c .before .before .before .before .before .before .args .fidelity)) (call (c .before .before .before .before .before .before)) (here (c .before .before .before .before .before .before)) (omega (arith, c .before .if1 .left)) (lt-leb _ _ (c .if2 .taken))
+
+header-of-requires : tie.Need-header-of-requires
+header-of-requires c κs = search needs
+
+fidelity-of-requires : tie.Need-fidelity-of-requires
+fidelity-of-requires c κs = search needs
+
+apply-delta-requires : tie.Need-apply-delta-requires
+apply-delta-requires c κs = search needs
+
+c-answered-requires : tie.Need-c-answered-requires
+c-answered-requires c κs = search needs
+
+same-length : tie.Need-same-length
+same-length c = search needs
+
+same-length-2 : tie.Need-same-length-2
+same-length-2 c = search needs
+
+same-length-3 : tie.Need-same-length-3
+same-length-3 c = search needs
+
+same-length-4 : tie.Need-same-length-4
+same-length-4 c = search needs
+
+returns-3 : tie.Need-returns-3
+returns-3 c =
+    rw (c .c-answered .ensures)
+    (changed (isFidelity (c .before .before .before .before .before .before .before .before .before .before .before .before .before .before .before .before .before .before .before .before .args .fidelity)) (call (c .before .before .before .before .before .before .before .before .before .before .before .before .before .before .before .before .before .before .before .before)) (here (c .before .before .before .before .before .before .before .before .before .before .before .before .before .before .before .before .before .before .before .before)) (omega (arith, c .before .before .before .before .before .before .before .before .before .before .before .before .before .before .before .if1 .left)) (le-leb _ _ (c .before .before .before .before .before .before .before .before .before .before .before .before .before .before .if2 .left)) _ _
+    (rw (c .before .before .before .before .before .before .before .before .before .before .before .before .before .header-of .ensures, c .before .before .before .before .before .before .before .before .before .before .before .before .fidelity-of .ensures, toZ-ofZ (c .before .before .before .before .before .before .before .before .before .before .before .before .before .before .before .before .before .before .before .before .fits .count)) at (c .before .before .before .before .before .before .before .apply-delta .ensures)))
+
+pub univmon-apply-delta-spec : {M : Type 1} → statement M
+univmon-apply-delta-spec = tie.close (tie.spec returns returns-2 header-of-requires fidelity-of-requires apply-delta-requires c-answered-requires same-length same-length-2 same-length-3 same-length-4 returns-3)

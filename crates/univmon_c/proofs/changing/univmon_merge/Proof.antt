@@ -1,0 +1,57 @@
+-- `univmon_c::changing::univmon_merge` meets its contract.
+-- Written by tools/places.py from answers.txt; assumes nothing.
+use native.Mathlib.Omega.{arith}
+use borrow.Author.Needs.{needs}
+use denote.Ref.{now}
+use Rattle.univmon.specs.Calls.{left, mergeCall}
+use Rattle.univmon_c.specs.Calls.{CLent, cLent}
+use Rattle.univmon_c.proofs.Turning.{merge-no-mode, merge-no-other, merged}
+use Rattle.univmon_c.proofs.changing.univmon_merge.Statement.{statement}
+use Rattle.univmon_c.proofs.changing.univmon_merge.Tie as tie
+
+-- what C lends
+abbrev here : tie.Start → CLent
+here c = cLent (c .args .header) (now (c .args .counters)) (now (c .args .norms)) (now (c .args .entries)) (now (c .args .counts))
+
+-- the other state that C lends
+abbrev there : tie.Start → CLent
+there c = cLent (c .args .other) (now (c .args .other-counters)) (now (c .args .other-norms)) (now (c .args .other-entries)) (now (c .args .other-counts))
+
+returns : tie.Need-returns
+returns c = merge-no-mode mergeCall (here (c .before .before .before .before .before .before)) (there (c .before .before .before .before .before .before)) (omega (arith, c .if1 .taken))
+
+returns-2 : tie.Need-returns-2
+returns-2 c = merge-no-other mergeCall (here (c .before .before .before .before .before .before .before .before)) (there (c .before .before .before .before .before .before .before .before)) (omega (arith, c .before .before .if1 .left)) (c .if2 .taken)
+
+header-of-requires : tie.Need-header-of-requires
+header-of-requires c κs = search needs
+
+header-of-requires-2 : tie.Need-header-of-requires-2
+header-of-requires-2 c κs = search needs
+
+merge-requires : tie.Need-merge-requires
+merge-requires c κs = search needs
+
+c-answered-requires : tie.Need-c-answered-requires
+c-answered-requires c κs = search needs
+
+same-length : tie.Need-same-length
+same-length c = search needs
+
+same-length-2 : tie.Need-same-length-2
+same-length-2 c = search needs
+
+same-length-3 : tie.Need-same-length-3
+same-length-3 c = search needs
+
+same-length-4 : tie.Need-same-length-4
+same-length-4 c = search needs
+
+returns-3 : tie.Need-returns-3
+returns-3 c =
+    rw (c .c-answered .ensures)
+    (merged mergeCall (here (c .before .before .before .before .before .before .before .before .before .before .before .before .before .before .before .before .before .before .before .before .before .before)) (there (c .before .before .before .before .before .before .before .before .before .before .before .before .before .before .before .before .before .before .before .before .before .before)) (omega (arith, c .before .before .before .before .before .before .before .before .before .before .before .before .before .before .before .before .if1 .left)) (c .before .before .before .before .before .before .before .before .before .before .before .before .before .before .if2 .left) _ _
+    (rw (c .before .before .before .before .before .before .before .before .before .before .before .before .before .header-of .ensures, c .before .before .before .before .before .before .before .before .before .before .before .before .header-of2 .ensures) at (c .before .before .before .before .before .before .before .merge .ensures)))
+
+pub univmon-merge-spec : {M : Type 1} → statement M
+univmon-merge-spec = tie.close (tie.spec returns returns-2 header-of-requires header-of-requires-2 merge-requires c-answered-requires same-length same-length-2 same-length-3 same-length-4 returns-3)

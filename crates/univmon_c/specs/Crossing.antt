@@ -1,0 +1,88 @@
+-- Between C's shapes and the library's: "When an answer is an enum, a definition specifies this paper's number and values for each of its cases."
+use Prim.Native.Nat.{ℕ}
+use mathlib.Core.Bool.{Bool, cond}
+use lib.Dec.{eqb, leb}
+use Rattle.header.specs.declared.Mode.{Mode}
+use Rattle.header.specs.declared.Mode.the-variants as mode
+use Rattle.header.specs.declared.Header.{Header}
+use Rattle.header.specs.declared.Answered.{Answered}
+use Rattle.header.specs.declared.BottomLayer.{BottomLayer}
+use Rattle.header.specs.declared.BottomLayer.the-variants as bottom
+use Rattle.univmon.specs.declared.Fidelity.{Fidelity}
+use Rattle.univmon.specs.declared.Fidelity.the-variants as fidelity
+use Rattle.sums.specs.declared.G.{G}
+use Rattle.sums.specs.declared.G.the-variants as g
+use Rattle.estimates.specs.declared.Answer.{Answer}
+use Rattle.estimates.specs.declared.PanelAnswer.{PanelAnswer}
+use Rattle.univmon_c.specs.declared.CHeader.{CHeader}
+use Rattle.univmon_c.specs.declared.CAnswered.{CAnswered}
+use Rattle.univmon_c.specs.declared.CBottom.{CBottom}
+use Rattle.univmon_c.specs.declared.CAnswer.{CAnswer}
+use Rattle.univmon_c.specs.declared.CPanel.{CPanel}
+
+-- ---- numbers for enums; a number that stands for nothing is refused with 9, "header out of range"
+
+abbrev pub isMode : ℕ → Bool
+isMode n = leb n 2
+
+unfoldable pub modeOf : ℕ → Mode
+modeOf n = cond (eqb n 1) mode.Standard (cond (eqb n 2) mode.Terminal mode.Unset)
+
+abbrev pub modeNumber : Mode → ℕ
+modeNumber mode.Unset = 0
+modeNumber mode.Standard = 1
+modeNumber mode.Terminal = 2
+
+-- "Closures `g` become a choice of one, value or square."
+abbrev pub isG : ℕ → Bool
+isG n = leb n 2
+
+unfoldable pub gOf : ℕ → G
+gOf n = cond (eqb n 1) g.Value (cond (eqb n 2) g.Square g.One)
+
+-- 0 every insert, 1 promoted only
+abbrev pub isFidelity : ℕ → Bool
+isFidelity n = leb n 1
+
+unfoldable pub fidelityOf : ℕ → Fidelity
+fidelityOf n = cond (eqb n 1) fidelity.PromotedOnly fidelity.EveryInsert
+
+-- ---- headers
+
+abbrev pub headerOf : CHeader → Header
+headerOf h =
+    record {
+      shape = record { «heap_size» = h .«heap_size»; rows = h .rows; cols = h .cols; layers = h .layers };
+      weight = h .weight;
+      mode = modeOf (h .mode);
+      flags = h .flags;
+      lens = h .lens;
+    }
+
+abbrev pub cHeader : Header → CHeader
+cHeader h =
+    record {
+      «heap_size» = h .shape .«heap_size»;
+      rows = h .shape .rows;
+      cols = h .shape .cols;
+      layers = h .shape .layers;
+      weight = h .weight;
+      mode = modeNumber (h .mode);
+      lens = h .lens;
+      flags = h .flags;
+    }
+
+-- ---- answers
+
+abbrev pub cAnswered : Answered → CAnswered
+cAnswered a = record { refusal = a .refusal; header = cHeader (a .header) }
+
+abbrev pub cBottom : BottomLayer → CBottom
+cBottom (bottom.At l) = record { refusal = 0; layer = l }
+cBottom (bottom.Refused n) = record { refusal = n; layer = 0 }
+
+abbrev pub cAnswer : Answer → CAnswer
+cAnswer a = record { refusal = a .refusal; value = a .value }
+
+abbrev pub cPanel : PanelAnswer → CPanel
+cPanel a = record { refusal = a .refusal; l1 = a .l1; l2 = a .l2; cardinality = a .cardinality }

@@ -1,0 +1,180 @@
+// Between C's shapes and the library's: numbers for enums, one flat struct for a header.
+use crate::CAnswer;
+use crate::CAnswered;
+use crate::CBottom;
+use crate::CHeader;
+use crate::CPanel;
+use estimates::Answer;
+use estimates::PanelAnswer;
+use header::Answered;
+use header::BottomLayer;
+use header::Header;
+use header::Mode;
+use header::Shape;
+use sums::G;
+use univmon::Fidelity;
+ghost use mathlib.Core.Path.{_≡_};
+ghost use mathlib.Core.Bool.{Bool};
+ghost use Prim.Native.Nat.{ℕ};
+ghost use Rattle.estimates.specs.Calls.{refusedBy, noPanel};
+ghost use Rattle.univmon_c.specs.Crossing.{
+  modeOf,
+  modeNumber,
+  gOf,
+  fidelityOf,
+  headerOf,
+  cHeader,
+  cAnswered,
+  cBottom,
+  cAnswer,
+  cPanel,
+};
+
+// ---- numbers for enums
+
+fn mode_of(n: u64) -> Mode
+    ensures { λ r. ⌜ r ≡ modeOf n ⌝ }
+{
+    if n == 1 {
+        return Mode::Standard;
+    }
+    if n == 2 {
+        return Mode::Terminal;
+    }
+    Mode::Unset
+}
+
+fn mode_number(mode: Mode) -> u64
+    ensures { λ r. ⌜ r ≡ modeNumber mode ⌝ }
+{
+    match mode {
+        Mode::Unset => 0,
+        Mode::Standard => 1,
+        Mode::Terminal => 2,
+    }
+}
+
+pub fn g_of(n: u64) -> G
+    ensures { λ r. ⌜ r ≡ gOf n ⌝ }
+{
+    if n == 1 {
+        return G::Value;
+    }
+    if n == 2 {
+        return G::Square;
+    }
+    G::One
+}
+
+pub fn fidelity_of(n: u64) -> Fidelity
+    ensures { λ r. ⌜ r ≡ fidelityOf n ⌝ }
+{
+    if n == 1 {
+        return Fidelity::PromotedOnly;
+    }
+    Fidelity::EveryInsert
+}
+
+// ---- headers
+
+pub fn header_of(h: CHeader) -> Header
+    ensures { λ r. ⌜ r ≡ headerOf h ⌝ }
+{
+    let shape = Shape {
+        heap_size: h.heap_size,
+        rows: h.rows,
+        cols: h.cols,
+        layers: h.layers,
+    };
+    let mode = mode_of(h.mode);
+    let flags = h.flags;
+    let lens = h.lens;
+    Header {
+        shape,
+        weight: h.weight,
+        mode,
+        flags,
+        lens,
+    }
+}
+
+fn c_header(h: Header) -> CHeader
+    ensures { λ r. ⌜ r ≡ cHeader h ⌝ }
+{
+    let had = h.mode;
+    let mode = mode_number(had);
+    let lens = h.lens;
+    let flags = h.flags;
+    CHeader {
+        heap_size: h.shape.heap_size,
+        rows: h.shape.rows,
+        cols: h.shape.cols,
+        layers: h.shape.layers,
+        weight: h.weight,
+        mode,
+        lens,
+        flags,
+    }
+}
+
+// ---- answers
+
+pub fn c_answered(a: Answered) -> CAnswered
+    ensures { λ r. ⌜ r ≡ cAnswered a ⌝ }
+{
+    let had = a.header;
+    CAnswered {
+        refusal: a.refusal,
+        header: c_header(had),
+    }
+}
+
+pub fn c_bottom(b: BottomLayer) -> CBottom
+    ensures { λ r. ⌜ r ≡ cBottom b ⌝ }
+{
+    match b {
+        BottomLayer::At(layer) => CBottom { refusal: 0, layer },
+        BottomLayer::Refused(refusal) => CBottom { refusal, layer: 0 },
+    }
+}
+
+pub fn c_answer(a: Answer) -> CAnswer
+    ensures { λ r. ⌜ r ≡ cAnswer a ⌝ }
+{
+    CAnswer {
+        refusal: a.refusal,
+        value: a.value,
+    }
+}
+
+pub fn c_panel(a: PanelAnswer) -> CPanel
+    ensures { λ r. ⌜ r ≡ cPanel a ⌝ }
+{
+    CPanel {
+        refusal: a.refusal,
+        l1: a.l1,
+        l2: a.l2,
+        cardinality: a.cardinality,
+    }
+}
+
+// What is answered where a number stands for nothing: 9.
+pub fn no_answer() -> CAnswer
+    ensures { λ r. ⌜ r ≡ cAnswer (refusedBy 9) ⌝ }
+{
+    CAnswer {
+        refusal: 9,
+        value: 0.0,
+    }
+}
+
+pub fn no_panel() -> CPanel
+    ensures { λ r. ⌜ r ≡ cPanel (noPanel 9) ⌝ }
+{
+    CPanel {
+        refusal: 9,
+        l1: 0.0,
+        l2: 0.0,
+        cardinality: 0.0,
+    }
+}

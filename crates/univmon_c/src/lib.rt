@@ -1,0 +1,48 @@
+// UnivMon for programs in C and Rust: the public calls under plain names with the prefix `univmon_`.
+// A header crosses by value with its mode as a number, a slice as a pointer and a length.
+pub mod answering;
+pub mod changing;
+mod crossing;
+
+// A header as C has it: mode 0 is unset, 1 standard, 2 terminal; another number is refused with 9.
+#[repr(C)]
+pub struct CHeader {
+    pub heap_size: usize,
+    pub rows: usize,
+    pub cols: usize,
+    pub layers: usize,
+    pub weight: u64,
+    pub mode: u64,
+    pub lens: [usize; 19],
+    pub flags: [bool; 19],
+}
+
+// What a call that changes a state answers: a refusal and the header as it was, or 0 and the new one.
+#[repr(C)]
+pub struct CAnswered {
+    pub refusal: u64,
+    pub header: CHeader,
+}
+
+// A refusal and layer 0, or 0 and the last layer that a key reaches.
+#[repr(C)]
+pub struct CBottom {
+    pub refusal: u64,
+    pub layer: usize,
+}
+
+// A refusal and +0.0, or 0 and the answer.
+#[repr(C)]
+pub struct CAnswer {
+    pub refusal: u64,
+    pub value: f64,
+}
+
+// A refusal and +0.0 three times, or 0 and the three answers.
+#[repr(C)]
+pub struct CPanel {
+    pub refusal: u64,
+    pub l1: f64,
+    pub l2: f64,
+    pub cardinality: f64,
+}
