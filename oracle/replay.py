@@ -289,6 +289,10 @@ update(1, B, 0)
 assert answer(1)[2] == (0, 2.0)
 fresh(1, 1, 20, 32, 1)
 update(1, A, 1)
+fresh(1, 2, 2, 1, 1)  # "Estimates −1 and 0: count 0."
+delta(1, 0, 0, 0, -cell(shelf[1].hash(RECORDS[5], 0), 0, 1)[1], 5)
+assert shelf[1].lens[0] == 1 and shelf[1].counts[0] == 0
+answer(1)
 
 # ---- 1 to 19 layers, standard and terminal
 
