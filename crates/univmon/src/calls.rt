@@ -1,5 +1,6 @@
 // The two updates, as they are called from outside: everything is judged before anything is
 // written, so a refused call leaves all as it was.
+use crate::Fixed;
 use crate::Kind;
 use crate::judge::judge_layers;
 use crate::sizes::lengths_match;
@@ -59,8 +60,19 @@ fn update_sound(
     let first = first_sent(kind, bottom);
     let many = bottom + 1 - first;
     let w = words::magnitude(weight);
+    let shape = header.shape;
+    let mut flags = header.flags;
+    let mut lens = header.lens;
+    let mode_had = header.mode;
+    let had = Fixed {
+        shape,
+        weight: header.weight,
+        mode: mode_had,
+    };
     let refusal = judge_layers(
-        header,
+        had,
+        &flags,
+        &lens,
         counters,
         norms,
         entries,
@@ -73,9 +85,18 @@ fn update_sound(
     if refusal != 0 {
         return Answered { refusal, header };
     }
-    let start = begun.header;
-    let sent = send(
+    let started = begun.header;
+    let weight_now = started.weight;
+    let mode_now = started.mode;
+    let start = Fixed {
+        shape,
+        weight: weight_now,
+        mode: mode_now,
+    };
+    send(
         start,
+        &mut flags,
+        &mut lens,
         counters,
         norms,
         entries,
@@ -87,7 +108,13 @@ fn update_sound(
     );
     Answered {
         refusal: 0,
-        header: sent,
+        header: Header {
+            shape,
+            weight: weight_now,
+            mode: mode_now,
+            flags,
+            lens,
+        },
     }
 }
 

@@ -1,19 +1,21 @@
 // What an update reads of the layers that it touches, and whether it fits: nothing is written here.
 // The state is lent whole, so that a contract can name it; no entry is read.
+use crate::Fixed;
 use crate::sizes::dims;
 use crate::sizes::span_of;
 use crate::update::who_in;
-use header::Header;
 ghost use mathlib.Core.Path.{_≡_};
 ghost use mathlib.Core.Bool.{Bool, true, _&&_};
 ghost use Prim.Native.Nat.{ℕ, _+_, _*_, _≤_, _<_};
 ghost use Rattle.univmon.specs.State.{layerAt, allLayers};
-ghost use Rattle.univmon.specs.Slices.{lent, view};
+ghost use Rattle.univmon.specs.Slices.{lent, view, headOf};
 ghost use Rattle.univmon.specs.Needs.{Standing, JudgeReady, readsAt, readyAt, judgedAt};
 
 // Whether one layer is ready for the update.
 fn ready_at(
-    h: Header,
+    h: Fixed,
+    flags: &[bool; 19],
+    lens: &[usize; 19],
     counters: &[i64],
     norms: &[u64],
     entries: &[u64],
@@ -22,14 +24,13 @@ fn ready_at(
     weight: u64,
     l: usize,
 ) -> bool
-    requires { ⌜ JudgeReady (lent h (now counters) (now norms) (now entries) (now counts)) (now words) weight 1 l ⌝ }
-    ensures { λ r. ⌜ r ≡ readyAt (h .shape) (now (words .entry)) weight l (layerAt (view (lent h (now (counters .entry)) (now (norms .entry)) (now (entries .entry)) (now (counts .entry)))) l) ⌝ }
+    requires { ⌜ JudgeReady (lent (headOf h (now flags) (now lens)) (now counters) (now norms) (now entries) (now counts)) (now words) weight 1 l ⌝ }
+    ensures { λ r. ⌜ r ≡ readyAt (h .shape) (now (words .entry)) weight l (layerAt (view (lent (headOf h (now (flags .entry)) (now (lens .entry))) (now (counters .entry)) (now (norms .entry)) (now (entries .entry)) (now (counts .entry)))) l) ⌝ }
 {
     let shape = h.shape;
     let s = span_of(shape, l);
     let d = dims(shape, l);
     let who = who_in(words, l);
-    let lens = h.lens;
     let len = lens[l];
     let ca = s.cells;
     let ce = s.cells_end;
@@ -50,7 +51,9 @@ fn ready_at(
 
 // Whether what the update reads of one layer is in range.
 fn reads_at(
-    h: Header,
+    h: Fixed,
+    flags: &[bool; 19],
+    lens: &[usize; 19],
     counters: &[i64],
     norms: &[u64],
     entries: &[u64],
@@ -58,14 +61,13 @@ fn reads_at(
     words: &[u64],
     l: usize,
 ) -> bool
-    requires { ⌜ JudgeReady (lent h (now counters) (now norms) (now entries) (now counts)) (now words) 0 1 l ⌝ }
-    ensures { λ r. ⌜ ((w : ℕ) → r ≡ readsAt (h .shape) (now (words .entry)) w l (layerAt (view (lent h (now (counters .entry)) (now (norms .entry)) (now (entries .entry)) (now (counts .entry)))) l)) ⌝ }
+    requires { ⌜ JudgeReady (lent (headOf h (now flags) (now lens)) (now counters) (now norms) (now entries) (now counts)) (now words) 0 1 l ⌝ }
+    ensures { λ r. ⌜ ((w : ℕ) → r ≡ readsAt (h .shape) (now (words .entry)) w l (layerAt (view (lent (headOf h (now (flags .entry)) (now (lens .entry))) (now (counters .entry)) (now (norms .entry)) (now (entries .entry)) (now (counts .entry)))) l)) ⌝ }
 {
     let shape = h.shape;
     let s = span_of(shape, l);
     let d = dims(shape, l);
     let who = who_in(words, l);
-    let lens = h.lens;
     let len = lens[l];
     let ca = s.cells;
     let ce = s.cells_end;
@@ -85,7 +87,9 @@ fn reads_at(
 
 // Whether every touched layer is ready.
 fn all_ready(
-    h: Header,
+    h: Fixed,
+    flags: &[bool; 19],
+    lens: &[usize; 19],
     counters: &[i64],
     norms: &[u64],
     entries: &[u64],
@@ -95,13 +99,24 @@ fn all_ready(
     first: usize,
     many: usize,
 ) -> bool
-    requires { ⌜ JudgeReady (lent h (now counters) (now norms) (now entries) (now counts)) (now words) weight many first ⌝ }
-    ensures { λ r. ⌜ r ≡ allLayers (readyAt (h .shape) (now (words .entry)) weight) many first (view (lent h (now (counters .entry)) (now (norms .entry)) (now (entries .entry)) (now (counts .entry)))) ⌝ }
+    requires { ⌜ JudgeReady (lent (headOf h (now flags) (now lens)) (now counters) (now norms) (now entries) (now counts)) (now words) weight many first ⌝ }
+    ensures { λ r. ⌜ r ≡ allLayers (readyAt (h .shape) (now (words .entry)) weight) many first (view (lent (headOf h (now (flags .entry)) (now (lens .entry))) (now (counters .entry)) (now (norms .entry)) (now (entries .entry)) (now (counts .entry)))) ⌝ }
 {
     let end = first + many;
     let mut l = first;
     while l < end {
-        if !ready_at(h, counters, norms, entries, counts, words, weight, l) {
+        if !ready_at(
+            h,
+            flags,
+            lens,
+            counters,
+            norms,
+            entries,
+            counts,
+            words,
+            weight,
+            l,
+        ) {
             return false;
         }
         l += 1;
@@ -111,7 +126,9 @@ fn all_ready(
 
 // Whether all that is read of the touched layers is in range.
 fn all_read(
-    h: Header,
+    h: Fixed,
+    flags: &[bool; 19],
+    lens: &[usize; 19],
     counters: &[i64],
     norms: &[u64],
     entries: &[u64],
@@ -120,13 +137,13 @@ fn all_read(
     first: usize,
     many: usize,
 ) -> bool
-    requires { ⌜ JudgeReady (lent h (now counters) (now norms) (now entries) (now counts)) (now words) 0 many first ⌝ }
-    ensures { λ r. ⌜ ((w : ℕ) → r ≡ allLayers (readsAt (h .shape) (now (words .entry)) w) many first (view (lent h (now (counters .entry)) (now (norms .entry)) (now (entries .entry)) (now (counts .entry))))) ⌝ }
+    requires { ⌜ JudgeReady (lent (headOf h (now flags) (now lens)) (now counters) (now norms) (now entries) (now counts)) (now words) 0 many first ⌝ }
+    ensures { λ r. ⌜ ((w : ℕ) → r ≡ allLayers (readsAt (h .shape) (now (words .entry)) w) many first (view (lent (headOf h (now (flags .entry)) (now (lens .entry))) (now (counters .entry)) (now (norms .entry)) (now (entries .entry)) (now (counts .entry))))) ⌝ }
 {
     let end = first + many;
     let mut l = first;
     while l < end {
-        if !reads_at(h, counters, norms, entries, counts, words, l) {
+        if !reads_at(h, flags, lens, counters, norms, entries, counts, words, l) {
             return false;
         }
         l += 1;
@@ -138,7 +155,9 @@ fn all_read(
 // leave the range. One pass where all is well; only a refusal looks again, since 9 anywhere comes
 // before 11 anywhere.
 pub fn judge_layers(
-    h: Header,
+    h: Fixed,
+    flags: &[bool; 19],
+    lens: &[usize; 19],
     counters: &[i64],
     norms: &[u64],
     entries: &[u64],
@@ -148,11 +167,13 @@ pub fn judge_layers(
     first: usize,
     many: usize,
 ) -> u64
-    requires { ⌜ JudgeReady (lent h (now counters) (now norms) (now entries) (now counts)) (now words) weight many first ⌝ }
-    ensures { λ r. ⌜ r ≡ judgedAt (h .shape) (now (words .entry)) weight many first (view (lent h (now (counters .entry)) (now (norms .entry)) (now (entries .entry)) (now (counts .entry)))) ⌝ }
+    requires { ⌜ JudgeReady (lent (headOf h (now flags) (now lens)) (now counters) (now norms) (now entries) (now counts)) (now words) weight many first ⌝ }
+    ensures { λ r. ⌜ r ≡ judgedAt (h .shape) (now (words .entry)) weight many first (view (lent (headOf h (now (flags .entry)) (now (lens .entry))) (now (counters .entry)) (now (norms .entry)) (now (entries .entry)) (now (counts .entry)))) ⌝ }
 {
     if all_ready(
         h,
+        flags,
+        lens,
         counters,
         norms,
         entries,
@@ -164,7 +185,18 @@ pub fn judge_layers(
     ) {
         return 0;
     }
-    if all_read(h, counters, norms, entries, counts, words, first, many) {
+    if all_read(
+        h,
+        flags,
+        lens,
+        counters,
+        norms,
+        entries,
+        counts,
+        words,
+        first,
+        many,
+    ) {
         return 11;
     }
     9

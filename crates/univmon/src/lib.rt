@@ -19,6 +19,14 @@ pub use marks::mark_layer_candidates_incomplete;
 pub use marks::set_total_weight;
 pub use merging::merge;
 
+// What of a header no layer's step changes. It goes beside lengths and flags, which are lent: a header
+// by value would be copied at each layer.
+pub struct Fixed {
+    pub shape: header::Shape,
+    pub weight: u64,
+    pub mode: header::Mode,
+}
+
 // How an update sends its key to layers.
 pub enum Kind {
     Standard,

@@ -1,7 +1,7 @@
 // What both updates write, once everything is judged: functions of this crate only, so they may ask for what `calls` has tested.
+use crate::Fixed;
 use crate::sizes::dims;
 use crate::sizes::span_of;
-use header::Header;
 use heap_moves::Who;
 ghost use mathlib.Core.Path.{_≡_};
 ghost use mathlib.Core.Bool.{Bool, true, _&&_};
@@ -10,7 +10,7 @@ ghost use lib.ListN.{length};
 ghost use Rattle.words.specs.Num.{top};
 ghost use Rattle.layer.specs.Layer.{item, addLayer, addReads, addFits};
 ghost use Rattle.univmon.specs.State.{dimsAt, layerAt, putLayer, overLayers, allLayers};
-ghost use Rattle.univmon.specs.Slices.{lent, view};
+ghost use Rattle.univmon.specs.Slices.{lent, view, headOf};
 ghost use Rattle.univmon.specs.Updates.{whoAt};
 ghost use Rattle.univmon.specs.Needs.{Standing, SendReady, SendsReady, readsAt, fitsAt, addsAt};
 
@@ -30,7 +30,9 @@ pub fn who_in(words: &[u64], l: usize) -> Who
 
 // Sends an update to one layer.
 fn send_one(
-    h: Header,
+    h: Fixed,
+    flags: &mut [bool; 19],
+    lens: &mut [usize; 19],
     counters: &mut [i64],
     norms: &mut [u64],
     entries: &mut [u64],
@@ -38,18 +40,17 @@ fn send_one(
     words: &[u64],
     weight: u64,
     l: usize,
-) -> Header
-    requires { ⌜ SendReady (lent h (now counters) (now norms) (now entries) (now counts)) (now words) weight l ⌝ }
-    ensures { λ r. ⌜ view (lent r (now (counters .exit)) (now (norms .exit)) (now (entries .exit)) (now (counts .exit)))
-        ≡ putLayer (view (lent h (now (counters .entry)) (now (norms .entry)) (now (entries .entry)) (now (counts .entry)))) l
-        (addLayer (dimsAt (h .shape) l) (item (whoAt (now (words .entry)) l) weight) (layerAt (view (lent h (now (counters .entry)) (now (norms .entry)) (now (entries .entry)) (now (counts .entry)))) l)) ⌝ }
-    ensures { λ r. ⌜ Standing (lent r (now (counters .exit)) (now (norms .exit)) (now (entries .exit)) (now (counts .exit))) ⌝ }
+)
+    requires { ⌜ SendReady (lent (headOf h (now flags) (now lens)) (now counters) (now norms) (now entries) (now counts)) (now words) weight l ⌝ }
+    ensures { λ r. ⌜ view (lent (headOf h (now (flags .exit)) (now (lens .exit))) (now (counters .exit)) (now (norms .exit)) (now (entries .exit)) (now (counts .exit)))
+        ≡ putLayer (view (lent (headOf h (now (flags .entry)) (now (lens .entry))) (now (counters .entry)) (now (norms .entry)) (now (entries .entry)) (now (counts .entry)))) l
+        (addLayer (dimsAt (h .shape) l) (item (whoAt (now (words .entry)) l) weight) (layerAt (view (lent (headOf h (now (flags .entry)) (now (lens .entry))) (now (counters .entry)) (now (norms .entry)) (now (entries .entry)) (now (counts .entry)))) l)) ⌝ }
+    ensures { λ r. ⌜ Standing (lent (headOf h (now (flags .exit)) (now (lens .exit))) (now (counters .exit)) (now (norms .exit)) (now (entries .exit)) (now (counts .exit))) ⌝ }
 {
     let shape = h.shape;
     let s = span_of(shape, l);
     let d = dims(shape, l);
     let who = who_in(words, l);
-    let lens = h.lens;
     let len = lens[l];
     let ca = s.cells;
     let ce = s.cells_end;
@@ -69,12 +70,18 @@ fn send_one(
         who,
         weight,
     );
-    h.touched(l, heap::len_after(len, answer), heap::kept(answer))
+    lens[l] = heap::len_after(len, answer);
+    if heap::kept(answer) {
+        return;
+    }
+    flags[l] = false;
 }
 
 // Sends an update to many layers from the first on.
 pub fn send(
-    h: Header,
+    h: Fixed,
+    flags: &mut [bool; 19],
+    lens: &mut [usize; 19],
     counters: &mut [i64],
     norms: &mut [u64],
     entries: &mut [u64],
@@ -83,18 +90,27 @@ pub fn send(
     weight: u64,
     first: usize,
     many: usize,
-) -> Header
-    requires { ⌜ SendsReady (lent h (now counters) (now norms) (now entries) (now counts)) (now words) weight many first ⌝ }
-    ensures { λ r. ⌜ view (lent r (now (counters .exit)) (now (norms .exit)) (now (entries .exit)) (now (counts .exit)))
-        ≡ overLayers (addsAt (h .shape) (now (words .entry)) weight) many first (view (lent h (now (counters .entry)) (now (norms .entry)) (now (entries .entry)) (now (counts .entry)))) ⌝ }
-    ensures { λ r. ⌜ Standing (lent r (now (counters .exit)) (now (norms .exit)) (now (entries .exit)) (now (counts .exit))) ⌝ }
+)
+    requires { ⌜ SendsReady (lent (headOf h (now flags) (now lens)) (now counters) (now norms) (now entries) (now counts)) (now words) weight many first ⌝ }
+    ensures { λ r. ⌜ view (lent (headOf h (now (flags .exit)) (now (lens .exit))) (now (counters .exit)) (now (norms .exit)) (now (entries .exit)) (now (counts .exit)))
+        ≡ overLayers (addsAt (h .shape) (now (words .entry)) weight) many first (view (lent (headOf h (now (flags .entry)) (now (lens .entry))) (now (counters .entry)) (now (norms .entry)) (now (entries .entry)) (now (counts .entry)))) ⌝ }
+    ensures { λ r. ⌜ Standing (lent (headOf h (now (flags .exit)) (now (lens .exit))) (now (counters .exit)) (now (norms .exit)) (now (entries .exit)) (now (counts .exit))) ⌝ }
 {
     let end = first + many;
-    let mut header = h;
     let mut l = first;
     while l < end {
-        header = send_one(header, counters, norms, entries, counts, words, weight, l);
+        send_one(
+            h,
+            flags,
+            lens,
+            counters,
+            norms,
+            entries,
+            counts,
+            words,
+            weight,
+            l,
+        );
         l += 1;
     }
-    header
 }

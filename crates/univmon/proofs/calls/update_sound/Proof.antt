@@ -71,8 +71,8 @@ many-is c = rw (c .first-sent .ensures) (many-sent (c .before .before .before .b
 
 judge-layers-requires : tie.Need-judge-layers-requires
 judge-layers-requires c κs =
-    let a = c .before .before .before .before .before .before .before .before .before .before .before .before .before .before .before .args in
-    rw (weight-is (c .before .before .before .before), many-is (c .before .before .before .before .before), first-is (c .before .before .before .before .before)) (judge-ready (a .kind) (lent-of (c .before .before .before .before .before .before .before .before .before .before .before .before .before .before .before)) (now (a .words)) (a .weight) (c .before .before .before .before .before .before .before .before .before .before .before .before .before .before .before .pre) ((began (c .before .before .before .before .before .before .before .before)) .light))
+    let a = c .before .before .before .before .before .before .before .before .before .before .before .before .before .before .before .before .before .before .before .before .args in
+    rw (weight-is (c .before .before .before .before .before .before .before .before .before), many-is (c .before .before .before .before .before .before .before .before .before .before), first-is (c .before .before .before .before .before .before .before .before .before .before)) (judge-ready (a .kind) (lent-of (c .before .before .before .before .before .before .before .before .before .before .before .before .before .before .before .before .before .before .before .before)) (now (a .words)) (a .weight) (c .before .before .before .before .before .before .before .before .before .before .before .before .before .before .before .before .before .before .before .before .pre) ((began (c .before .before .before .before .before .before .before .before .before .before .before .before .before)) .light))
 
 same-length : tie.Need-same-length
 same-length c = search needs
@@ -87,22 +87,22 @@ same-length-4 : tie.Need-same-length-4
 same-length-4 c = search needs
 
 -- what the touched layers answered
-judged : (c : tie.After-judge-layers) → let a = c .before .before .before .before .before .before .before .before .before .before .before .before .before .before .before .before .args in let b = bottomBy (view (lent-of (c .before .before .before .before .before .before .before .before .before .before .before .before .before .before .before .before))) (now (a .words)) in
-    c .judge-layers .result ≡ judgedAt (a .header .shape) (now (a .words)) (natAbs (a .weight)) (manySent (a .kind) b) (firstSent (a .kind) b) (view (lent-of (c .before .before .before .before .before .before .before .before .before .before .before .before .before .before .before .before)))
-judged c = rw (weight-is (c .before .before .before .before .before), many-is (c .before .before .before .before .before .before), first-is (c .before .before .before .before .before .before)) at (c .judge-layers .ensures)
+judged : (c : tie.After-judge-layers) → let a = c .before .before .before .before .before .before .before .before .before .before .before .before .before .before .before .before .before .before .before .before .before .args in let b = bottomBy (view (lent-of (c .before .before .before .before .before .before .before .before .before .before .before .before .before .before .before .before .before .before .before .before .before))) (now (a .words)) in
+    c .judge-layers .result ≡ judgedAt (a .header .shape) (now (a .words)) (natAbs (a .weight)) (manySent (a .kind) b) (firstSent (a .kind) b) (view (lent-of (c .before .before .before .before .before .before .before .before .before .before .before .before .before .before .before .before .before .before .before .before .before)))
+judged c = rw (weight-is (c .before .before .before .before .before .before .before .before .before .before), many-is (c .before .before .before .before .before .before .before .before .before .before .before), first-is (c .before .before .before .before .before .before .before .before .before .before .before)) at (c .judge-layers .ensures)
 
 returns-2 : tie.Need-returns-2
 returns-2 c =
-    let a = c .before .before .before .before .before .before .before .before .before .before .before .before .before .before .before .before .before .args in
-    not-judged (a .kind) (lent-of (c .before .before .before .before .before .before .before .before .before .before .before .before .before .before .before .before .before)) (now (a .words)) (a .weight) (c .before .before .before .before .before .before .before .before .before .before .before .before .before .before .before .before .before .pre) (c .before .before .before .before .before .before .before .before .before .before .before .before .begin-update .result) (began (c .before .before .before .before .before .before .before .before .before .before)) (c .before .judge-layers .result) (judged (c .before)) (c .if2 .taken)
+    let a = c .before .before .before .before .before .before .before .before .before .before .before .before .before .before .before .before .before .before .before .before .before .before .args in
+    not-judged (a .kind) (lent-of (c .before .before .before .before .before .before .before .before .before .before .before .before .before .before .before .before .before .before .before .before .before .before)) (now (a .words)) (a .weight) (c .before .before .before .before .before .before .before .before .before .before .before .before .before .before .before .before .before .before .before .before .before .before .pre) (c .before .before .before .before .before .before .before .before .before .before .before .before .before .before .before .before .before .begin-update .result) (began (c .before .before .before .before .before .before .before .before .before .before .before .before .before .before .before)) (c .before .judge-layers .result) (judged (c .before)) (c .if2 .taken)
 
-ready : (c : tie.Else2) → let a = c .before .before .before .before .before .before .before .before .before .before .before .before .before .before .before .before .before .args in Judged (a .kind) (lent-of (c .before .before .before .before .before .before .before .before .before .before .before .before .before .before .before .before .before)) (now (a .words)) (a .weight) (c .before .before .before .before .before .before .before .before .before .before .before .before .before .before .before .before .before .pre)
-ready c = let a = c .before .before .before .before .before .before .before .before .before .before .before .before .before .before .before .before .before .args in has-judged (a .kind) (lent-of (c .before .before .before .before .before .before .before .before .before .before .before .before .before .before .before .before .before)) (now (a .words)) (a .weight) (c .before .before .before .before .before .before .before .before .before .before .before .before .before .before .before .before .before .pre) (c .before .before .before .before .before .before .before .before .before .before .before .before .begin-update .result) (began (c .before .before .before .before .before .before .before .before .before .before)) (sym (judged (c .before)) ∙ c .if2 .left)
+ready : (c : tie.Else2) → let a = c .before .before .before .before .before .before .before .before .before .before .before .before .before .before .before .before .before .before .before .before .before .before .args in Judged (a .kind) (lent-of (c .before .before .before .before .before .before .before .before .before .before .before .before .before .before .before .before .before .before .before .before .before .before)) (now (a .words)) (a .weight) (c .before .before .before .before .before .before .before .before .before .before .before .before .before .before .before .before .before .before .before .before .before .before .pre)
+ready c = let a = c .before .before .before .before .before .before .before .before .before .before .before .before .before .before .before .before .before .before .before .before .before .before .args in has-judged (a .kind) (lent-of (c .before .before .before .before .before .before .before .before .before .before .before .before .before .before .before .before .before .before .before .before .before .before)) (now (a .words)) (a .weight) (c .before .before .before .before .before .before .before .before .before .before .before .before .before .before .before .before .before .before .before .before .before .before .pre) (c .before .before .before .before .before .before .before .before .before .before .before .before .before .before .before .before .before .begin-update .result) (began (c .before .before .before .before .before .before .before .before .before .before .before .before .before .before .before)) (sym (judged (c .before)) ∙ c .if2 .left)
 
 send-requires : tie.Need-send-requires
 send-requires c κs =
-    let a = c .before .before .before .before .before .before .before .before .before .before .before .before .before .before .before .before .before .before .before .before .before .before .args in
-    rw ((began (c .before .before .before .before .before .before .before .before .before .before .before .before .before .before .before)) .header, weight-is (c .before .before .before .before .before .before .before .before .before .before .before), many-is (c .before .before .before .before .before .before .before .before .before .before .before .before), first-is (c .before .before .before .before .before .before .before .before .before .before .before .before)) (sends-ready (a .kind) (lent-of (c .before .before .before .before .before .before .before .before .before .before .before .before .before .before .before .before .before .before .before .before .before .before)) (now (a .words)) (a .weight) (c .before .before .before .before .before .before .before .before .before .before .before .before .before .before .before .before .before .before .before .before .before .before .pre) ((began (c .before .before .before .before .before .before .before .before .before .before .before .before .before .before .before)) .light) (ready (c .before .before .before .before .before)))
+    let a = c .before .before .before .before .before .before .before .before .before .before .before .before .before .before .before .before .before .before .before .before .before .before .before .before .before .before .before .before .before .args in
+    rw ((began (c .before .before .before .before .before .before .before .before .before .before .before .before .before .before .before .before .before .before .before .before .before .before)) .header, weight-is (c .before .before .before .before .before .before .before .before .before .before .before .before .before .before .before .before .before .before), many-is (c .before .before .before .before .before .before .before .before .before .before .before .before .before .before .before .before .before .before .before), first-is (c .before .before .before .before .before .before .before .before .before .before .before .before .before .before .before .before .before .before .before)) (sends-ready (a .kind) (lent-of (c .before .before .before .before .before .before .before .before .before .before .before .before .before .before .before .before .before .before .before .before .before .before .before .before .before .before .before .before .before)) (now (a .words)) (a .weight) (c .before .before .before .before .before .before .before .before .before .before .before .before .before .before .before .before .before .before .before .before .before .before .before .before .before .before .before .before .before .pre) ((began (c .before .before .before .before .before .before .before .before .before .before .before .before .before .before .before .before .before .before .before .before .before .before)) .light) (ready (c .before .before .before .before .before .before .before)))
 
 same-length-5 : tie.Need-same-length-5
 same-length-5 c = search needs
@@ -118,9 +118,11 @@ same-length-8 c = search needs
 
 returns-3 : tie.Need-returns-3
 returns-3 c =
-    let a = c .before .before .before .before .before .before .before .before .before .before .before .before .before .before .before .before .before .before .before .before .before .before .before .before .before .before .before .before .before .args in
-    all-sent (a .kind) (lent-of (c .before .before .before .before .before .before .before .before .before .before .before .before .before .before .before .before .before .before .before .before .before .before .before .before .before .before .before .before .before)) (now (a .words)) (a .weight) (c .before .before .before .before .before .before .before .before .before .before .before .before .before .before .before .before .before .before .before .before .before .before .before .before .before .before .before .before .before .pre) _ (ready (c .before .before .before .before .before .before .before .before .before .before .before .before)) (c .before .before .before .before .before .before .send .ensures .1) (λ i. c .before .before .before .slice-known3 .given i .fits)
-    (rw ((began (c .before .before .before .before .before .before .before .before .before .before .before .before .before .before .before .before .before .before .before .before .before .before)) .header, weight-is (c .before .before .before .before .before .before .before .before .before .before .before .before .before .before .before .before .before .before), many-is (c .before .before .before .before .before .before .before .before .before .before .before .before .before .before .before .before .before .before .before), first-is (c .before .before .before .before .before .before .before .before .before .before .before .before .before .before .before .before .before .before .before)) at (c .before .before .before .before .before .before .send .ensures .0))
+    let a = c .before .before .before .before .before .before .before .before .before .before .before .before .before .before .before .before .before .before .before .before .before .before .before .before .before .before .before .before .before .before .before .before .before .before .before .before .args in
+    let e = (began (c .before .before .before .before .before .before .before .before .before .before .before .before .before .before .before .before .before .before .before .before .before .before .before .before .before .before .before .before .before)) .header in
+    rw e
+    (all-sent (a .kind) (lent-of (c .before .before .before .before .before .before .before .before .before .before .before .before .before .before .before .before .before .before .before .before .before .before .before .before .before .before .before .before .before .before .before .before .before .before .before .before)) (now (a .words)) (a .weight) (c .before .before .before .before .before .before .before .before .before .before .before .before .before .before .before .before .before .before .before .before .before .before .before .before .before .before .before .before .before .before .before .before .before .before .before .before .pre) _ (ready (c .before .before .before .before .before .before .before .before .before .before .before .before .before .before)) (rw e at (c .before .before .before .before .before .before .send .ensures .1)) (λ i. c .before .before .before .slice-known3 .given i .fits)
+    (rw (e, weight-is (c .before .before .before .before .before .before .before .before .before .before .before .before .before .before .before .before .before .before .before .before .before .before .before .before .before), many-is (c .before .before .before .before .before .before .before .before .before .before .before .before .before .before .before .before .before .before .before .before .before .before .before .before .before .before), first-is (c .before .before .before .before .before .before .before .before .before .before .before .before .before .before .before .before .before .before .before .before .before .before .before .before .before .before)) at (c .before .before .before .before .before .before .send .ensures .0)))
 
 pub update-sound-spec : {M : Type 1} → statement M
 update-sound-spec = tie.close (tie.spec mode-of-requires begin-update-requires returns shared-slice-read-bottom-of bottom-of-requires first-sent-requires add-many sub-many magnitude-requires judge-layers-requires same-length same-length-2 same-length-3 same-length-4 returns-2 send-requires same-length-5 same-length-6 same-length-7 same-length-8 returns-3)

@@ -2,7 +2,7 @@
 -- Written by tools/places.py from answers.txt; assumes nothing.
 use mathlib.Core.Path.{sym, _∙_}
 use denote.Ref.{now}
-use Rattle.univmon.specs.Slices.{lent, view, Lent}
+use Rattle.univmon.specs.Slices.{lent, headOf, view, Lent}
 use Rattle.univmon.specs.Calls.{left}
 use Rattle.univmon.proofs.Judging.{judge-light, judged-ready, judged-unfit, judged-unread}
 use Rattle.univmon.proofs.judge.judge_layers.Statement.{statement}
@@ -10,7 +10,7 @@ use Rattle.univmon.proofs.judge.judge_layers.Tie as tie
 
 -- the state that is lent
 abbrev lent-of : tie.Start → Lent
-lent-of c = lent (c .args .h) (now (c .args .counters)) (now (c .args .norms)) (now (c .args .entries)) (now (c .args .counts))
+lent-of c = lent (headOf (c .args .h) (now (c .args .flags)) (now (c .args .lens))) (now (c .args .counters)) (now (c .args .norms)) (now (c .args .entries)) (now (c .args .counts))
 
 all-ready-requires : tie.Need-all-ready-requires
 all-ready-requires c κs = c .before .before .before .pre

@@ -7,8 +7,8 @@ use lib.ListN.{length, getD}
 use native.Mathlib.Omega.{arith}
 use borrow.Author.Needs.{needs}
 use denote.Ref.{now}
-use Rattle.univmon.specs.Slices.{lent, Lent}
-use Rattle.univmon.proofs.Offsets.{cand-off, seats-few}
+use Rattle.univmon.specs.Slices.{lent, headOf, Lent}
+use Rattle.univmon.proofs.Offsets.{norm-off, cand-off, rows-few, seats-few}
 use Rattle.words.specs.Parts.{part}
 use Rattle.univmon.proofs.Sends.{Spanned, spanned-of, cells-room, norms-room, seats-room, housed, reads-here}
 use Rattle.univmon.proofs.judge.reads_at.Statement.{statement}
@@ -16,7 +16,7 @@ use Rattle.univmon.proofs.judge.reads_at.Tie as tie
 
 -- the state that is lent, and where its layer stands
 abbrev lent-of : tie.Start → Lent
-lent-of c = lent (c .args .h) (now (c .args .counters)) (now (c .args .norms)) (now (c .args .entries)) (now (c .args .counts))
+lent-of c = lent (headOf (c .args .h) (now (c .args .flags)) (now (c .args .lens))) (now (c .args .counters)) (now (c .args .norms)) (now (c .args .entries)) (now (c .args .counts))
 
 inside : (c : tie.Start) → c .args .l < c .args .h .shape .layers
 inside c = let p = c .pre in omega (arith, p .inside)
@@ -43,10 +43,10 @@ who-in-requires : tie.Need-who-in-requires
 who-in-requires c κs = let p = c .before .before .before .before .before .before .pre in let i = inside (c .before .before .before .before .before .before) in (omega (arith, i, p .standing .accepted .few), omega (arith, i, p .recorded))
 
 mul-len : tie.Need-mul-len
-mul-len c = let p = c .before .before .before .before .before .before .before .before .pre in let q = p .standing .accepted .few in let i = inside (c .before .before .before .before .before .before .before .before) in search needs
+mul-len c = let p = c .before .before .before .before .before .before .before .pre in let q = p .standing .accepted .few in let i = inside (c .before .before .before .before .before .before .before) in search needs
 
-array-read-len : tie.Need-array-read-len
-array-read-len c = let p = c .before .before .before .before .before .before .before .before .pre in let q = p .standing .accepted .few in let i = inside (c .before .before .before .before .before .before .before .before) in search needs
+element-copy-out-len : tie.Need-element-copy-out-len
+element-copy-out-len c = search needs
 
 mul-add-reads : tie.Need-mul-add-reads
 mul-add-reads c = let b = cells-ok (c .before .before .before) in search needs
@@ -61,7 +61,9 @@ part-add-reads-end : tie.Need-part-add-reads-end
 part-add-reads-end c = let b = cells-ok (c .before .before .before) in search needs
 
 mul-add-reads-2 : tie.Need-mul-add-reads-2
-mul-add-reads-2 c = let b = norms-ok (c .before .before .before .before) in search needs
+mul-add-reads-2 c =
+    let z = c .before .before .before .before .before .before .before .before .before .pre in
+    record { fits = omega (arith, (spanned (c .before .before .before .before)) .norms, norm-off (c .before .before .before .before .before .before .before .before .before .args .h .shape) (c .before .before .before .before .before .before .before .before .before .args .l), rows-few (c .before .before .before .before .before .before .before .before .before .args .h .shape) (z .standing .accepted) (c .before .before .before .before .before .before .before .before .before .args .l) (omega (arith, z .inside))) }
 
 sub-add-reads-2 : tie.Need-sub-add-reads-2
 sub-add-reads-2 c = let b = norms-ok (c .before .before .before .before) in search needs
@@ -92,8 +94,8 @@ add-reads-requires c κs = rw (c .before .before .before .before .before .dims .
 returns : tie.Need-returns
 returns c = λ w.
     let a = c .before .before .before .before .before .before .before .before .before .before .before .before .args in
-    rw (c .before .before .before .before .before .before .dims .ensures, c .before .before .before .before .before .who-in .ensures) at (c .add-reads .ensures (part (c .before .before .before .before .before .before .before .span-of .result .words) (c .before .before .before .before .before .before .before .span-of .result .«words_end» - c .before .before .before .before .before .before .before .span-of .result .words) (now (a .entries))) (getD (a .h .flags) (a .l) false) w)
+    rw (c .before .before .before .before .before .before .dims .ensures, c .before .before .before .before .before .who-in .ensures) at (c .add-reads .ensures (part (c .before .before .before .before .before .before .before .span-of .result .words) (c .before .before .before .before .before .before .before .span-of .result .«words_end» - c .before .before .before .before .before .before .before .span-of .result .words) (now (a .entries))) (getD (now (a .flags)) (a .l) false) w)
     ∙ reads-here (lent-of (c .before .before .before .before .before .before .before .before .before .before .before .before)) (now (a .words)) 0 (a .l) (c .before .before .before .before .before .before .before .before .before .before .before .before .pre) _ _ _ _ _ _ _ _ (spanned (c .before .before .before .before .before .before .before)) w
 
 pub reads-at-spec : {M : Type 1} → statement M
-reads-at-spec = tie.close (tie.spec span-of-requires dims-requires who-in-requires mul-len array-read-len mul-add-reads sub-add-reads part-add-reads-start part-add-reads-end mul-add-reads-2 sub-add-reads-2 part-add-reads-start-2 part-add-reads-end-2 mul-add-reads-3 sub-add-reads-3 part-add-reads-start-3 part-add-reads-end-3 add-reads-requires returns)
+reads-at-spec = tie.close (tie.spec span-of-requires dims-requires who-in-requires mul-len element-copy-out-len mul-add-reads sub-add-reads part-add-reads-start part-add-reads-end mul-add-reads-2 sub-add-reads-2 part-add-reads-start-2 part-add-reads-end-2 mul-add-reads-3 sub-add-reads-3 part-add-reads-start-3 part-add-reads-end-3 add-reads-requires returns)

@@ -7,8 +7,8 @@ use lib.ListN.{length, getD}
 use native.Mathlib.Omega.{arith}
 use borrow.Author.Needs.{needs}
 use denote.Ref.{now}
-use Rattle.univmon.specs.Slices.{lent, Lent}
-use Rattle.univmon.proofs.Offsets.{cand-off, seats-few}
+use Rattle.univmon.specs.Slices.{lent, headOf, Lent}
+use Rattle.univmon.proofs.Offsets.{norm-off, cand-off, rows-few, seats-few}
 use Rattle.words.specs.Parts.{part}
 use Rattle.univmon.proofs.Sends.{Spanned, spanned-of, cells-room, norms-room, seats-room, housed, ready-here}
 use Rattle.univmon.proofs.judge.ready_at.Statement.{statement}
@@ -16,7 +16,7 @@ use Rattle.univmon.proofs.judge.ready_at.Tie as tie
 
 -- the state that is lent, and where its layer stands
 abbrev lent-of : tie.Start → Lent
-lent-of c = lent (c .args .h) (now (c .args .counters)) (now (c .args .norms)) (now (c .args .entries)) (now (c .args .counts))
+lent-of c = lent (headOf (c .args .h) (now (c .args .flags)) (now (c .args .lens))) (now (c .args .counters)) (now (c .args .norms)) (now (c .args .entries)) (now (c .args .counts))
 
 inside : (c : tie.Start) → c .args .l < c .args .h .shape .layers
 inside c = let p = c .pre in omega (arith, p .inside)
@@ -43,10 +43,10 @@ who-in-requires : tie.Need-who-in-requires
 who-in-requires c κs = let p = c .before .before .before .before .before .before .pre in let i = inside (c .before .before .before .before .before .before) in (omega (arith, i, p .standing .accepted .few), omega (arith, i, p .recorded))
 
 mul-len : tie.Need-mul-len
-mul-len c = let p = c .before .before .before .before .before .before .before .before .pre in let q = p .standing .accepted .few in let i = inside (c .before .before .before .before .before .before .before .before) in search needs
+mul-len c = let p = c .before .before .before .before .before .before .before .pre in let q = p .standing .accepted .few in let i = inside (c .before .before .before .before .before .before .before) in search needs
 
-array-read-len : tie.Need-array-read-len
-array-read-len c = let p = c .before .before .before .before .before .before .before .before .pre in let q = p .standing .accepted .few in let i = inside (c .before .before .before .before .before .before .before .before) in search needs
+element-copy-out-len : tie.Need-element-copy-out-len
+element-copy-out-len c = search needs
 
 mul-add-ready : tie.Need-mul-add-ready
 mul-add-ready c = let b = cells-ok (c .before .before .before) in search needs
@@ -61,7 +61,9 @@ part-add-ready-end : tie.Need-part-add-ready-end
 part-add-ready-end c = let b = cells-ok (c .before .before .before) in search needs
 
 mul-add-ready-2 : tie.Need-mul-add-ready-2
-mul-add-ready-2 c = let b = norms-ok (c .before .before .before .before) in search needs
+mul-add-ready-2 c =
+    let z = c .before .before .before .before .before .before .before .before .before .pre in
+    record { fits = omega (arith, (spanned (c .before .before .before .before)) .norms, norm-off (c .before .before .before .before .before .before .before .before .before .args .h .shape) (c .before .before .before .before .before .before .before .before .before .args .l), rows-few (c .before .before .before .before .before .before .before .before .before .args .h .shape) (z .standing .accepted) (c .before .before .before .before .before .before .before .before .before .args .l) (omega (arith, z .inside))) }
 
 sub-add-ready-2 : tie.Need-sub-add-ready-2
 sub-add-ready-2 c = let b = norms-ok (c .before .before .before .before) in search needs
@@ -92,8 +94,8 @@ add-ready-requires c κs = (rw (c .before .before .before .before .before .dims 
 returns : tie.Need-returns
 returns c =
     let a = c .before .before .before .before .before .before .before .before .before .before .before .before .args in
-    rw (c .before .before .before .before .before .before .dims .ensures, c .before .before .before .before .before .who-in .ensures) at (c .add-ready .ensures (part (c .before .before .before .before .before .before .before .span-of .result .words) (c .before .before .before .before .before .before .before .span-of .result .«words_end» - c .before .before .before .before .before .before .before .span-of .result .words) (now (a .entries))) (getD (a .h .flags) (a .l) false))
+    rw (c .before .before .before .before .before .before .dims .ensures, c .before .before .before .before .before .who-in .ensures) at (c .add-ready .ensures (part (c .before .before .before .before .before .before .before .span-of .result .words) (c .before .before .before .before .before .before .before .span-of .result .«words_end» - c .before .before .before .before .before .before .before .span-of .result .words) (now (a .entries))) (getD (now (a .flags)) (a .l) false))
     ∙ ready-here (lent-of (c .before .before .before .before .before .before .before .before .before .before .before .before)) (now (a .words)) (a .weight) (a .l) (c .before .before .before .before .before .before .before .before .before .before .before .before .pre) _ _ _ _ _ _ _ _ (spanned (c .before .before .before .before .before .before .before))
 
 pub ready-at-spec : {M : Type 1} → statement M
-ready-at-spec = tie.close (tie.spec span-of-requires dims-requires who-in-requires mul-len array-read-len mul-add-ready sub-add-ready part-add-ready-start part-add-ready-end mul-add-ready-2 sub-add-ready-2 part-add-ready-start-2 part-add-ready-end-2 mul-add-ready-3 sub-add-ready-3 part-add-ready-start-3 part-add-ready-end-3 add-ready-requires returns)
+ready-at-spec = tie.close (tie.spec span-of-requires dims-requires who-in-requires mul-len element-copy-out-len mul-add-ready sub-add-ready part-add-ready-start part-add-ready-end mul-add-ready-2 sub-add-ready-2 part-add-ready-start-2 part-add-ready-end-2 mul-add-ready-3 sub-add-ready-3 part-add-ready-start-3 part-add-ready-end-3 add-ready-requires returns)

@@ -1,4 +1,4 @@
--- `univmon::merge::all_fit` meets its contract.
+-- `univmon::merging::all_fit` meets its contract.
 -- Written by tools/places.py from answers.txt; assumes nothing.
 use Prim.Native.Nat.{ℕ, _-_}
 use mathlib.Core.Path.{sym, _∙_}

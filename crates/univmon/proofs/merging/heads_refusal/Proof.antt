@@ -1,4 +1,4 @@
--- `univmon::merge::heads_refusal` meets its contract.
+-- `univmon::merging::heads_refusal` meets its contract.
 -- Written by tools/places.py from answers.txt; assumes nothing.
 use Prim.Native.Nat.{_+_}
 use mathlib.Core.Path.{_≡_, sym, _∙_}

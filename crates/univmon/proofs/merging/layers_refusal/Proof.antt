@@ -1,4 +1,4 @@
--- `univmon::merge::layers_refusal` meets its contract.
+-- `univmon::merging::layers_refusal` meets its contract.
 -- Written by tools/places.py from answers.txt; assumes nothing.
 use mathlib.Core.Path.{_≡_, sym, _∙_}
 use mathlib.Core.Bool.{true}

@@ -1,4 +1,4 @@
--- `univmon::merge::merge` meets its contract.
+-- `univmon::merging::merge` meets its contract.
 -- Written by tools/places.py from answers.txt; assumes nothing.
 use mathlib.Core.Path.{_≡_, sym, ap, _∙_}
 use native.Mathlib.Omega.{arith}

@@ -1,4 +1,4 @@
--- `univmon::merge::merge_layers` meets its contract.
+-- `univmon::merging::merge_layers` meets its contract.
 -- Written by tools/places.py from answers.txt; assumes nothing.
 use Prim.Native.Nat.{_-_}
 use mathlib.Core.Path.{sym, _∙_}

@@ -1,4 +1,4 @@
--- `univmon::merge::merge_one` meets its contract.
+-- `univmon::merging::merge_one` meets its contract.
 -- Written by tools/places.py from answers.txt; assumes nothing.
 use Prim.Native.Nat.{_-_, _≤_, _<_}
 use mathlib.Core.Path.{_≡_, sym, ap, _∙_, ap₂}

@@ -1,4 +1,4 @@
--- `univmon::merge::reads_at` meets its contract.
+-- `univmon::merging::reads_at` meets its contract.
 -- Written by tools/places.py from answers.txt; assumes nothing.
 use Prim.Native.Nat.{_-_, _≤_, _<_}
 use mathlib.Core.Path.{_∙_}

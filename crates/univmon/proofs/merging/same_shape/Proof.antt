@@ -1,4 +1,4 @@
--- `univmon::merge::same_shape` meets its contract.
+-- `univmon::merging::same_shape` meets its contract.
 -- Written by tools/places.py from answers.txt; assumes nothing.
 use borrow.Author.Tests.{eq-eqb, ne-eqb}
 use Rattle.univmon.specs.Calls.{left}

@@ -4,24 +4,24 @@ use Prim.Native.Nat.{_+_, _-_}
 use mathlib.Core.Path.{sym, _∙_}
 use native.Mathlib.Omega.{arith}
 use denote.Ref.{now}
-use Rattle.univmon.specs.Slices.{lent, Lent}
+use Rattle.univmon.specs.Slices.{lent, headOf, Lent}
 use Rattle.univmon.specs.Calls.{left}
 use Rattle.univmon.proofs.Sending.{Sending, sending-start, sending-ready, sending-on, sending-end}
 use Rattle.univmon.proofs.update.send.Statement.{statement}
 use Rattle.univmon.proofs.update.send.Tie as tie
 
 abbrev Inv-loop : tie.InvT-loop
-Inv-loop counters₀ norms₀ entries₀ counts₀ words weight first many end header₀ l₀ counters norms entries counts header l = Sending (lent header₀ counters₀ norms₀ entries₀ counts₀) words weight many first (lent header counters norms entries counts) l
+Inv-loop h flags₀ lens₀ counters₀ norms₀ entries₀ counts₀ words weight first many end l₀ flags lens counters norms entries counts l = Sending (lent (headOf h flags₀ lens₀) counters₀ norms₀ entries₀ counts₀) words weight many first (lent (headOf h flags lens) counters norms entries counts) l
 
 abbrev μ-loop : tie.MeasureT-loop
-μ-loop counters₀ norms₀ entries₀ counts₀ words weight first many end header₀ l₀ counters norms entries counts header l = many + first - l
+μ-loop h flags₀ lens₀ counters₀ norms₀ entries₀ counts₀ words weight first many end l₀ flags lens counters norms entries counts l = many + first - l
 
 -- the state that was lent, and the state in the loop
 abbrev lent-of : tie.Start Inv-loop μ-loop → Lent
-lent-of c = lent (c .args .h) (now (c .args .counters)) (now (c .args .norms)) (now (c .args .entries)) (now (c .args .counts))
+lent-of c = lent (headOf (c .args .h) (now (c .args .flags)) (now (c .args .lens))) (now (c .args .counters)) (now (c .args .norms)) (now (c .args .entries)) (now (c .args .counts))
 
 abbrev lent-here : tie.At-loop Inv-loop μ-loop → Lent
-lent-here c = lent (c .loop .header) (c .loop .counters) (c .loop .norms) (c .loop .entries) (c .loop .counts)
+lent-here c = lent (headOf (c .before .before .before .before .args .h) (c .loop .flags) (c .loop .lens)) (c .loop .counters) (c .loop .norms) (c .loop .entries) (c .loop .counts)
 
 add-end : tie.Need-add-end Inv-loop μ-loop
 add-end c = let p = c .before .before .before .pre in record { fits = omega (arith, p .inside, p .standing .accepted .few) }
@@ -31,19 +31,19 @@ loop-holds c = let a = c .before .before .before .args in sending-start (lent-of
 
 send-one-requires : tie.Need-send-one-requires Inv-loop μ-loop
 send-one-requires c κs =
-    let a = c .before .before .before .before .before .before .before .before .before .args in
-    sending-ready (lent-of (c .before .before .before .before .before .before .before .before .before)) (now (a .words)) (a .weight) (a .many) (a .first) (c .before .before .before .before .before .before .before .before .before .pre) (lent-here (c .before .before .before .before .before)) (c .before .before .before .before .before .loop .l) (c .before .before .before .before .before .loop .inv) (omega (arith, c .before .before .before .before .loop-test .taken))
+    let a = c .before .before .before .before .before .before .before .before .before .before .before .args in
+    sending-ready (lent-of (c .before .before .before .before .before .before .before .before .before .before .before)) (now (a .words)) (a .weight) (a .many) (a .first) (c .before .before .before .before .before .before .before .before .before .before .before .pre) (lent-here (c .before .before .before .before .before .before .before)) (c .before .before .before .before .before .before .before .loop .l) (c .before .before .before .before .before .before .before .loop .inv) (omega (arith, c .before .before .before .before .before .before .loop-test .taken))
 
 add-l : tie.Need-add-l Inv-loop μ-loop
-add-l c = let p = c .before .before .before .before .before .before .before .before .before .before .before .before .before .before .before .before .pre in record { fits = omega (arith, p .inside, p .standing .accepted .few, c .before .before .before .before .before .before .before .before .before .before .before .loop-test .taken) }
+add-l c = let p = c .before .before .before .before .before .before .before .before .before .before .before .before .before .before .before .before .before .before .pre in record { fits = omega (arith, p .inside, p .standing .accepted .few, c .before .before .before .before .before .before .before .before .before .before .before .before .before .loop-test .taken) }
 
 loop-less : tie.Need-loop-less Inv-loop μ-loop
-loop-less c = omega (arith, c .before .before .before .before .before .before .before .before .before .before .before .loop-test .taken)
+loop-less c = omega (arith, c .before .before .before .before .before .before .before .before .before .before .before .before .before .loop-test .taken)
 
 loop-again : tie.Need-loop-again Inv-loop μ-loop
 loop-again c =
-    let a = c .before .before .before .before .before .before .before .before .before .before .before .before .before .before .before .before .args in
-    sending-on (lent-of (c .before .before .before .before .before .before .before .before .before .before .before .before .before .before .before .before)) (now (a .words)) (a .weight) (a .many) (a .first) (c .before .before .before .before .before .before .before .before .before .before .before .before .before .before .before .before .pre) (lent-here (c .before .before .before .before .before .before .before .before .before .before .before .before)) (c .before .before .before .before .before .before .before .before .before .before .before .before .loop .l) (c .before .before .before .before .before .before .before .before .before .before .before .before .loop .inv) (omega (arith, c .before .before .before .before .before .before .before .before .before .before .before .loop-test .taken)) _
+    let a = c .before .before .before .before .before .before .before .before .before .before .before .before .before .before .before .before .before .before .args in
+    sending-on (lent-of (c .before .before .before .before .before .before .before .before .before .before .before .before .before .before .before .before .before .before)) (now (a .words)) (a .weight) (a .many) (a .first) (c .before .before .before .before .before .before .before .before .before .before .before .before .before .before .before .before .before .before .pre) (lent-here (c .before .before .before .before .before .before .before .before .before .before .before .before .before .before)) (c .before .before .before .before .before .before .before .before .before .before .before .before .before .before .loop .l) (c .before .before .before .before .before .before .before .before .before .before .before .before .before .before .loop .inv) (omega (arith, c .before .before .before .before .before .before .before .before .before .before .before .before .before .loop-test .taken)) _
     (c .before .before .before .before .before .before .send-one .ensures .0) (c .before .before .before .before .before .before .send-one .ensures .1)
 
 same-length : tie.Need-same-length Inv-loop μ-loop

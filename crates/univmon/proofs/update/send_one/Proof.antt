@@ -3,13 +3,15 @@
 use Prim.Native.Nat.{_≤_}
 use mathlib.Core.Path.{_≡_, sym, ap, _∙_}
 use mathlib.Core.Bool.{false, _&&_}
-use lib.ListN.{length, getD}
+use lib.ListN.{length, getD, set}
 use native.Mathlib.Omega.{arith}
 use borrow.Author.Needs.{needs}
 use denote.Ref.{now}
 use Rattle.header.specs.Header.{withLayer}
-use Rattle.univmon.specs.Slices.{lent, view, Lent}
-use Rattle.univmon.proofs.Offsets.{cand-off, seats-few}
+use Rattle.univmon.specs.Slices.{lent, headOf, view, Lent}
+use Rattle.univmon.specs.Calls.{left}
+use Rattle.univmon.proofs.Offsets.{norm-off, cand-off, rows-few, seats-few}
+use Rattle.header.proofs.Steps.{touched-kept, touched-lost}
 use Rattle.layer.specs.Layer.{Layer, layerOf, item, addLayer}
 use Rattle.layer.proofs.Steps.{add-few}
 use Rattle.univmon.specs.State.{dimsAt, layerAt}
@@ -21,7 +23,7 @@ use Rattle.univmon.proofs.update.send_one.Tie as tie
 
 -- the state that is lent, and where its layer stands
 abbrev lent-of : tie.Start → Lent
-lent-of c = lent (c .args .h) (now (c .args .counters)) (now (c .args .norms)) (now (c .args .entries)) (now (c .args .counts))
+lent-of c = lent (headOf (c .args .h) (now (c .args .flags)) (now (c .args .lens))) (now (c .args .counters)) (now (c .args .norms)) (now (c .args .entries)) (now (c .args .counts))
 
 spanned : (c : tie.After-span-of) → let s = c .span-of .result in Spanned (c .before .before .before .before .before .args .h .shape) (c .before .before .before .before .before .args .l) (s .cells) (s .«cells_end») (s .norms) (s .«norms_end») (s .words) (s .«words_end») (s .seats) (s .«seats_end»)
 spanned c = spanned-of (c .before .before .before .before .before .args .h .shape) (c .before .before .before .before .before .args .l) (c .span-of .result) (c .span-of .ensures)
@@ -48,10 +50,10 @@ who-in-requires : tie.Need-who-in-requires
 who-in-requires c κs = let p = c .before .before .before .before .before .before .pre in (omega (arith, p .inside, p .standing .accepted .few), omega (arith, p .inside, p .recorded))
 
 mul-len : tie.Need-mul-len
-mul-len c = let p = c .before .before .before .before .before .before .before .before .pre in let q = p .standing .accepted .few in let i = p .inside in search needs
+mul-len c = let p = c .before .before .before .before .before .before .before .pre in let q = p .standing .accepted .few in let i = p .inside in search needs
 
-array-read-len : tie.Need-array-read-len
-array-read-len c = let p = c .before .before .before .before .before .before .before .before .pre in let q = p .standing .accepted .few in let i = p .inside in search needs
+element-copy-out-len : tie.Need-element-copy-out-len
+element-copy-out-len c = let p = c .before .before .before .before .before .before .before .pre in let q = p .standing .accepted .few in let i = p .inside in search needs
 
 mul-add : tie.Need-mul-add
 mul-add c = let b = cells-ok (c .before .before .before) in search needs
@@ -66,7 +68,9 @@ part-add-end : tie.Need-part-add-end
 part-add-end c = let b = cells-ok (c .before .before .before) in search needs
 
 mul-add-2 : tie.Need-mul-add-2
-mul-add-2 c = let b = norms-ok (c .before .before .before .before) in search needs
+mul-add-2 c =
+    let z = c .before .before .before .before .before .before .before .before .before .pre in
+    record { fits = omega (arith, (spanned (c .before .before .before .before)) .norms, norm-off (c .before .before .before .before .before .before .before .before .before .args .h .shape) (c .before .before .before .before .before .before .before .before .before .args .l), rows-few (c .before .before .before .before .before .before .before .before .before .args .h .shape) (z .standing .accepted) (c .before .before .before .before .before .before .before .before .before .args .l) (omega (arith, z .inside))) }
 
 sub-add-2 : tie.Need-sub-add-2
 sub-add-2 c = let b = norms-ok (c .before .before .before .before) in search needs
@@ -78,7 +82,9 @@ part-add-end-2 : tie.Need-part-add-end-2
 part-add-end-2 c = let b = norms-ok (c .before .before .before .before) in search needs
 
 mul-add-3 : tie.Need-mul-add-3
-mul-add-3 c = let b = words-ok (c .before .before .before .before .before) in search needs
+mul-add-3 c =
+    let z = c .before .before .before .before .before .before .before .before .before .before .pre in
+    record { fits = omega (arith, (spanned (c .before .before .before .before .before)) .words, cand-off (c .before .before .before .before .before .before .before .before .before .before .args .h .shape) (c .before .before .before .before .before .before .before .before .before .before .args .l), seats-few (c .before .before .before .before .before .before .before .before .before .before .args .h .shape) (z .standing .accepted) (c .before .before .before .before .before .before .before .before .before .before .args .l) (omega (arith, z .inside))) }
 
 sub-add-3 : tie.Need-sub-add-3
 sub-add-3 c = let b = words-ok (c .before .before .before .before .before) in search needs
@@ -111,11 +117,14 @@ add-requires c κs =
 len-after-requires : tie.Need-len-after-requires
 len-after-requires c κs = let z = c .before .before .before .before .before .before .before .before .before .before .before .before .before .before .before .before .before .before .before .pre .standing in omega (arith, z .lens (c .before .before .before .before .before .before .before .before .before .before .before .before .before .before .before .before .before .before .before .args .l) (c .before .before .before .before .before .before .before .before .before .before .before .before .before .before .before .before .before .before .before .pre .inside), z .accepted .small)
 
+mul-lens : tie.Need-mul-lens
+mul-lens c = let p = c .before .before .before .before .before .before .before .before .before .before .before .before .before .before .before .before .before .before .before .before .pre in let q = p .standing .accepted .few in let i = p .inside in search needs
+
+element-write-lens : tie.Need-element-write-lens
+element-write-lens c = let p = c .before .before .before .before .before .before .before .before .before .before .before .before .before .before .before .before .before .before .before .before .pre in let q = p .standing .accepted .few in let i = p .inside in search needs
+
 kept-requires : tie.Need-kept-requires
 kept-requires c κs = search needs
-
-touched-requires : tie.Need-touched-requires
-touched-requires c κs = let p = c .before .before .before .before .before .before .before .before .before .before .before .before .before .before .before .before .before .before .before .before .before .pre in omega (arith, p .inside, p .standing .accepted .few)
 
 same-length : tie.Need-same-length
 same-length c = search needs
@@ -135,21 +144,31 @@ back : (c : tie.After-counts) → let s = c .before .before .before .before .bef
 back c = record { cells = c .before .before .before .before .before .counters .given .0; norms = c .before .before .before .before .norms .given .0; words = c .before .before .entries .given .0; seats = c .counts .given .0 }
 
 -- the layer as it came back
-layer-now : (c : tie.After-add) → let a = c .before .before .before .before .before .before .before .before .before .before .before .before .before .args in let l = c .add .last in let f = getD (a .h .flags) (a .l) false in
-    layerOf (dimsAt (a .h .shape) (a .l)) (l .0) (l .1 .0) (l .1 .1 .0) (l .1 .1 .1 .0) (lenBy (c .add .result) (getD (a .h .lens) (a .l) 0)) (f && keptBy (c .add .result))
+layer-now : (c : tie.After-add) → let a = c .before .before .before .before .before .before .before .before .before .before .before .before .before .args in let l = c .add .last in let f = getD (now (a .flags)) (a .l) false in
+    layerOf (dimsAt (a .h .shape) (a .l)) (l .0) (l .1 .0) (l .1 .1 .0) (l .1 .1 .1 .0) (lenBy (c .add .result) (getD (now (a .lens)) (a .l) 0)) (f && keptBy (c .add .result))
     ≡ addLayer (dimsAt (a .h .shape) (a .l)) (item (whoAt (now (a .words)) (a .l)) (a .weight)) (layerAt (view (lent-of (c .before .before .before .before .before .before .before .before .before .before .before .before .before))) (a .l))
 layer-now c =
     let a = c .before .before .before .before .before .before .before .before .before .before .before .before .before .args in
-    rw (c .before .before .before .before .before .before .before .dims .ensures, c .before .before .before .before .before .before .who-in .ensures) at (c .add .ensures (getD (a .h .flags) (a .l) false))
+    rw (c .before .before .before .before .before .before .before .dims .ensures, c .before .before .before .before .before .before .who-in .ensures) at (c .add .ensures (getD (now (a .flags)) (a .l) false))
     ∙ ap (addLayer (dimsAt (a .h .shape) (a .l)) (item (whoAt (now (a .words)) (a .l)) (a .weight))) (sym (handed-is (lent-of (c .before .before .before .before .before .before .before .before .before .before .before .before .before)) (c .before .before .before .before .before .before .before .before .before .before .before .before .before .pre .standing) (a .l) (c .before .before .before .before .before .before .before .before .before .before .before .before .before .pre .inside) _ _ _ _ _ _ _ _ (spanned (c .before .before .before .before .before .before .before .before))))
 
--- the header as it is handed back
-header-now : (c : tie.After-touched) → let a = c .before .before .before .before .before .before .before .before .before .before .before .before .before .before .before .before .before .before .before .before .before .before .args in
-    c .touched .result ≡ withLayer (a .h) (a .l) (getD (a .h .flags) (a .l) false && keptBy (c .before .before .before .before .before .before .before .before .before .add .result)) (lenBy (c .before .before .before .before .before .before .before .before .before .add .result) (getD (a .h .lens) (a .l) 0))
-header-now c = rw (c .before .before .len-after .ensures, c .before .kept .ensures) at (c .touched .ensures)
+-- flags and lengths as they are handed back
+after-kept : (c : tie.Then1) → let a = c .before .before .before .before .before .before .before .before .before .before .before .before .before .before .before .before .before .before .before .before .before .before .args in let h = headOf (a .h) (now (a .flags)) (now (a .lens)) in
+    headOf (a .h) (now (a .flags)) (set (now (a .lens)) (a .l) (c .before .before .len-after .result))
+    ≡ withLayer h (a .l) (getD (now (a .flags)) (a .l) false && keptBy (c .before .before .before .before .before .before .before .before .before .add .result)) (lenBy (c .before .before .before .before .before .before .before .before .before .add .result) (getD (now (a .lens)) (a .l) 0))
+after-kept c =
+    let a = c .before .before .before .before .before .before .before .before .before .before .before .before .before .before .before .before .before .before .before .before .before .before .args in
+    rw (c .before .before .len-after .ensures) (touched-kept (headOf (a .h) (now (a .flags)) (now (a .lens))) (a .l) _ (keptBy (c .before .before .before .before .before .before .before .before .before .add .result)) (sym (c .before .kept .ensures) ∙ c .if1 .taken))
+
+after-lost : (c : tie.Else1) → let a = c .before .before .before .before .before .before .before .before .before .before .before .before .before .before .before .before .before .before .before .before .before .before .args in let h = headOf (a .h) (now (a .flags)) (now (a .lens)) in
+    headOf (a .h) (set (now (a .flags)) (a .l) false) (set (now (a .lens)) (a .l) (c .before .before .len-after .result))
+    ≡ withLayer h (a .l) (getD (now (a .flags)) (a .l) false && keptBy (c .before .before .before .before .before .before .before .before .before .add .result)) (lenBy (c .before .before .before .before .before .before .before .before .before .add .result) (getD (now (a .lens)) (a .l) 0))
+after-lost c =
+    let a = c .before .before .before .before .before .before .before .before .before .before .before .before .before .before .before .before .before .before .before .before .before .before .args in
+    rw (c .before .before .len-after .ensures) (touched-lost (headOf (a .h) (now (a .flags)) (now (a .lens))) (a .l) _ (keptBy (c .before .before .before .before .before .before .before .before .before .add .result)) (sym (c .before .kept .ensures) ∙ c .if1 .left))
 
 -- no more candidates than seats
-few : (c : tie.After-add) → lenBy (c .add .result) (getD (c .before .before .before .before .before .before .before .before .before .before .before .before .before .args .h .lens) (c .before .before .before .before .before .before .before .before .before .before .before .before .before .args .l) 0) ≤ dimsAt (c .before .before .before .before .before .before .before .before .before .before .before .before .before .args .h .shape) (c .before .before .before .before .before .before .before .before .before .before .before .before .before .args .l) .size
+few : (c : tie.After-add) → lenBy (c .add .result) (getD (now (c .before .before .before .before .before .before .before .before .before .before .before .before .before .args .lens)) (c .before .before .before .before .before .before .before .before .before .before .before .before .before .args .l) 0) ≤ dimsAt (c .before .before .before .before .before .before .before .before .before .before .before .before .before .args .h .shape) (c .before .before .before .before .before .before .before .before .before .before .before .before .before .args .l) .size
 unfolding layerAt view
 few c =
     let a = c .before .before .before .before .before .before .before .before .before .before .before .before .before .args in
@@ -160,9 +179,32 @@ returns : tie.Need-returns
 returns c =
     let a = c .before .before .before .before .before .before .before .before .before .before .before .before .before .before .before .before .before .before .before .before .before .before .args in
     let r = lent-of (c .before .before .before .before .before .before .before .before .before .before .before .before .before .before .before .before .before .before .before .before .before .before) in (
-      rw (header-now c) (back-view r (c .before .before .before .before .before .before .before .before .before .before .before .before .before .before .before .before .before .before .before .before .before .before .pre .standing) (a .l) (c .before .before .before .before .before .before .before .before .before .before .before .before .before .before .before .before .before .before .before .before .before .before .pre .inside) _ _ _ _ _ _ _ _ (spanned (c .before .before .before .before .before .before .before .before .before .before .before .before .before .before .before .before .before)) _ _ _ _ _ _ _ (back (c .before .before .before)) (layer-now (c .before .before .before .before .before .before .before .before .before))),
-      rw (header-now c) (back-standing r (c .before .before .before .before .before .before .before .before .before .before .before .before .before .before .before .before .before .before .before .before .before .before .pre .standing) (a .l) (c .before .before .before .before .before .before .before .before .before .before .before .before .before .before .before .before .before .before .before .before .before .before .pre .inside) _ _ _ _ _ _ _ _ (spanned (c .before .before .before .before .before .before .before .before .before .before .before .before .before .before .before .before .before)) _ _ _ _ _ _ (back (c .before .before .before)) (few (c .before .before .before .before .before .before .before .before .before))),
+      rw (after-kept c) (back-view r (c .before .before .before .before .before .before .before .before .before .before .before .before .before .before .before .before .before .before .before .before .before .before .pre .standing) (a .l) (c .before .before .before .before .before .before .before .before .before .before .before .before .before .before .before .before .before .before .before .before .before .before .pre .inside) _ _ _ _ _ _ _ _ (spanned (c .before .before .before .before .before .before .before .before .before .before .before .before .before .before .before .before .before)) _ _ _ _ _ _ _ (back (c .before .before .before)) (layer-now (c .before .before .before .before .before .before .before .before .before))),
+      rw (after-kept c) (back-standing r (c .before .before .before .before .before .before .before .before .before .before .before .before .before .before .before .before .before .before .before .before .before .before .pre .standing) (a .l) (c .before .before .before .before .before .before .before .before .before .before .before .before .before .before .before .before .before .before .before .before .before .before .pre .inside) _ _ _ _ _ _ _ _ (spanned (c .before .before .before .before .before .before .before .before .before .before .before .before .before .before .before .before .before)) _ _ _ _ _ _ (back (c .before .before .before)) (few (c .before .before .before .before .before .before .before .before .before))),
+    )
+
+element-write-flags : tie.Need-element-write-flags
+element-write-flags c = let p = c .before .before .before .before .before .before .before .before .before .before .before .before .before .before .before .before .before .before .before .before .before .before .pre in let q = p .standing .accepted .few in let i = p .inside in search needs
+
+same-length-5 : tie.Need-same-length-5
+same-length-5 c = search needs
+
+same-length-6 : tie.Need-same-length-6
+same-length-6 c = search needs
+
+same-length-7 : tie.Need-same-length-7
+same-length-7 c = search needs
+
+same-length-8 : tie.Need-same-length-8
+same-length-8 c = search needs
+
+returns-2 : tie.Need-returns-2
+returns-2 c =
+    let a = c .before .before .before .before .before .before .before .before .before .before .before .before .before .before .before .before .before .before .before .before .before .before .args in
+    let r = lent-of (c .before .before .before .before .before .before .before .before .before .before .before .before .before .before .before .before .before .before .before .before .before .before) in (
+      rw (after-lost c) (back-view r (c .before .before .before .before .before .before .before .before .before .before .before .before .before .before .before .before .before .before .before .before .before .before .pre .standing) (a .l) (c .before .before .before .before .before .before .before .before .before .before .before .before .before .before .before .before .before .before .before .before .before .before .pre .inside) _ _ _ _ _ _ _ _ (spanned (c .before .before .before .before .before .before .before .before .before .before .before .before .before .before .before .before .before)) _ _ _ _ _ _ _ (back (c .before .before .before)) (layer-now (c .before .before .before .before .before .before .before .before .before))),
+      rw (after-lost c) (back-standing r (c .before .before .before .before .before .before .before .before .before .before .before .before .before .before .before .before .before .before .before .before .before .before .pre .standing) (a .l) (c .before .before .before .before .before .before .before .before .before .before .before .before .before .before .before .before .before .before .before .before .before .before .pre .inside) _ _ _ _ _ _ _ _ (spanned (c .before .before .before .before .before .before .before .before .before .before .before .before .before .before .before .before .before)) _ _ _ _ _ _ (back (c .before .before .before)) (few (c .before .before .before .before .before .before .before .before .before))),
     )
 
 pub send-one-spec : {M : Type 1} → statement M
-send-one-spec = tie.close (tie.spec span-of-requires dims-requires who-in-requires mul-len array-read-len mul-add sub-add part-add-start part-add-end mul-add-2 sub-add-2 part-add-start-2 part-add-end-2 mul-add-3 sub-add-3 part-add-start-3 part-add-end-3 mul-add-4 sub-add-4 part-add-start-4 part-add-end-4 add-requires len-after-requires kept-requires touched-requires same-length same-length-2 same-length-3 same-length-4 returns)
+send-one-spec = tie.close (tie.spec span-of-requires dims-requires who-in-requires mul-len element-copy-out-len mul-add sub-add part-add-start part-add-end mul-add-2 sub-add-2 part-add-start-2 part-add-end-2 mul-add-3 sub-add-3 part-add-start-3 part-add-end-3 mul-add-4 sub-add-4 part-add-start-4 part-add-end-4 add-requires len-after-requires mul-lens element-write-lens kept-requires same-length same-length-2 same-length-3 same-length-4 returns element-write-flags same-length-5 same-length-6 same-length-7 same-length-8 returns-2)
