@@ -442,6 +442,10 @@ for run in range(16):
         merge(1, 6)
         fresh(6, heap, rows, cols, layers + 1)
         merge(6, 1)
+        for other in ((heap, rows + 1, cols, layers), (heap, rows, cols + 1, layers)):
+            if not shape_refusal(*other):
+                fresh(6, *other)
+                assert merge(6, 1) == 10 and merge(1, 6) == 10
 
 # a key that two relays know by two records: the first relay's hashes stay
 fresh(1, 4, 2, 4, 2)
