@@ -12,22 +12,19 @@ use lib.Ieee.{Float}
 use borrow.Author.Tests.{eq-eqb, ne-eqb, eqb-true}
 use Rattle.words.specs.Num.{allIn}
 use Rattle.words.specs.Parts.{part}
-use Rattle.words.proofs.Bools.{never, and-left, and-right, both}
+use Rattle.words.proofs.Bools.{never, and-left, and-right}
 use Rattle.countsketch_l2_norm.specs.Norms.{normsOf}
 use Rattle.countsketch_l2_norm.specs.L2 as l2
-use Rattle.countsketch_l2_norm.proofs.Norms.{length-norms}
-use Rattle.heap_moves.proofs.Views.{length-cands}
 use Rattle.header.specs.declared.Header.{Header}
 use Rattle.header.specs.declared.Mode.{Mode}
 use Rattle.header.specs.declared.Mode.the-variants as mode
 use Rattle.header.specs.Header.{headerOk}
-use Rattle.header.proofs.Ranges.{ranged-of, len-few}
+use Rattle.header.proofs.Ranges.{ranged-of}
 use Rattle.layer.specs.Layer.{Layer}
-use Rattle.univmon.specs.State.{State, dimsAt, normOff, candOff, layerAt, allLayers, sizesOk}
-use Rattle.univmon.specs.Slices.{Lent, lentOk, cellsIn, normsIn, candsIn, view}
-use Rattle.univmon.specs.Judged.{unsound}
-use Rattle.univmon.specs.Needs.{Sizes, Standing}
-use Rattle.univmon.proofs.Lengths.{sizes-of}
+use Rattle.univmon.specs.State.{State, dimsAt, normOff, candOff, layerAt, allLayers}
+use Rattle.univmon.specs.Slices.{Lent, lentOk, normsIn, view}
+use Rattle.univmon.specs.Needs.{Standing}
+use Rattle.univmon.proofs.Updating.{sound-of}
 use Rattle.univmon.proofs.Views.{layer-view}
 use Rattle.sums.specs.declared.G.{G}
 use Rattle.sums.specs.Terms.{nought}
@@ -52,14 +49,6 @@ normed-of h ws e =
     record {
       accepted = (ranged-of h (and-left (headerOk h) t e)) .accepted;
       words = eqb-true (length ws) (2 * normsIn (h .shape)) (and-right (headerOk h) t e);
-    }
-
-pub standing-of : (r : Lent) → headerOk (r .head) ≡ true → lentOk r ≡ true → Standing r
-standing-of r e f =
-    record {
-      accepted = (ranged-of (r .head) e) .accepted;
-      sizes = sizes-of (r .head .shape) (length (r .counters)) (length (r .norms)) (length (r .entries)) (length (r .counts)) f;
-      lens = λ m i. len-few (r .head) (ranged-of (r .head) e) m i;
     }
 
 pub normed-in : (r : Lent) → Standing r → Normed (r .head) (r .norms)
@@ -153,16 +142,6 @@ sum-terminal r g every z e = go (r .head .mode) e
 
 -- ---- the whole call
 
-sizes-view : (r : Lent) → Sizes (r .head .shape) (length (r .counters)) (length (r .norms)) (length (r .entries)) (length (r .counts)) → sizesOk (view r) ≡ true
-unfolding sizesOk view
-sizes-view r z =
-    both (both (eq-eqb (length (r .counters)) (cellsIn (r .head .shape)) (z .cells)) (eq-eqb (length (normsOf (r .norms) (normsIn (r .head .shape)))) (normsIn (r .head .shape)) (length-norms (r .norms) (normsIn (r .head .shape)))))
-    (eq-eqb _ (candsIn (r .head .shape)) (length-cands (r .entries) (r .counts) ∙ z .counts))
-
-sound-view : (r : Lent) → headerOk (r .head) ≡ true → lentOk r ≡ true → unsound (view r) ≡ false
-unfolding view
-sound-view r e f = rw (e, sizes-view r (sizes-of (r .head .shape) (length (r .counters)) (length (r .norms)) (length (r .entries)) (length (r .counts)) f))
-
 -- lengths or header are refused
 pub sum-refused : (r : Lent) (g : G) (every : Bool) → headerOk (r .head) && lentOk r ≡ false → refusedBy 9 ≡ sumCall g every r
 unfolding sumCall sumRefusal view
@@ -180,7 +159,7 @@ unfolding sumCall sumRefusal gSumOf
 sum-alone r g every e h =
     let p = and-left (headerOk (r .head)) (lentOk r) e in
     let q = and-right (headerOk (r .head)) (lentOk r) e in
-    sym (rw (q, sound-view r p q, h))
+    sym (rw (q, sound-of r p q, h))
 
 -- what is read decides
 pub sum-goes : (r : Lent) (g : G) (every : Bool) → headerOk (r .head) && lentOk r ≡ true → headerAlone (view r) every ≡ false → sumAnswer g every (view r) ≡ sumCall g every r
@@ -194,8 +173,8 @@ sum-goes r g every e h = go (sumReads (view r)) refl
     q = and-right (headerOk (r .head)) (lentOk r) e
 
     go : (b : Bool) → sumReads (view r) ≡ b → sumAnswer g every (view r) ≡ sumCall g every r
-    go true z = sym (rw (q, sound-view r p q, h, z))
-    go false z = sym (rw (q, sound-view r p q, h, z))
+    go true z = sym (rw (q, sound-of r p q, h, z))
+    go false z = sym (rw (q, sound-of r p q, h, z))
 
 -- what is read was judged
 pub sum-unread : (r : Lent) (g : G) (every : Bool) → sumReads (view r) ≡ false → refusedBy 9 ≡ sumAnswer g every (view r)

@@ -24,7 +24,7 @@ use Rattle.header.specs.declared.Mode.the-variants as mode
 use Rattle.layer.specs.declared.Dims.{Dims}
 use Rattle.layer.specs.Layer.{Layer, layerOf}
 use Rattle.layer.specs.Merge.{whos}
-use Rattle.univmon.specs.State.{State, dimsAt, normOff, candOff, layerAt, allLayers}
+use Rattle.univmon.specs.State.{dimsAt, normOff, candOff, layerAt, allLayers}
 use Rattle.univmon.specs.Slices.{Lent, normsIn, view}
 use Rattle.univmon.specs.Needs.{Standing}
 use Rattle.univmon.proofs.Views.{layer-view, norms-part}
@@ -34,7 +34,7 @@ use Rattle.estimates.specs.Anew.{whosFrom, Readable}
 use Rattle.estimates.specs.Calls.{normState}
 use Rattle.estimates.specs.Slices.{cellsAt, normsAt, wordsAt, lenAt, ownIn, Counted}
 use Rattle.estimates.proofs.Places.{readable, listed-whos}
-use Rattle.estimates.proofs.Spans.{shaped-at, cells-long, words-long, norms-within}
+use Rattle.estimates.proofs.Spans.{shaped-at, cells-long, words-long, norm-end}
 
 -- ---- who stands in a table
 
@@ -71,14 +71,6 @@ reads-view r l t z i = sym (ap (layerReads t (dimsAt (r .head .shape) l)) (layer
 
 -- ---- a scan of the layers
 
-pub layers-step : (p : ℕ → Layer → Bool) (s : State) (k l : ℕ) → allLayers p (suc k) l s ≡ p l (layerAt s l) && allLayers p k (suc l) s
-unfolding allLayers
-layers-step p s k l = refl
-
-pub layers-none : (p : ℕ → Layer → Bool) (s : State) (l : ℕ) → allLayers p 0 l s ≡ true
-unfolding allLayers
-layers-none p s l = refl
-
 -- of their norms, where the norms alone are lent
 abbrev pub normsScan : Header → List ℕ → ℕ → ℕ → Bool
 normsScan h ws k l = allLayers (λ m y. l2.normsIn (dimsAt (h .shape) m .cols) (y .sketch .norms)) k l (normState h ws)
@@ -107,7 +99,7 @@ flag-is r l = refl
 -- the norms of a state of which the norms alone are lent
 pub norms-are : (h : Header) (ws : List ℕ) (l : ℕ) → l < h .shape .layers → layerAt (normState h ws) l .sketch .norms ≡ normsAt h ws l
 unfolding layerAt
-norms-are h ws l i = sym (norms-part (normOff (h .shape) l) (dimsAt (h .shape) l .rows) (normsIn (h .shape)) ws (norms-within (h .shape) l i))
+norms-are h ws l i = sym (norms-part (normOff (h .shape) l) (dimsAt (h .shape) l .rows) (normsIn (h .shape)) ws (norm-end (h .shape) l i))
 
 -- ---- what a layer's estimates need
 

@@ -38,7 +38,7 @@ cell-end : (sh : Shape) (l : ℕ) → l < sh .layers → cellOff sh l + dimsAt s
 unfolding cellOff
 cell-end sh l h = off-step (λ m. dimsAt sh m .rows * dimsAt sh m .cols) l (sh .layers) h
 
-norm-end : (sh : Shape) (l : ℕ) → l < sh .layers → normOff sh l + dimsAt sh l .rows ≤ normsIn sh
+pub norm-end : (sh : Shape) (l : ℕ) → l < sh .layers → normOff sh l + dimsAt sh l .rows ≤ normsIn sh
 unfolding normOff
 norm-end sh l h = off-step (λ m. dimsAt sh m .rows) l (sh .layers) h
 
@@ -55,9 +55,6 @@ words-long h es l q i = length-part (4 * candOff (h .shape) l) (4 * dimsAt (h .s
 
 pub seats-long : (h : Header) (ns : List ℤ) (l : ℕ) → length ns ≡ candsIn (h .shape) → l < h .shape .layers → length (part (candOff (h .shape) l) (dimsAt (h .shape) l .size) ns) ≡ dimsAt (h .shape) l .size
 seats-long h ns l q i = length-part (candOff (h .shape) l) (dimsAt (h .shape) l .size) ns (omega (arith, q, cand-end (h .shape) l i))
-
-pub norms-within : (sh : Shape) (l : ℕ) → l < sh .layers → normOff sh l + dimsAt sh l .rows ≤ normsIn sh
-norms-within sh l i = norm-end sh l i
 
 -- where layer l's parts begin and end
 module _ (h : Header) (l : ℕ) (s : Span) (e : s ≡ spanOf (h .shape) l) (i : l < h .shape .layers) where

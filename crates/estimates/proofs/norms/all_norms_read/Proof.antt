@@ -12,7 +12,8 @@ use Rattle.layer.specs.Layer.{Layer}
 use Rattle.univmon.specs.State.{dimsAt}
 use Rattle.univmon.specs.Slices.{normsIn}
 use Rattle.estimates.specs.Calls.{normState, allNormsRead}
-use Rattle.estimates.proofs.Layers.{layers-step, layers-none, normsScan}
+use Rattle.univmon.proofs.Judging.{layers-step, layers-none}
+use Rattle.estimates.proofs.Layers.{normsScan}
 use Rattle.countsketch_l2_norm.specs.L2 as norm
 use Rattle.header.specs.declared.Header.{Header}
 use Rattle.estimates.proofs.norms.all_norms_read.Statement.{statement}
