@@ -3,10 +3,11 @@
 //
 // These functions are called by the other crates of this repository, which show what they require.
 mod order;
+mod parts;
 mod step;
 
 pub use order::absorb_one;
-pub use order::rank;
+pub use parts::rank;
 pub use step::close;
 use sums::G;
 
