@@ -2,6 +2,7 @@
 // bottom hash and count. Candidates are taken in, put in order, cut and summed.
 //
 // These functions are called by the other crates of this repository, which show what they require.
+mod blocks;
 mod order;
 mod parts;
 mod step;
