@@ -2,3 +2,4 @@ pub mod Bottoms
 pub mod Refusals
 pub mod Steps
 pub mod Ranges
+pub mod Sweeps

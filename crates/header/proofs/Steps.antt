@@ -1,17 +1,22 @@
 -- The header's own steps: flags, lengths, the tests of a weight. Assumes nothing.
 use mathlib.Core.Path.{_≡_, refl, sym, ap, _∙_}
-use mathlib.Core.Bool.{Bool, true, false, _&&_}
+use mathlib.Core.Bool.{Bool, true, false, not, _&&_}
 use mathlib.Core.List.{List, _∷_, _++_}
-use Prim.Native.Nat.{ℕ, zero, suc, _+_, _-_, _<_}
+use Prim.Native.Nat.{ℕ, zero, suc, _+_, _-_, _≤_, _<_}
 use native.Mathlib.Omega.{arith}
-use borrow.Author.Tests.{ltb-true}
+use native.Mathlib.Nat.{zero-add}
+use borrow.Author.Tests.{ltb-true, lt-ltb, le-ltb}
 use lib.ListN.{length, getD, set, replicate}
 use lib.Seq.{set-getD}
 use lib.IntN.{ℤ, pos, negsuc}
 use lib.Signed.{ltZ, nonNeg}
+use lib.Dec.{eqb, leb}
 use Rattle.words.proofs.Bools.{never}
-use Rattle.header.specs.Header.{withFlags, withLens, withLayer, layerOk, lensFrom}
+use Rattle.header.proofs.Sweeps.{and-assoc}
+use Rattle.header.specs.Header.{withFlags, withLens, withLayer, headOf, begun, begunFixed, layerOk, lensFrom}
 use Rattle.header.specs.declared.Header.{Header}
+use Rattle.header.specs.declared.Fixed.{Fixed}
+use Rattle.header.specs.declared.Mode.{Mode}
 
 -- ---- signs of a weight
 
@@ -22,6 +27,11 @@ weight-negative (negsuc n) e = refl
 pub weight-positive : (z : ℤ) → ltZ z (pos 0) ≡ false → nonNeg z ≡ true
 weight-positive (pos n) e = refl
 weight-positive (negsuc n) e = absurd (never (sym e))
+
+-- ---- a begun header, with and without its lengths and flags
+
+pub begun-head : (f : Fixed) (w : ℕ) (m : Mode) (fs : List Bool) (ns : List ℕ) → headOf (begunFixed f w m) fs ns ≡ begun (headOf f fs ns) w m
+begun-head f w m fs ns = refl
 
 -- ---- a layer's flag and length
 
@@ -69,3 +79,25 @@ lens-step layers size lens flags k l = refl
 pub lens-none : (layers size : ℕ) (lens : List ℕ) (flags : List Bool) (l : ℕ) → lensFrom layers size lens flags 0 l ≡ true
 unfolding lensFrom
 lens-none layers size lens flags l = refl
+
+-- the test of a layer, and of a place past the last
+pub len-in : (layers size : ℕ) (lens : List ℕ) (flags : List Bool) (k l : ℕ) → l < layers
+    → lensFrom layers size lens flags (suc k) l ≡ leb (getD lens l 0) size && lensFrom layers size lens flags k (suc l)
+unfolding lensFrom
+len-in layers size lens flags k l h = rw (lt-ltb l layers h)
+
+pub len-past : (layers size : ℕ) (lens : List ℕ) (flags : List Bool) (k l : ℕ) → layers ≤ l
+    → lensFrom layers size lens flags (suc k) l ≡ eqb (getD lens l 0) 0 && not (getD flags l false) && lensFrom layers size lens flags k (suc l)
+unfolding lensFrom
+len-past layers size lens flags k l h = rw (le-ltb l layers h)
+
+-- the test of two runs of places, one behind the other
+pub lens-split : (layers size : ℕ) (lens : List ℕ) (flags : List Bool) (a b l : ℕ)
+    → lensFrom layers size lens flags (a + b) l ≡ lensFrom layers size lens flags a l && lensFrom layers size lens flags b (a + l)
+lens-split layers size lens flags zero b l = rw (zero-add b, zero-add l, lens-none layers size lens flags l)
+lens-split layers size lens flags (suc a) b l =
+    let p : suc a + b ≡ suc (a + b) = omega arith in
+    let q : suc a + l ≡ a + suc l = omega arith in
+    let t = layerOk l layers size (getD lens l 0) (getD flags l false) in
+    rw (p, q, lens-step layers size lens flags (a + b) l, lens-step layers size lens flags a l, lens-split layers size lens flags a b (suc l))
+    (sym (and-assoc t (lensFrom layers size lens flags a (suc l)) (lensFrom layers size lens flags b (a + suc l))))

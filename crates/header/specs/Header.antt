@@ -12,7 +12,8 @@ use Rattle.header.specs.declared.Shape.{Shape}
 use Rattle.header.specs.declared.Mode.{Mode}
 use Rattle.header.specs.declared.Mode.the-variants as mode
 use Rattle.header.specs.declared.Header.{Header}
-use Rattle.header.specs.declared.Answered.{Answered}
+use Rattle.header.specs.declared.Fixed.{Fixed}
+use Rattle.header.specs.declared.Begun.{Begun}
 
 -- ---- headers from nothing
 
@@ -52,6 +53,14 @@ withLens h ns = record { shape = h .shape; weight = h .weight; mode = h .mode; f
 abbrev pub withLayer : Header → ℕ → Bool → ℕ → Header
 withLayer h l b n = withLens (withFlags h (set (h .flags) l b)) (set (h .lens) l n)
 
+-- the header of what is lent beside lengths and flags
+abbrev pub headOf : Fixed → List Bool → List ℕ → Header
+headOf f fs ns = record { shape = f .shape; weight = f .weight; mode = f .mode; flags = fs; lens = ns }
+
+-- and what is left without them
+abbrev pub fixedOf : Header → Fixed
+fixedOf h = record { shape = h .shape; weight = h .weight; mode = h .mode }
+
 -- ---- modes
 
 -- "mode mixed in update or merge"
@@ -79,12 +88,16 @@ settled m = joined m mode.Standard
 abbrev pub begun : Header → ℕ → Mode → Header
 begun h w m = withMode (withWeight h (h .weight + w)) (joined (h .mode) m)
 
-unfoldable pub beginOf : Header → ℤ → Mode → Answered
-beginOf h w m =
-    cond (not (nonNeg w)) (record { refusal = 5; header = h })
-    (cond (clash (h .mode) m) (record { refusal = 6; header = h })
-    (cond (not (leb (h .weight + natAbs w) top)) (record { refusal = 7; header = h })
-    (record { refusal = 0; header = begun h (natAbs w) m })))
+-- the same of what no layer's step changes
+abbrev pub begunFixed : Fixed → ℕ → Mode → Fixed
+begunFixed f w m = record { shape = f .shape; weight = f .weight + w; mode = joined (f .mode) m }
+
+unfoldable pub beginOf : Fixed → ℤ → Mode → Begun
+beginOf f w m =
+    cond (not (nonNeg w)) (record { refusal = 5; fixed = f })
+    (cond (clash (f .mode) m) (record { refusal = 6; fixed = f })
+    (cond (not (leb (f .weight + natAbs w) top)) (record { refusal = 7; fixed = f })
+    (record { refusal = 0; fixed = begunFixed f (natAbs w) m })))
 
 -- ---- "A header is in range if `new` accepts its dimensions, its weight is 0 to 2^52, each length is at most the heap size, and past the last layer
 -- lengths are 0 and flags false."

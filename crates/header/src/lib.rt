@@ -1,9 +1,11 @@
 // Shapes, modes and headers: what a state is beside its slices, and the header's own steps.
 ghost use mathlib.Core.Path.{_≡_};
 ghost use mathlib.Core.Bool.{Bool, true, false, _&&_};
-ghost use Prim.Native.Nat.{ℕ, _+_, _<_, _≤_};
-ghost use lib.ListN.{getD, set, replicate};
+ghost use mathlib.Core.List.{List};
+ghost use Prim.Native.Nat.{ℕ, _+_, _-_, _<_, _≤_};
+ghost use lib.ListN.{length, getD, set, replicate};
 ghost use Rattle.words.specs.Num.{top};
+ghost use Rattle.header.specs.declared.Mode.{Mode};
 ghost use Rattle.header.specs.Shape.{shapeRefusal, checkedShape, bottomOf, bottomLayer};
 ghost use Rattle.header.specs.Header.{
   zeroHeader,
@@ -13,12 +15,13 @@ ghost use Rattle.header.specs.Header.{
   withFlags,
   withLens,
   withLayer,
+  headOf,
+  fixedOf,
   clash,
   joined,
   settled,
   beginOf,
   freshFlags,
-  layerOk,
   lensFrom,
   headerOk,
 };
@@ -62,10 +65,24 @@ pub struct Header {
     pub mode: Mode,
 }
 
+// What of a header no layer's step changes. It goes beside lengths and flags, which are lent: a header
+// by value would be copied at each call.
+pub struct Fixed {
+    pub shape: Shape,
+    pub weight: u64,
+    pub mode: Mode,
+}
+
 // What a call on a header answers: a refusal and the header as it was, or 0 and the new header.
 pub struct Answered {
     pub refusal: u64,
     pub header: Header,
+}
+
+// The same where lengths and flags are lent.
+pub struct Begun {
+    pub refusal: u64,
+    pub fixed: Fixed,
 }
 
 impl Shape {
@@ -233,6 +250,19 @@ impl Header {
         }
     }
 
+    // What is left without lengths and flags.
+    pub fn fixed(self) -> Fixed
+        ensures { λ r. ⌜ r ≡ fixedOf self ⌝ }
+    {
+        let shape = self.shape;
+        let mode = self.mode;
+        Fixed {
+            shape,
+            weight: self.weight,
+            mode,
+        }
+    }
+
     pub fn with_weight(mut self, weight: u64) -> Self
         ensures { λ r. ⌜ r ≡ withWeight self weight ⌝ }
     {
@@ -293,50 +323,50 @@ impl Header {
         self
     }
 
-    // Weight and mode of an update: 5, 6 or 7, or the header that it begins with.
-    pub fn begin_update(self, weight: i64, mode: Mode) -> Answered
-        requires { ⌜ self .weight ≤ top ⌝ }
-        ensures { λ r. ⌜ r ≡ beginOf self weight mode ⌝ }
-    {
-        if weight < 0 {
-            return Answered {
-                refusal: 5,
-                header: self,
-            };
-        }
-        let had = self.mode;
-        if clashes(had, mode) {
-            return Answered {
-                refusal: 6,
-                header: self,
-            };
-        }
-        let w = weight as u64;
-        if TOP - self.weight < w {
-            return Answered {
-                refusal: 7,
-                header: self,
-            };
-        }
-        let sum = self.weight + w;
-        let header = self.with_weight(sum).with_mode(join(had, mode));
-        Answered { refusal: 0, header }
-    }
-
     // Whether dimensions, weight, lengths and flags are in range.
     pub fn in_range(self) -> bool
         ensures { λ r. ⌜ r ≡ headerOk self ⌝ }
     {
-        let shape = self.shape;
-        if shape.refusal() != 0 {
-            return false;
-        }
-        if TOP < self.weight {
-            return false;
-        }
         let lens = self.lens;
         let flags = self.flags;
-        lens_in_range(shape.layers, shape.heap_size, &lens, &flags)
+        fields_in_range(self.shape, self.weight, &lens, &flags)
+    }
+}
+
+impl Fixed {
+    // Weight and mode of an update: 5, 6 or 7, or what the update begins with.
+    pub fn begin_update(self, weight: i64, mode: Mode) -> Begun
+        requires { ⌜ self .weight ≤ top ⌝ }
+        ensures { λ r. ⌜ r ≡ beginOf self weight mode ⌝ }
+    {
+        if weight < 0 {
+            return Begun {
+                refusal: 5,
+                fixed: self,
+            };
+        }
+        let had = self.mode;
+        if clashes(had, mode) {
+            return Begun {
+                refusal: 6,
+                fixed: self,
+            };
+        }
+        let w = weight as u64;
+        if TOP - self.weight < w {
+            return Begun {
+                refusal: 7,
+                fixed: self,
+            };
+        }
+        let sum = self.weight + w;
+        let shape = self.shape;
+        let fixed = Fixed {
+            shape,
+            weight: sum,
+            mode: join(had, mode),
+        };
+        Begun { refusal: 0, fixed }
     }
 }
 
@@ -354,29 +384,49 @@ fn fresh_flags(layers: usize) -> [bool; 19]
     flags
 }
 
-// Whether a layer's length is at most the heap size, or past the last layer its length 0 and its
-// flag false.
-fn layer_in_range(l: usize, layers: usize, heap_size: usize, len: usize, flag: bool) -> bool
-    ensures { λ r. ⌜ r ≡ layerOk l layers «heap_size» len flag ⌝ }
-{
-    if l < layers {
-        return len <= heap_size;
-    }
-    if len != 0 {
-        return false;
-    }
-    !flag
-}
+// ---- ranges
 
-fn lens_in_range(layers: usize, heap_size: usize, lens: &[usize; 19], flags: &[bool; 19]) -> bool
-    ensures { λ r. ⌜ r ≡ lensFrom layers «heap_size» (now (lens .entry)) (now (flags .entry)) 19 0 ⌝ }
+// Whether the layers' lengths are at most the heap size. No test ends the loop early: in a header
+// that is right all are looked at, and a sum of tests has no jump.
+fn lens_few(lens: &[usize], layers: usize, heap_size: usize) -> bool
+    requires { ⌜ layers ≤ length (now lens) ⌝ }
+    ensures { λ r. ⌜ ((flags : List Bool) → r ≡ lensFrom layers «heap_size» (now (lens .entry)) flags layers 0) ⌝ }
 {
+    let mut few = true;
     let mut l = 0;
-    while l < 19 {
-        if !layer_in_range(l, layers, heap_size, lens[l], flags[l]) {
-            return false;
-        }
+    while l < layers {
+        few = few & (lens[l] <= heap_size);
         l += 1;
     }
-    true
+    few
+}
+
+// Whether past the last layer lengths are 0 and flags false.
+fn rest_clear(lens: &[usize], flags: &[bool], layers: usize) -> bool
+    requires { ⌜ (layers ≤ 19) × ((length (now lens) ≡ 19) × (length (now flags) ≡ 19)) ⌝ }
+    ensures { λ r. ⌜ ((size : ℕ) → r ≡ lensFrom layers size (now (lens .entry)) (now (flags .entry)) (19 - layers) layers) ⌝ }
+{
+    let mut clear = true;
+    let mut l = layers;
+    while l < 19 {
+        clear = clear & (lens[l] == 0) & !flags[l];
+        l += 1;
+    }
+    clear
+}
+
+// Whether dimensions, weight, lengths and flags are in range; of the mode nothing is asked.
+pub fn fields_in_range(shape: Shape, weight: u64, lens: &[usize], flags: &[bool]) -> bool
+    requires { ⌜ (length (now lens) ≡ 19) × (length (now flags) ≡ 19) ⌝ }
+    ensures { λ r. ⌜ ((m : Mode) → r ≡ headerOk (headOf (record { shape = shape; weight = weight; mode = m }) (now (flags .entry)) (now (lens .entry)))) ⌝ }
+{
+    if shape.refusal() != 0 {
+        return false;
+    }
+    if TOP < weight {
+        return false;
+    }
+    let few = lens_few(lens, shape.layers, shape.heap_size);
+    let clear = rest_clear(lens, flags, shape.layers);
+    few & clear
 }

@@ -21,11 +21,11 @@ layers-none p s l = refl
 
 -- one layer of many
 pub judge-one : (r : Lent) (words : List ℕ) (w many first l : ℕ) → JudgeReady r words w many first → l < many + first → JudgeReady r words w 1 l
-judge-one r words w many first l p h = record { standing = p .standing; recorded = p .recorded; light = p .light; inside = omega (arith, p .inside) }
+judge-one r words w many first l p h = record { standing = p .standing; headed = p .headed; recorded = p .recorded; light = p .light; inside = omega (arith, p .inside) }
 
 -- what is read does not depend on the weight
 pub judge-light : (r : Lent) (words : List ℕ) (w many first : ℕ) → JudgeReady r words w many first → JudgeReady r words 0 many first
-judge-light r words w many first p = record { standing = p .standing; recorded = p .recorded; light = omega arith; inside = p .inside }
+judge-light r words w many first p = record { standing = p .standing; headed = p .headed; recorded = p .recorded; light = omega arith; inside = p .inside }
 
 and-cross : (a b c d : Bool) → a && b && (c && d) ≡ a && c && (b && d)
 and-cross true true true d = refl

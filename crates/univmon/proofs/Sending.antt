@@ -17,7 +17,7 @@ use Rattle.heap_moves.proofs.Views.{length-cands}
 use Rattle.univmon.specs.State.{State, dimsAt, layerAt, putLayer, overLayers, allLayers}
 use Rattle.univmon.specs.Slices.{Lent, view}
 use Rattle.univmon.specs.Updates.{recordLength, whoAt}
-use Rattle.univmon.specs.Needs.{Standing, SendReady, SendsReady, readsAt, fitsAt, addsAt}
+use Rattle.univmon.specs.Needs.{Standing, Headed, SendReady, SendsReady, readsAt, fitsAt, addsAt}
 use Rattle.univmon.proofs.States.{Long, at-fits, all-later}
 
 -- a lent state's lists are as long as its shape's
@@ -29,13 +29,14 @@ pub record Sending (r₀ : Lent) (words : List ℕ) (w many first : ℕ) (r : Le
   pub left : ℕ
   pub all : left + l ≡ many + first
   pub standing : Standing r
+  pub headed : Headed (r .head)
   pub shape : r .head .shape ≡ r₀ .head .shape
   pub read : allLayers (readsAt (r₀ .head .shape) words w) left l (view r) ≡ true
   pub fit : allLayers (fitsAt (r₀ .head .shape) words w) left l (view r) ≡ true
   pub goes : overLayers (addsAt (r₀ .head .shape) words w) left l (view r) ≡ overLayers (addsAt (r₀ .head .shape) words w) many first (view r₀)
 
 pub sending-start : (r : Lent) (words : List ℕ) (w many first : ℕ) → SendsReady r words w many first → Sending r words w many first r first
-sending-start r words w many first p = record { left = many; all = refl; standing = p .standing; shape = refl; read = p .read; fit = p .fit; goes = refl }
+sending-start r words w many first p = record { left = many; all = refl; standing = p .standing; headed = p .headed; shape = refl; read = p .read; fit = p .fit; goes = refl }
 
 module _ (r₀ : Lent) (words : List ℕ) (w many first : ℕ) (p : SendsReady r₀ words w many first) (r : Lent) (l : ℕ) (v : Sending r₀ words w many first r l) (h : l < many + first) where
   inside : l < r .head .shape .layers
@@ -51,6 +52,7 @@ module _ (r₀ : Lent) (words : List ℕ) (w many first : ℕ) (p : SendsReady r
       go (suc n) q a b =
           record {
             standing = v .standing;
+            headed = v .headed;
             recorded = subst (λ (sh : Shape). length words ≡ recordLength (sh .layers)) (sym (v .shape)) (p .recorded);
             light = p .light;
             inside = inside;
@@ -59,9 +61,9 @@ module _ (r₀ : Lent) (words : List ℕ) (w many first : ℕ) (p : SendsReady r
           }
 
   -- the layer was sent to
-  pub sending-on : (t : Lent) → view t ≡ putLayer (view r) l (addLayer (dimsAt (r .head .shape) l) (item (whoAt words l) w) (layerAt (view r) l)) → Standing t → Sending r₀ words w many first t (l + 1)
+  pub sending-on : (t : Lent) → view t ≡ putLayer (view r) l (addLayer (dimsAt (r .head .shape) l) (item (whoAt words l) w) (layerAt (view r) l)) → Standing t → Headed (t .head) → Sending r₀ words w many first t (l + 1)
   unfolding allLayers overLayers putLayer view
-  sending-on t e z = go (v .left) (v .all) (v .read) (v .fit) (v .goes)
+  sending-on t e z hd = go (v .left) (v .all) (v .read) (v .fit) (v .goes)
     where
       y : Layer
       y = addLayer (dimsAt (r .head .shape) l) (item (whoAt words l) w) (layerAt (view r) l)
@@ -85,6 +87,7 @@ module _ (r₀ : Lent) (words : List ℕ) (w many first : ℕ) (p : SendsReady r
             left = n;
             all = omega arith;
             standing = z;
+            headed = hd;
             shape = ap (λ (s : State). s .head .shape) e ∙ v .shape;
             read = later (readsAt (r₀ .head .shape) words w) n q (and-right (readsAt (r₀ .head .shape) words w l (layerAt (view r) l)) (allLayers (readsAt (r₀ .head .shape) words w) n (suc l) (view r)) a);
             fit = later (fitsAt (r₀ .head .shape) words w) n q (and-right (fitsAt (r₀ .head .shape) words w l (layerAt (view r) l)) (allLayers (fitsAt (r₀ .head .shape) words w) n (suc l) (view r)) b);

@@ -8,23 +8,25 @@ use borrow.Author.Tests.{leb-true, eq-eqb, ne-eqb}
 use lib.ListN.{length, getD}
 use lib.IntN.{ℤ, natAbs}
 use lib.Signed.{nonNeg}
-use lib.Dec.{leb}
+use lib.Dec.{eqb, leb}
 use Rattle.words.specs.Num.{top, wordSize}
 use Rattle.header.specs.declared.Mode.{Mode}
 use Rattle.header.specs.declared.Header.{Header}
-use Rattle.header.specs.declared.Answered.{Answered}
-use Rattle.header.specs.Header.{clash, begun, beginOf, headerOk}
+use Rattle.header.specs.declared.Fixed.{Fixed}
+use Rattle.header.specs.declared.Begun.{Begun}
+use Rattle.header.specs.Shape.{maxLayers}
+use Rattle.header.specs.Header.{clash, begun, begunFixed, beginOf, headOf, fixedOf, headerOk}
 use Rattle.header.proofs.Bottoms.{bottom-lt}
 use Rattle.header.proofs.Ranges.{ranged-of}
 use Rattle.layer.specs.Layer.{Layer}
 use Rattle.univmon.specs.declared.Kind.{Kind}
 use Rattle.univmon.specs.declared.Kind.the-variants as kind
 use Rattle.univmon.specs.State.{State, layerAt, allLayers, overLayers, withHead}
-use Rattle.univmon.specs.Slices.{Lent, lent, lentOk, view}
+use Rattle.univmon.specs.Slices.{Lent, lent, lentOk, view, flat}
 use Rattle.univmon.specs.Judged.{Out, refused, done, unsound}
 use Rattle.univmon.specs.Updates.{recordLength, modeOf, firstSent, manySent, bottomBy, updateTests, updated, update}
-use Rattle.univmon.specs.Calls.{Outcome, left, leftBy, outcomeOf, updateCall}
-use Rattle.univmon.specs.Needs.{Standing, SendsReady, JudgeReady, UpdateReady, readsAt, fitsAt, addsAt, judgedAt}
+use Rattle.univmon.specs.Calls.{Outcome, Left, left, leftBy, outcomeOf, updateCall, lentUpdateCall}
+use Rattle.univmon.specs.Needs.{Standing, SendsReady, JudgeReady, UpdateReady, readsAt, fitsAt, addsAt, judgedAt, sentBy}
 use Rattle.univmon.proofs.Lengths.{standing-of, sized-view}
 use Rattle.univmon.proofs.Flatten.{lent-is}
 
@@ -78,6 +80,42 @@ unfolding update updateTests view
 unrecorded k r words w h z n =
     sym (simp (sound-of r h z, ne-eqb _ _ n)) ∙ sized-call k r words w z
 
+-- ---- lengths and flags that are lent
+
+-- not 19 of them
+pub unplaced : (k : Kind) (r : Lent) (words : List ℕ) (w : ℤ) → eqb (length (r .head .lens)) maxLayers && eqb (length (r .head .flags)) maxLayers ≡ false → left 9 r ≡ leftBy r (lentUpdateCall k r words w)
+unfolding lentUpdateCall
+unplaced k r words w h = simp h
+
+pub placed-call : (k : Kind) (r : Lent) (words : List ℕ) (w : ℤ) → length (r .head .lens) ≡ maxLayers → length (r .head .flags) ≡ maxLayers → leftBy r (updateCall k r words w) ≡ leftBy r (lentUpdateCall k r words w)
+unfolding lentUpdateCall
+placed-call k r words w l f = simp (eq-eqb _ _ l, eq-eqb _ _ f)
+
+-- ---- tests and sends of many layers
+
+module _ (words : List ℕ) (w many first : ℕ) (r : Lent) where
+  -- 9 or 11
+  pub sent-refused : (n : ℕ) → n ≡ judgedAt (r .head .shape) words w many first (view r) → (n ≡ 0 → ⊥) → left n r ≡ sentBy words w many first r
+  unfolding sentBy
+  sent-refused n e h = rw e (sym (rw (ne-eqb (judgedAt (r .head .shape) words w many first (view r)) 0 (λ z. h (e ∙ z)))))
+
+  pub sends-ready : JudgeReady r words w many first → judgedAt (r .head .shape) words w many first (view r) ≡ 0 → SendsReady r words w many first
+  unfolding judgedAt
+  sends-ready p z = record { standing = p .standing; headed = p .headed; recorded = p .recorded; light = p .light; inside = p .inside; read = both .0; fit = both .1 }
+    where
+      go : (x y : Bool) → _≡_ {A = ℕ} (cond (not x) 9 (cond (not y) 11 0)) 0 → (x ≡ true) × (y ≡ true)
+      go false y e = absurd (omega (arith, e))
+      go true false e = absurd (omega (arith, e))
+      go true true e = (refl, refl)
+
+      both : (allLayers (readsAt (r .head .shape) words w) many first (view r) ≡ true) × (allLayers (fitsAt (r .head .shape) words w) many first (view r) ≡ true)
+      both = go (allLayers (readsAt (r .head .shape) words w) many first (view r)) (allLayers (fitsAt (r .head .shape) words w) many first (view r)) z
+
+  pub sent-done : (t : Lent) → judgedAt (r .head .shape) words w many first (view r) ≡ 0 → Standing t → ((i : ℕ) → getD (t .norms) i 0 < wordSize)
+      → view t ≡ overLayers (addsAt (r .head .shape) words w) many first (view r) → left 0 t ≡ sentBy words w many first r
+  unfolding sentBy
+  sent-done t z s b e = ap (left 0) (lent-is t (overLayers (addsAt (r .head .shape) words w) many first (view r)) s b e) ∙ sym (rw (eq-eqb _ 0 z))
+
 -- ---- the stages, of a record of the right length in a lent state that is right
 
 module _ (k : Kind) (r : Lent) (words : List ℕ) (w : ℤ) (p : UpdateReady r words) where
@@ -99,74 +137,54 @@ module _ (k : Kind) (r : Lent) (words : List ℕ) (w : ℤ) (p : UpdateReady r w
   begins = simp (sound-of r (p .ranged) (p .sized), eq-eqb _ _ (p .recorded))
 
   -- 5, 6 or 7
-  pub not-begun : (a : Answered) → a ≡ beginOf (r .head) w (modeOf k) → (a .refusal ≡ 0 → ⊥) → left (a .refusal) (lent (a .header) (r .counters) (r .norms) (r .entries) (r .counts)) ≡ leftBy r (outcomeOf (update k (view r) words w))
+  pub not-begun : (a : Begun) → a ≡ beginOf (fixedOf (r .head)) w (modeOf k) → (a .refusal ≡ 0 → ⊥)
+      → left (a .refusal) (lent (headOf (a .fixed) (r .head .flags) (r .head .lens)) (r .counters) (r .norms) (r .entries) (r .counts)) ≡ leftBy r (outcomeOf (update k (view r) words w))
   unfolding beginOf
-  not-begun a e h = rw (begins, e) (go (nonNeg w) (clash (r .head .mode) (modeOf k)) (leb (r .head .weight + natAbs w) top) _ _ (λ z. h (ap (λ (b : Answered). b .refusal) e ∙ z)))
+  not-begun a e h = rw (begins, e) (go (nonNeg w) (clash (r .head .mode) (modeOf k)) (leb (r .head .weight + natAbs w) top) _ _ (λ z. h (ap (λ (b : Begun). b .refusal) e ∙ z)))
     where
-      answer : Bool → Bool → Bool → Header → Answered
-      answer x y z h = cond (not x) (record { refusal = 5; header = r .head }) (cond y (record { refusal = 6; header = r .head }) (cond (not z) (record { refusal = 7; header = r .head }) (record { refusal = 0; header = h })))
+      answer : Bool → Bool → Bool → Fixed → Begun
+      answer x y z f = cond (not x) (record { refusal = 5; fixed = fixedOf (r .head) }) (cond y (record { refusal = 6; fixed = fixedOf (r .head) }) (cond (not z) (record { refusal = 7; fixed = fixedOf (r .head) }) (record { refusal = 0; fixed = f })))
 
-      go : (x y z : Bool) (h : Header) (o : Out) → (answer x y z h .refusal ≡ 0 → ⊥)
-          → left (answer x y z h .refusal) (lent (answer x y z h .header) (r .counters) (r .norms) (r .entries) (r .counts))
+      go : (x y z : Bool) (f : Fixed) (o : Out) → (answer x y z f .refusal ≡ 0 → ⊥)
+          → left (answer x y z f .refusal) (lent (headOf (answer x y z f .fixed) (r .head .flags) (r .head .lens)) (r .counters) (r .norms) (r .entries) (r .counts))
           ≡ leftBy r (outcomeOf (cond (not x) (refused 5) (cond y (refused 6) (cond (not z) (refused 7) o))))
-      go false y z h o n = refl
-      go true true z h o n = refl
-      go true false false h o n = refl
-      go true false true h o n = absurd (n refl)
+      go false y z f o n = refl
+      go true true z f o n = refl
+      go true false false f o n = refl
+      go true false true f o n = absurd (n refl)
 
   -- the update began
-  pub record Began (a : Answered) : Type 0 where
-    pub header : a .header ≡ begun (r .head) (natAbs w) (modeOf k)
+  pub record Began (a : Begun) : Type 0 where
+    pub fixed : a .fixed ≡ begunFixed (fixedOf (r .head)) (natAbs w) (modeOf k)
     pub light : natAbs w ≤ top
     pub rest : update k (view r) words w ≡ cond (not reads) (refused 9) (cond (not fits) (refused 11) (done (updated k (view r) words w)))
 
-  pub has-begun : (a : Answered) → a ≡ beginOf (r .head) w (modeOf k) → a .refusal ≡ 0 → Began a
+  pub has-begun : (a : Begun) → a ≡ beginOf (fixedOf (r .head)) w (modeOf k) → a .refusal ≡ 0 → Began a
   unfolding beginOf
   has-begun a e z = go (nonNeg w) (clash (r .head .mode) (modeOf k)) (leb (r .head .weight + natAbs w) top) refl e begins
     where
       rest : Out
       rest = cond (not reads) (refused 9) (cond (not fits) (refused 11) (done (updated k (view r) words w)))
 
+      had : Fixed
+      had = fixedOf (r .head)
+
       wrong : (n : ℕ) → 0 < n → 0 ≡ n → ⊥
       wrong n h e = omega (arith, h, e)
 
       go : (x y s : Bool) → s ≡ leb (r .head .weight + natAbs w) top
-          → a ≡ cond (not x) (record { refusal = 5; header = r .head }) (cond y (record { refusal = 6; header = r .head }) (cond (not s) (record { refusal = 7; header = r .head }) (record { refusal = 0; header = begun (r .head) (natAbs w) (modeOf k) })))
+          → a ≡ cond (not x) (record { refusal = 5; fixed = had }) (cond y (record { refusal = 6; fixed = had }) (cond (not s) (record { refusal = 7; fixed = had }) (record { refusal = 0; fixed = begunFixed had (natAbs w) (modeOf k) })))
           → update k (view r) words w ≡ cond (not x) (refused 5) (cond y (refused 6) (cond (not s) (refused 7) rest)) → Began a
-      go false y s q f b = absurd (wrong 5 (omega arith) (sym z ∙ ap (λ (t : Answered). t .refusal) f))
-      go true true s q f b = absurd (wrong 6 (omega arith) (sym z ∙ ap (λ (t : Answered). t .refusal) f))
-      go true false false q f b = absurd (wrong 7 (omega arith) (sym z ∙ ap (λ (t : Answered). t .refusal) f))
+      go false y s q f b = absurd (wrong 5 (omega arith) (sym z ∙ ap (λ (t : Begun). t .refusal) f))
+      go true true s q f b = absurd (wrong 6 (omega arith) (sym z ∙ ap (λ (t : Begun). t .refusal) f))
+      go true false false q f b = absurd (wrong 7 (omega arith) (sym z ∙ ap (λ (t : Begun). t .refusal) f))
       go true false true q f b =
           let l = leb-true (r .head .weight + natAbs w) top (sym q) in
-          record { header = ap (λ (t : Answered). t .header) f; light = omega (arith, l); rest = b }
+          record { fixed = ap (λ (t : Begun). t .fixed) f; light = omega (arith, l); rest = b }
 
-  -- 9 or 11
-  pub not-judged : (a : Answered) → Began a → (n : ℕ) → n ≡ judgedAt (r .head .shape) words (natAbs w) (manySent k bottom) (firstSent k bottom) (view r) → (n ≡ 0 → ⊥) → left n r ≡ leftBy r (outcomeOf (update k (view r) words w))
-  unfolding judgedAt
-  not-judged a b n e h = rw (b .rest, e) (go reads fits _ (λ z. h (e ∙ z)))
-    where
-      go : (x y : Bool) (o : Out) → (_≡_ {A = ℕ} (cond (not x) 9 (cond (not y) 11 0)) 0 → ⊥) → left (cond (not x) 9 (cond (not y) 11 0)) r ≡ leftBy r (outcomeOf (cond (not x) (refused 9) (cond (not y) (refused 11) o)))
-      go false y o n = refl
-      go true false o n = refl
-      go true true o n = absurd (n refl)
-
-  -- every touched layer is ready
-  pub record Judged : Type 0 where
-    pub read : reads ≡ true
-    pub fit : fits ≡ true
-    pub rest : update k (view r) words w ≡ done (updated k (view r) words w)
-
-  pub has-judged : (a : Answered) → Began a → judgedAt (r .head .shape) words (natAbs w) (manySent k bottom) (firstSent k bottom) (view r) ≡ 0 → Judged
-  unfolding judgedAt
-  has-judged a b z = record { read = both z .0; fit = both z .1; rest = b .rest ∙ simp (both z .0, both z .1) }
-    where
-      go : (x y : Bool) → _≡_ {A = ℕ} (cond (not x) 9 (cond (not y) 11 0)) 0 → (x ≡ true) × (y ≡ true)
-      go false y e = absurd (omega (arith, e))
-      go true false e = absurd (omega (arith, e))
-      go true true e = (refl, refl)
-
-      both : _≡_ {A = ℕ} (cond (not reads) 9 (cond (not fits) 11 0)) 0 → (reads ≡ true) × (fits ≡ true)
-      both = go reads fits
+  -- the state that the layers are sent to
+  abbrev pub started : Lent
+  started = lent (begun (r .head) (natAbs w) (modeOf k)) (r .counters) (r .norms) (r .entries) (r .counts)
 
   -- no touched layer lies outside
   touched-inside : firstSent k bottom + manySent k bottom ≤ r .head .shape .layers
@@ -177,28 +195,51 @@ module _ (k : Kind) (r : Lent) (words : List ℕ) (w : ℤ) (p : UpdateReady r w
       go kind.Standard h = omega (arith, h)
       go kind.Terminal h = omega (arith, h)
 
-  pub judge-ready : natAbs w ≤ top → JudgeReady r words (natAbs w) (manySent k bottom) (firstSent k bottom)
-  judge-ready l = record { standing = standing-of r (p .ranged) (p .sized); recorded = p .recorded; light = l; inside = touched-inside }
-
-  -- the state that the layers are sent to
-  abbrev pub started : Lent
-  started = lent (begun (r .head) (natAbs w) (modeOf k)) (r .counters) (r .norms) (r .entries) (r .counts)
-
-  pub sends-ready : natAbs w ≤ top → Judged → SendsReady started words (natAbs w) (manySent k bottom) (firstSent k bottom)
-  unfolding view
-  sends-ready l j =
+  pub judge-ready : natAbs w ≤ top → JudgeReady started words (natAbs w) (manySent k bottom) (firstSent k bottom)
+  judge-ready l =
       let z = standing-of r (p .ranged) (p .sized) in
+      let h = p .headed in
       record {
         standing = record { accepted = z .accepted; sizes = z .sizes; lens = z .lens };
+        headed = record { lens = h .lens; flags = h .flags };
         recorded = p .recorded;
         light = l;
         inside = touched-inside;
-        read = layers-kept (readsAt (r .head .shape) words (natAbs w)) (manySent k bottom) (firstSent k bottom) (view r) (natAbs w) (modeOf k) ∙ j .read;
-        fit = layers-kept (fitsAt (r .head .shape) words (natAbs w)) (manySent k bottom) (firstSent k bottom) (view r) (natAbs w) (modeOf k) ∙ j .fit;
       }
 
-  -- what was sent is the answer
-  pub all-sent : (t : Lent) → Judged → Standing t → ((i : ℕ) → getD (t .norms) i 0 < wordSize)
-      → view t ≡ overLayers (addsAt (r .head .shape) words (natAbs w)) (manySent k bottom) (firstSent k bottom) (view started) → left 0 t ≡ leftBy r (outcomeOf (update k (view r) words w))
-  unfolding view updated
-  all-sent t j z b e = rw (j .rest) (ap (left 0) (lent-is t (updated k (view r) words w) z b e))
+  -- what was sent, by what the tests found
+  sent-is : sentBy words (natAbs w) (manySent k bottom) (firstSent k bottom) started
+      ≡ cond (eqb (cond (not reads) 9 (cond (not fits) 11 0)) 0) (left 0 (flat (updated k (view r) words w))) (left (cond (not reads) 9 (cond (not fits) 11 0)) started)
+  unfolding sentBy judgedAt updated view
+  sent-is =
+      rw (
+        layers-kept (readsAt (r .head .shape) words (natAbs w)) (manySent k bottom) (firstSent k bottom) (view r) (natAbs w) (modeOf k),
+        layers-kept (fitsAt (r .head .shape) words (natAbs w)) (manySent k bottom) (firstSent k bottom) (view r) (natAbs w) (modeOf k),
+      )
+
+  -- a state with the weight and the mode that the update found
+  abbrev pub unbegun : Lent → Lent
+  unbegun t = lent (headOf (fixedOf (r .head)) (t .head .flags) (t .head .lens)) (t .counters) (t .norms) (t .entries) (t .counts)
+
+  -- 9 or 11
+  pub not-sent : (a : Begun) → Began a → (n : ℕ) (t : Lent) → left n t ≡ sentBy words (natAbs w) (manySent k bottom) (firstSent k bottom) started → (n ≡ 0 → ⊥) → left n (unbegun t) ≡ leftBy r (outcomeOf (update k (view r) words w))
+  not-sent a b n t e h = rw (b .rest) (go reads fits (flat (updated k (view r) words w)) _ (e ∙ sent-is))
+    where
+      go : (x y : Bool) (f : Lent) (o : Out) → left n t ≡ cond (eqb (cond (not x) 9 (cond (not y) 11 0)) 0) (left 0 f) (left (cond (not x) 9 (cond (not y) 11 0)) started)
+          → left n (unbegun t) ≡ leftBy r (outcomeOf (cond (not x) (refused 9) (cond (not y) (refused 11) o)))
+      go false y f o q = ap (λ (l : Left). left (l .refusal) (unbegun (l .lends))) q
+      go true false f o q = ap (λ (l : Left). left (l .refusal) (unbegun (l .lends))) q
+      go true true f o q = absurd (h (ap (λ (l : Left). l .refusal) q))
+
+  -- done
+  pub all-sent : (a : Begun) → Began a → (n : ℕ) (t : Lent) → left n t ≡ sentBy words (natAbs w) (manySent k bottom) (firstSent k bottom) started → n ≡ 0 → left 0 t ≡ leftBy r (outcomeOf (update k (view r) words w))
+  all-sent a b n t e z = rw (b .rest) (go reads fits (updated k (view r) words w) (e ∙ sent-is))
+    where
+      wrong : (m : ℕ) → 0 < m → n ≡ m → ⊥
+      wrong m h q = omega (arith, h, q, z)
+
+      go : (x y : Bool) (s : State) → left n t ≡ cond (eqb (cond (not x) 9 (cond (not y) 11 0)) 0) (left 0 (flat s)) (left (cond (not x) 9 (cond (not y) 11 0)) started)
+          → left 0 t ≡ leftBy r (outcomeOf (cond (not x) (refused 9) (cond (not y) (refused 11) (done s))))
+      go false y s q = absurd (wrong 9 (omega arith) (ap (λ (l : Left). l .refusal) q))
+      go true false s q = absurd (wrong 11 (omega arith) (ap (λ (l : Left). l .refusal) q))
+      go true true s q = ap (λ (l : Left). left 0 (l .lends)) q

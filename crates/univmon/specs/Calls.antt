@@ -1,6 +1,6 @@
 -- The public calls: what each answers, and what it leaves of the header and the slices that it is lent.
 use Prim.Native.Nat.{ℕ}
-use mathlib.Core.Bool.{false, cond, not, _||_}
+use mathlib.Core.Bool.{false, cond, not, _&&_, _||_}
 use mathlib.Core.List.{List}
 use lib.ListN.{length, set, replicate}
 use lib.IntN.{ℤ}
@@ -53,6 +53,10 @@ newCall sh xs ws es ns =
 
 unfoldable pub updateCall : Kind → Lent → List ℕ → ℤ → Outcome
 updateCall k r words w = cond (lentOk r) (outcomeOf (update k (view r) words w)) (Outcome.no 9)
+
+-- an update whose header's lengths and flags are lent beside the slices: both have 19 places, or 9 "wrong slice length"
+unfoldable pub lentUpdateCall : Kind → Lent → List ℕ → ℤ → Outcome
+lentUpdateCall k r words w = cond (eqb (length (r .head .lens)) maxLayers && eqb (length (r .head .flags)) maxLayers) (updateCall k r words w) (Outcome.no 9)
 
 unfoldable pub deltaCall : Lent → List ℕ → Arrival → Outcome
 deltaCall r words a = cond (lentOk r) (outcomeOf (applyDelta (view r) words a)) (Outcome.no 9)

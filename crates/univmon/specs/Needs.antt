@@ -4,14 +4,18 @@ use mathlib.Core.Path.{_≡_}
 use mathlib.Core.Bool.{Bool, true, cond, not, _&&_}
 use mathlib.Core.List.{List}
 use lib.ListN.{length, getD}
+use lib.Dec.{eqb}
 use Rattle.words.specs.Num.{top}
 use Rattle.header.specs.declared.Shape.{Shape}
+use Rattle.header.specs.declared.Header.{Header}
+use Rattle.header.specs.Shape.{maxLayers}
 use Rattle.header.specs.Accepted.{Accepted}
 use Rattle.header.specs.Header.{headerOk}
 use Rattle.layer.specs.Layer.{Layer, addLayer, addReads, addFits, item}
-use Rattle.univmon.specs.State.{State, dimsAt, layerAt, allLayers}
-use Rattle.univmon.specs.Slices.{Lent, lentOk, view, cellsIn, normsIn, candsIn}
+use Rattle.univmon.specs.State.{State, dimsAt, layerAt, allLayers, overLayers}
+use Rattle.univmon.specs.Slices.{Lent, lentOk, view, flat, cellsIn, normsIn, candsIn}
 use Rattle.univmon.specs.Updates.{recordLength, whoAt}
+use Rattle.univmon.specs.Calls.{Left, left}
 
 -- slices of these lengths are a shape's
 pub record Sizes (sh : Shape) (a b c d : ℕ) : Type 0 where
@@ -26,9 +30,15 @@ pub record Standing (r : Lent) : Type 0 where
   pub sizes : Sizes (r .head .shape) (length (r .counters)) (length (r .norms)) (length (r .entries)) (length (r .counts))
   pub lens : (m : ℕ) → m < r .head .shape .layers → getD (r .head .lens) m 0 ≤ r .head .shape .«heap_size»
 
+-- lengths and flags have a place for each layer that a shape may have
+pub record Headed (h : Header) : Type 0 where
+  pub lens : length (h .lens) ≡ maxLayers
+  pub flags : length (h .flags) ≡ maxLayers
+
 -- what the update of layer l needs
 pub record SendReady (r : Lent) (words : List ℕ) (w l : ℕ) : Type 0 where
   pub standing : Standing r
+  pub headed : Headed (r .head)
   pub recorded : length words ≡ recordLength (r .head .shape .layers)
   pub light : w ≤ top
   pub inside : l < r .head .shape .layers
@@ -48,6 +58,7 @@ addsAt sh words w l y = addLayer (dimsAt sh l) (item (whoAt words l) w) y
 -- what the update of many layers from the first on needs
 pub record SendsReady (r : Lent) (words : List ℕ) (w many first : ℕ) : Type 0 where
   pub standing : Standing r
+  pub headed : Headed (r .head)
   pub recorded : length words ≡ recordLength (r .head .shape .layers)
   pub light : w ≤ top
   pub inside : first + many ≤ r .head .shape .layers
@@ -61,6 +72,7 @@ readyAt sh words w l y = readsAt sh words w l y && fitsAt sh words w l y
 -- what the tests of many layers from the first on need
 pub record JudgeReady (r : Lent) (words : List ℕ) (w many first : ℕ) : Type 0 where
   pub standing : Standing r
+  pub headed : Headed (r .head)
   pub recorded : length words ≡ recordLength (r .head .shape .layers)
   pub light : w ≤ top
   pub inside : first + many ≤ r .head .shape .layers
@@ -70,8 +82,16 @@ unfoldable pub judgedAt : Shape → List ℕ → ℕ → ℕ → ℕ → State �
 judgedAt sh words w many first s =
     cond (not (allLayers (readsAt sh words w) many first s)) 9 (cond (not (allLayers (fitsAt sh words w) many first s)) 11 0)
 
+-- what tests and then sends of many layers from the first on leave: a refusal and nothing changed, or 0 and the layers changed
+unfoldable pub sentBy : List ℕ → ℕ → ℕ → ℕ → Lent → Left
+sentBy words w many first r =
+    cond (eqb (judgedAt (r .head .shape) words w many first (view r)) 0)
+    (left 0 (flat (overLayers (addsAt (r .head .shape) words w) many first (view r))))
+    (left (judgedAt (r .head .shape) words w many first (view r)) r)
+
 -- what an update needs once header, lengths and record have been found right
 pub record UpdateReady (r : Lent) (words : List ℕ) : Type 0 where
+  pub headed : Headed (r .head)
   pub ranged : headerOk (r .head) ≡ true
   pub sized : lentOk r ≡ true
   pub recorded : length words ≡ recordLength (r .head .shape .layers)

@@ -10,7 +10,6 @@ use Rattle.heap_moves.specs.Flat.{candsOf, entriesOf, countsOf}
 use Rattle.header.specs.declared.Shape.{Shape}
 use Rattle.header.specs.declared.Header.{Header}
 use Rattle.header.specs.Header.{freshHeader}
-use Rattle.univmon.specs.declared.Fixed.{Fixed}
 use Rattle.univmon.specs.State.{State, cellOff, normOff, candOff}
 
 -- "one signed word per counter, two words for each row norm (low, then high) .. four words each .. and a signed count in a second slice"
@@ -20,10 +19,6 @@ pub record Lent : Type 0 where
   pub norms : List ℕ
   pub entries : List ℕ
   pub counts : List ℤ
-
--- the header of what an update leaves and of what it changes at each layer
-abbrev pub headOf : Fixed → List Bool → List ℕ → Header
-headOf f fs ns = record { shape = f .shape; weight = f .weight; mode = f .mode; flags = fs; lens = ns }
 
 abbrev pub lent : Header → List ℤ → List ℕ → List ℕ → List ℤ → Lent
 lent h xs ws es ns = record { head = h; counters = xs; norms = ws; entries = es; counts = ns }

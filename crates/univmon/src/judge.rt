@@ -1,21 +1,22 @@
 // What an update reads of the layers that it touches, and whether it fits: nothing is written here.
 // The state is lent whole, so that a contract can name it; no entry is read.
-use crate::Fixed;
 use crate::sizes::dims;
 use crate::sizes::span_of;
 use crate::update::who_in;
+use header::Fixed;
 ghost use mathlib.Core.Path.{_≡_};
 ghost use mathlib.Core.Bool.{Bool, true, _&&_};
 ghost use Prim.Native.Nat.{ℕ, _+_, _*_, _≤_, _<_};
+ghost use Rattle.header.specs.Header.{headOf};
 ghost use Rattle.univmon.specs.State.{layerAt, allLayers};
-ghost use Rattle.univmon.specs.Slices.{lent, view, headOf};
+ghost use Rattle.univmon.specs.Slices.{lent, view};
 ghost use Rattle.univmon.specs.Needs.{Standing, JudgeReady, readsAt, readyAt, judgedAt};
 
 // Whether one layer is ready for the update.
 fn ready_at(
     h: Fixed,
-    flags: &[bool; 19],
-    lens: &[usize; 19],
+    flags: &[bool],
+    lens: &[usize],
     counters: &[i64],
     norms: &[u64],
     entries: &[u64],
@@ -52,8 +53,8 @@ fn ready_at(
 // Whether what the update reads of one layer is in range.
 fn reads_at(
     h: Fixed,
-    flags: &[bool; 19],
-    lens: &[usize; 19],
+    flags: &[bool],
+    lens: &[usize],
     counters: &[i64],
     norms: &[u64],
     entries: &[u64],
@@ -88,8 +89,8 @@ fn reads_at(
 // Whether every touched layer is ready.
 fn all_ready(
     h: Fixed,
-    flags: &[bool; 19],
-    lens: &[usize; 19],
+    flags: &[bool],
+    lens: &[usize],
     counters: &[i64],
     norms: &[u64],
     entries: &[u64],
@@ -127,8 +128,8 @@ fn all_ready(
 // Whether all that is read of the touched layers is in range.
 fn all_read(
     h: Fixed,
-    flags: &[bool; 19],
-    lens: &[usize; 19],
+    flags: &[bool],
+    lens: &[usize],
     counters: &[i64],
     norms: &[u64],
     entries: &[u64],
@@ -156,8 +157,8 @@ fn all_read(
 // before 11 anywhere.
 pub fn judge_layers(
     h: Fixed,
-    flags: &[bool; 19],
-    lens: &[usize; 19],
+    flags: &[bool],
+    lens: &[usize],
     counters: &[i64],
     norms: &[u64],
     entries: &[u64],

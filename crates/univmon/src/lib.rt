@@ -1,9 +1,10 @@
 // UnivMon: the calls that change a state. A state is a `Header` by value and four slices that the
-// caller lends: counters, norms, entries and counts.
+// caller lends: counters, norms, entries and counts. For updates lengths and flags may be lent too.
 mod calls;
 mod delta;
 mod fresh;
 mod judge;
+mod lent;
 mod marks;
 mod merging;
 pub mod sizes;
@@ -14,18 +15,12 @@ pub use calls::update_weighted_terminal;
 pub use delta::apply_delta;
 pub use fresh::clear;
 pub use fresh::new;
+pub use lent::update_weighted_lent;
+pub use lent::update_weighted_terminal_lent;
 pub use marks::mark_candidates_incomplete;
 pub use marks::mark_layer_candidates_incomplete;
 pub use marks::set_total_weight;
 pub use merging::merge;
-
-// What of a header no layer's step changes. It goes beside lengths and flags, which are lent: a header
-// by value would be copied at each layer.
-pub struct Fixed {
-    pub shape: header::Shape,
-    pub weight: u64,
-    pub mode: header::Mode,
-}
 
 // How an update sends its key to layers.
 pub enum Kind {

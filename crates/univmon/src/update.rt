@@ -1,7 +1,7 @@
 // What both updates write, once everything is judged: functions of this crate only, so they may ask for what `calls` has tested.
-use crate::Fixed;
 use crate::sizes::dims;
 use crate::sizes::span_of;
+use header::Fixed;
 use heap_moves::Who;
 ghost use mathlib.Core.Path.{_≡_};
 ghost use mathlib.Core.Bool.{Bool, true, _&&_};
@@ -9,8 +9,9 @@ ghost use Prim.Native.Nat.{ℕ, _+_, _*_, _≤_, _<_};
 ghost use lib.ListN.{length};
 ghost use Rattle.words.specs.Num.{top};
 ghost use Rattle.layer.specs.Layer.{item, addLayer, addReads, addFits};
+ghost use Rattle.header.specs.Header.{headOf};
 ghost use Rattle.univmon.specs.State.{dimsAt, layerAt, putLayer, overLayers, allLayers};
-ghost use Rattle.univmon.specs.Slices.{lent, view, headOf};
+ghost use Rattle.univmon.specs.Slices.{lent, view};
 ghost use Rattle.univmon.specs.Updates.{whoAt};
 ghost use Rattle.univmon.specs.Needs.{Standing, SendReady, SendsReady, readsAt, fitsAt, addsAt};
 
@@ -31,8 +32,8 @@ pub fn who_in(words: &[u64], l: usize) -> Who
 // Sends an update to one layer.
 fn send_one(
     h: Fixed,
-    flags: &mut [bool; 19],
-    lens: &mut [usize; 19],
+    flags: &mut [bool],
+    lens: &mut [usize],
     counters: &mut [i64],
     norms: &mut [u64],
     entries: &mut [u64],
@@ -80,8 +81,8 @@ fn send_one(
 // Sends an update to many layers from the first on.
 pub fn send(
     h: Fixed,
-    flags: &mut [bool; 19],
-    lens: &mut [usize; 19],
+    flags: &mut [bool],
+    lens: &mut [usize],
     counters: &mut [i64],
     norms: &mut [u64],
     entries: &mut [u64],

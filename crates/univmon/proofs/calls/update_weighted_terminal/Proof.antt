@@ -5,8 +5,8 @@ use mir.Facts.{toZ-ofZ}
 use Rattle.univmon.proofs.calls.update_weighted_terminal.Statement.{statement}
 use Rattle.univmon.proofs.calls.update_weighted_terminal.Tie as tie
 
-update-requires : tie.Need-update-requires
-update-requires c κs = search needs
+update-held-requires : tie.Need-update-held-requires
+update-held-requires c κs = search needs
 
 same-length : tie.Need-same-length
 same-length c = search needs
@@ -21,7 +21,7 @@ same-length-4 : tie.Need-same-length-4
 same-length-4 c = search needs
 
 returns : tie.Need-returns
-returns c = rw (toZ-ofZ (c .before .before .before .before .before .before .before .before .before .before .before .before .before .before .fits .weight)) at (c .before .before .before .before .before .before .update .ensures)
+returns c = rw (toZ-ofZ (c .before .before .before .before .before .before .before .before .before .before .before .before .before .before .fits .weight)) at (c .before .before .before .before .before .before .update-held .ensures)
 
 pub update-weighted-terminal-spec : {M : Type 1} → statement M
-update-weighted-terminal-spec = tie.close (tie.spec update-requires same-length same-length-2 same-length-3 same-length-4 returns)
+update-weighted-terminal-spec = tie.close (tie.spec update-held-requires same-length same-length-2 same-length-3 same-length-4 returns)

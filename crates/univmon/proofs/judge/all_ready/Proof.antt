@@ -6,7 +6,8 @@ use mathlib.Core.Bool.{Bool}
 use native.Mathlib.Omega.{arith}
 use borrow.Author.Tests.{not-true, not-false}
 use denote.Ref.{now}
-use Rattle.univmon.specs.Slices.{lent, headOf, view, Lent}
+use Rattle.header.specs.Header.{headOf}
+use Rattle.univmon.specs.Slices.{lent, view, Lent}
 use Rattle.univmon.specs.Calls.{left}
 use Rattle.univmon.specs.Needs.{readyAt}
 use Rattle.words.proofs.Scans.{Scan, scan-start, scan-on, scan-stop, scan-end}
@@ -29,34 +30,34 @@ abbrev tested : tie.Start Inv-loop μ-loop → ℕ → ℕ → Bool
 tested c k i = let a = c .args in allLayers (readyAt (a .h .shape) (now (a .words)) (a .weight)) k i (view (lent-of c))
 
 add-end : tie.Need-add-end Inv-loop μ-loop
-add-end c = let p = c .before .before .before .pre in record { fits = omega (arith, p .inside, p .standing .accepted .few) }
+add-end c = let p = c .before .before .before .before .before .pre in record { fits = omega (arith, p .inside, p .standing .accepted .few) }
 
 loop-holds : tie.Need-loop-holds Inv-loop μ-loop
-loop-holds c = let a = c .before .before .before .args in scan-start (tested (c .before .before .before)) (a .many) (a .first)
+loop-holds c = let a = c .before .before .before .before .before .args in scan-start (tested (c .before .before .before .before .before)) (a .many) (a .first)
 
 ready-at-requires : tie.Need-ready-at-requires Inv-loop μ-loop
-ready-at-requires c κs = let a = c .before .before .before .before .before .args in judge-one (lent-of (c .before .before .before .before .before)) (now (a .words)) (a .weight) (a .many) (a .first) (c .before .loop .l) (c .before .before .before .before .before .pre) (omega (arith, c .loop-test .taken))
+ready-at-requires c κs = let a = c .before .before .before .before .before .before .before .args in judge-one (lent-of (c .before .before .before .before .before .before .before)) (now (a .words)) (a .weight) (a .many) (a .first) (c .before .loop .l) (c .before .before .before .before .before .before .before .pre) (omega (arith, c .loop-test .taken))
 
 returns : tie.Need-returns Inv-loop μ-loop
 returns c =
-    let a = c .before .before .before .before .before .before .before .args in
-    scan-stop (tested (c .before .before .before .before .before .before .before)) (a .many) (a .first) (c .before .before .before .loop .l) _ (c .before .before .before .loop .inv) (omega (arith, c .before .before .loop-test .taken)) (λ k. layers-step _ (view (lent-of (c .before .before .before .before .before .before .before))) k (c .before .before .before .loop .l)) (sym (c .before .ready-at .ensures) ∙ not-true _ (c .if1 .taken))
+    let a = c .before .before .before .before .before .before .before .before .before .args in
+    scan-stop (tested (c .before .before .before .before .before .before .before .before .before)) (a .many) (a .first) (c .before .before .before .loop .l) _ (c .before .before .before .loop .inv) (omega (arith, c .before .before .loop-test .taken)) (λ k. layers-step _ (view (lent-of (c .before .before .before .before .before .before .before .before .before))) k (c .before .before .before .loop .l)) (sym (c .before .ready-at .ensures) ∙ not-true _ (c .if1 .taken))
 
 add-l : tie.Need-add-l Inv-loop μ-loop
-add-l c = let p = c .before .before .before .before .before .before .before .pre in record { fits = omega (arith, p .inside, p .standing .accepted .few, c .before .before .loop-test .taken) }
+add-l c = let p = c .before .before .before .before .before .before .before .before .before .pre in record { fits = omega (arith, p .inside, p .standing .accepted .few, c .before .before .loop-test .taken) }
 
 loop-less : tie.Need-loop-less Inv-loop μ-loop
 loop-less c = omega (arith, c .before .before .loop-test .taken)
 
 loop-again : tie.Need-loop-again Inv-loop μ-loop
 loop-again c =
-    let a = c .before .before .before .before .before .before .before .args in
-    scan-on (tested (c .before .before .before .before .before .before .before)) (a .many) (a .first) (c .before .before .before .loop .l) _ (c .before .before .before .loop .inv) (omega (arith, c .before .before .loop-test .taken)) (λ k. layers-step _ (view (lent-of (c .before .before .before .before .before .before .before))) k (c .before .before .before .loop .l)) (sym (c .before .ready-at .ensures) ∙ not-false _ (c .if1 .left))
+    let a = c .before .before .before .before .before .before .before .before .before .args in
+    scan-on (tested (c .before .before .before .before .before .before .before .before .before)) (a .many) (a .first) (c .before .before .before .loop .l) _ (c .before .before .before .loop .inv) (omega (arith, c .before .before .loop-test .taken)) (λ k. layers-step _ (view (lent-of (c .before .before .before .before .before .before .before .before .before))) k (c .before .before .before .loop .l)) (sym (c .before .ready-at .ensures) ∙ not-false _ (c .if1 .left))
 
 returns-2 : tie.Need-returns-2 Inv-loop μ-loop
 returns-2 c =
-    let a = c .before .before .before .before .before .args in
-    scan-end (tested (c .before .before .before .before .before)) (a .many) (a .first) (c .before .loop .l) (c .before .loop .inv) (omega (arith, c .loop-test .left)) (layers-none _ (view (lent-of (c .before .before .before .before .before))) (c .before .loop .l))
+    let a = c .before .before .before .before .before .before .before .args in
+    scan-end (tested (c .before .before .before .before .before .before .before)) (a .many) (a .first) (c .before .loop .l) (c .before .loop .inv) (omega (arith, c .loop-test .left)) (layers-none _ (view (lent-of (c .before .before .before .before .before .before .before))) (c .before .loop .l))
 
 pub all-ready-spec : {M : Type 1} → statement M
 all-ready-spec = tie.close (tie.spec Inv-loop μ-loop add-end loop-holds ready-at-requires returns add-l loop-less loop-again returns-2)

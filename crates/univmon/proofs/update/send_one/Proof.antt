@@ -7,10 +7,10 @@ use lib.ListN.{length, getD, set}
 use native.Mathlib.Omega.{arith}
 use borrow.Author.Needs.{needs}
 use denote.Ref.{now}
-use Rattle.header.specs.Header.{withLayer}
-use Rattle.univmon.specs.Slices.{lent, headOf, view, Lent}
+use Rattle.header.specs.Header.{headOf, withLayer}
+use Rattle.univmon.specs.Slices.{lent, view, Lent}
 use Rattle.univmon.specs.Calls.{left}
-use Rattle.univmon.proofs.Offsets.{norm-off, cand-off, rows-few, seats-few}
+use Rattle.univmon.proofs.Offsets.{norm-off, cand-off, cells-are, rows-few, seats-few, cells-few}
 use Rattle.header.proofs.Steps.{touched-kept, touched-lost}
 use Rattle.layer.specs.Layer.{Layer, layerOf, item, addLayer}
 use Rattle.layer.proofs.Steps.{add-few}
@@ -25,38 +25,40 @@ use Rattle.univmon.proofs.update.send_one.Tie as tie
 abbrev lent-of : tie.Start → Lent
 lent-of c = lent (headOf (c .args .h) (now (c .args .flags)) (now (c .args .lens))) (now (c .args .counters)) (now (c .args .norms)) (now (c .args .entries)) (now (c .args .counts))
 
-spanned : (c : tie.After-span-of) → let s = c .span-of .result in Spanned (c .before .before .before .before .before .args .h .shape) (c .before .before .before .before .before .args .l) (s .cells) (s .«cells_end») (s .norms) (s .«norms_end») (s .words) (s .«words_end») (s .seats) (s .«seats_end»)
-spanned c = spanned-of (c .before .before .before .before .before .args .h .shape) (c .before .before .before .before .before .args .l) (c .span-of .result) (c .span-of .ensures)
+spanned : (c : tie.After-span-of) → let s = c .span-of .result in Spanned (c .before .before .before .before .before .before .before .args .h .shape) (c .before .before .before .before .before .before .before .args .l) (s .cells) (s .«cells_end») (s .norms) (s .«norms_end») (s .words) (s .«words_end») (s .seats) (s .«seats_end»)
+spanned c = spanned-of (c .before .before .before .before .before .before .before .args .h .shape) (c .before .before .before .before .before .before .before .args .l) (c .span-of .result) (c .span-of .ensures)
 
-cells-ok : (c : tie.After-span-of) → (c .span-of .result .cells ≤ c .span-of .result .«cells_end») × (c .span-of .result .«cells_end» ≤ length (now (c .before .before .before .before .before .args .counters)))
-cells-ok c = let s = spanned c in (omega (arith, s .cellsEnd), cells-room (lent-of (c .before .before .before .before .before)) (c .before .before .before .before .before .pre .standing) (c .before .before .before .before .before .args .l) (c .before .before .before .before .before .pre .inside) _ _ _ _ _ _ _ _ s)
+cells-ok : (c : tie.After-span-of) → (c .span-of .result .cells ≤ c .span-of .result .«cells_end») × (c .span-of .result .«cells_end» ≤ length (now (c .before .before .before .before .before .before .before .args .counters)))
+cells-ok c = let s = spanned c in (omega (arith, s .cellsEnd), cells-room (lent-of (c .before .before .before .before .before .before .before)) (c .before .before .before .before .before .before .before .pre .standing) (c .before .before .before .before .before .before .before .args .l) (c .before .before .before .before .before .before .before .pre .inside) _ _ _ _ _ _ _ _ s)
 
-norms-ok : (c : tie.After-span-of) → (c .span-of .result .norms ≤ c .span-of .result .«norms_end») × (c .span-of .result .«norms_end» ≤ length (now (c .before .before .before .before .before .args .norms)))
-norms-ok c = let s = spanned c in (omega (arith, s .normsEnd), norms-room (lent-of (c .before .before .before .before .before)) (c .before .before .before .before .before .pre .standing) (c .before .before .before .before .before .args .l) (c .before .before .before .before .before .pre .inside) _ _ _ _ _ _ _ _ s)
+norms-ok : (c : tie.After-span-of) → (c .span-of .result .norms ≤ c .span-of .result .«norms_end») × (c .span-of .result .«norms_end» ≤ length (now (c .before .before .before .before .before .before .before .args .norms)))
+norms-ok c = let s = spanned c in (omega (arith, s .normsEnd), norms-room (lent-of (c .before .before .before .before .before .before .before)) (c .before .before .before .before .before .before .before .pre .standing) (c .before .before .before .before .before .before .before .args .l) (c .before .before .before .before .before .before .before .pre .inside) _ _ _ _ _ _ _ _ s)
 
-words-ok : (c : tie.After-span-of) → (c .span-of .result .words ≤ c .span-of .result .«words_end») × (c .span-of .result .«words_end» ≤ length (now (c .before .before .before .before .before .args .entries)))
-words-ok c = let s = spanned c in (omega (arith, s .wordsEnd), words-room (lent-of (c .before .before .before .before .before)) (c .before .before .before .before .before .pre .standing) (c .before .before .before .before .before .args .l) (c .before .before .before .before .before .pre .inside) _ _ _ _ _ _ _ _ s)
+words-ok : (c : tie.After-span-of) → (c .span-of .result .words ≤ c .span-of .result .«words_end») × (c .span-of .result .«words_end» ≤ length (now (c .before .before .before .before .before .before .before .args .entries)))
+words-ok c = let s = spanned c in (omega (arith, s .wordsEnd), words-room (lent-of (c .before .before .before .before .before .before .before)) (c .before .before .before .before .before .before .before .pre .standing) (c .before .before .before .before .before .before .before .args .l) (c .before .before .before .before .before .before .before .pre .inside) _ _ _ _ _ _ _ _ s)
 
-seats-ok : (c : tie.After-span-of) → (c .span-of .result .seats ≤ c .span-of .result .«seats_end») × (c .span-of .result .«seats_end» ≤ length (now (c .before .before .before .before .before .args .counts)))
-seats-ok c = let s = spanned c in (omega (arith, s .seatsEnd), seats-room (lent-of (c .before .before .before .before .before)) (c .before .before .before .before .before .pre .standing) (c .before .before .before .before .before .args .l) (c .before .before .before .before .before .pre .inside) _ _ _ _ _ _ _ _ s)
+seats-ok : (c : tie.After-span-of) → (c .span-of .result .seats ≤ c .span-of .result .«seats_end») × (c .span-of .result .«seats_end» ≤ length (now (c .before .before .before .before .before .before .before .args .counts)))
+seats-ok c = let s = spanned c in (omega (arith, s .seatsEnd), seats-room (lent-of (c .before .before .before .before .before .before .before)) (c .before .before .before .before .before .before .before .pre .standing) (c .before .before .before .before .before .before .before .args .l) (c .before .before .before .before .before .before .before .pre .inside) _ _ _ _ _ _ _ _ s)
 
 span-of-requires : tie.Need-span-of-requires
-span-of-requires c κs = (c .before .before .before .before .pre .standing .accepted, c .before .before .before .before .pre .inside)
+span-of-requires c κs = (c .before .before .before .before .before .before .pre .standing .accepted, c .before .before .before .before .before .before .pre .inside)
 
 dims-requires : tie.Need-dims-requires
 dims-requires c κs = search needs
 
 who-in-requires : tie.Need-who-in-requires
-who-in-requires c κs = let p = c .before .before .before .before .before .before .pre in (omega (arith, p .inside, p .standing .accepted .few), omega (arith, p .inside, p .recorded))
+who-in-requires c κs = let p = c .before .before .before .before .before .before .before .before .pre in (omega (arith, p .inside, p .standing .accepted .few), omega (arith, p .inside, p .recorded))
 
 mul-len : tie.Need-mul-len
-mul-len c = let p = c .before .before .before .before .before .before .before .pre in let q = p .standing .accepted .few in let i = p .inside in search needs
+mul-len c = let p = c .before .before .before .before .before .before .before .before .before .pre in let q = p .standing .accepted .few in let i = p .inside in let hl = p .headed .lens in let hf = p .headed .flags in search needs
 
-element-copy-out-len : tie.Need-element-copy-out-len
-element-copy-out-len c = let p = c .before .before .before .before .before .before .before .pre in let q = p .standing .accepted .few in let i = p .inside in search needs
+slice-read-len : tie.Need-slice-read-len
+slice-read-len c = let p = c .before .before .before .before .before .before .before .before .before .before .pre in let q = p .standing .accepted .few in let i = p .inside in let hl = p .headed .lens in let hf = p .headed .flags in search needs
 
 mul-add : tie.Need-mul-add
-mul-add c = let b = cells-ok (c .before .before .before) in search needs
+mul-add c =
+    let z = c .before .before .before .before .before .before .before .before .before .before .pre in
+    record { fits = omega (arith, (spanned (c .before .before .before)) .cells, cells-are (c .before .before .before .before .before .before .before .before .before .before .args .h .shape) (c .before .before .before .before .before .before .before .before .before .before .args .l), cells-few (c .before .before .before .before .before .before .before .before .before .before .args .h .shape) (z .standing .accepted) (c .before .before .before .before .before .before .before .before .before .before .args .l) (omega (arith, z .inside))) }
 
 sub-add : tie.Need-sub-add
 sub-add c = let b = cells-ok (c .before .before .before) in search needs
@@ -69,8 +71,8 @@ part-add-end c = let b = cells-ok (c .before .before .before) in search needs
 
 mul-add-2 : tie.Need-mul-add-2
 mul-add-2 c =
-    let z = c .before .before .before .before .before .before .before .before .before .pre in
-    record { fits = omega (arith, (spanned (c .before .before .before .before)) .norms, norm-off (c .before .before .before .before .before .before .before .before .before .args .h .shape) (c .before .before .before .before .before .before .before .before .before .args .l), rows-few (c .before .before .before .before .before .before .before .before .before .args .h .shape) (z .standing .accepted) (c .before .before .before .before .before .before .before .before .before .args .l) (omega (arith, z .inside))) }
+    let z = c .before .before .before .before .before .before .before .before .before .before .before .pre in
+    record { fits = omega (arith, (spanned (c .before .before .before .before)) .norms, norm-off (c .before .before .before .before .before .before .before .before .before .before .before .args .h .shape) (c .before .before .before .before .before .before .before .before .before .before .before .args .l), rows-few (c .before .before .before .before .before .before .before .before .before .before .before .args .h .shape) (z .standing .accepted) (c .before .before .before .before .before .before .before .before .before .before .before .args .l) (omega (arith, z .inside))) }
 
 sub-add-2 : tie.Need-sub-add-2
 sub-add-2 c = let b = norms-ok (c .before .before .before .before) in search needs
@@ -83,8 +85,8 @@ part-add-end-2 c = let b = norms-ok (c .before .before .before .before) in searc
 
 mul-add-3 : tie.Need-mul-add-3
 mul-add-3 c =
-    let z = c .before .before .before .before .before .before .before .before .before .before .pre in
-    record { fits = omega (arith, (spanned (c .before .before .before .before .before)) .words, cand-off (c .before .before .before .before .before .before .before .before .before .before .args .h .shape) (c .before .before .before .before .before .before .before .before .before .before .args .l), seats-few (c .before .before .before .before .before .before .before .before .before .before .args .h .shape) (z .standing .accepted) (c .before .before .before .before .before .before .before .before .before .before .args .l) (omega (arith, z .inside))) }
+    let z = c .before .before .before .before .before .before .before .before .before .before .before .before .pre in
+    record { fits = omega (arith, (spanned (c .before .before .before .before .before)) .words, cand-off (c .before .before .before .before .before .before .before .before .before .before .before .before .args .h .shape) (c .before .before .before .before .before .before .before .before .before .before .before .before .args .l), seats-few (c .before .before .before .before .before .before .before .before .before .before .before .before .args .h .shape) (z .standing .accepted) (c .before .before .before .before .before .before .before .before .before .before .before .before .args .l) (omega (arith, z .inside))) }
 
 sub-add-3 : tie.Need-sub-add-3
 sub-add-3 c = let b = words-ok (c .before .before .before .before .before) in search needs
@@ -97,8 +99,8 @@ part-add-end-3 c = let b = words-ok (c .before .before .before .before .before) 
 
 mul-add-4 : tie.Need-mul-add-4
 mul-add-4 c =
-    let z = c .before .before .before .before .before .before .before .before .before .before .before .pre in
-    record { fits = omega (arith, (spanned (c .before .before .before .before .before .before)) .seats, cand-off (c .before .before .before .before .before .before .before .before .before .before .before .args .h .shape) (c .before .before .before .before .before .before .before .before .before .before .before .args .l), seats-few (c .before .before .before .before .before .before .before .before .before .before .before .args .h .shape) (z .standing .accepted) (c .before .before .before .before .before .before .before .before .before .before .before .args .l) (omega (arith, z .inside))) }
+    let z = c .before .before .before .before .before .before .before .before .before .before .before .before .before .pre in
+    record { fits = omega (arith, (spanned (c .before .before .before .before .before .before)) .seats, cand-off (c .before .before .before .before .before .before .before .before .before .before .before .before .before .args .h .shape) (c .before .before .before .before .before .before .before .before .before .before .before .before .before .args .l), seats-few (c .before .before .before .before .before .before .before .before .before .before .before .before .before .args .h .shape) (z .standing .accepted) (c .before .before .before .before .before .before .before .before .before .before .before .before .before .args .l) (omega (arith, z .inside))) }
 
 sub-add-4 : tie.Need-sub-add-4
 sub-add-4 c = let b = seats-ok (c .before .before .before .before .before .before) in search needs
@@ -111,17 +113,17 @@ part-add-end-4 c = let b = seats-ok (c .before .before .before .before .before .
 
 add-requires : tie.Need-add-requires
 add-requires c κs =
-    let a = c .before .before .before .before .before .before .before .before .before .before .before .before .args in
-    rw (c .before .before .before .before .before .before .dims .ensures, c .before .before .before .before .before .who-in .ensures) (send-ready (lent-of (c .before .before .before .before .before .before .before .before .before .before .before .before)) (now (a .words)) (a .weight) (a .l) (c .before .before .before .before .before .before .before .before .before .before .before .before .pre) _ _ _ _ _ _ _ _ (spanned (c .before .before .before .before .before .before .before)))
+    let a = c .before .before .before .before .before .before .before .before .before .before .before .before .before .before .args in
+    rw (c .before .before .before .before .before .before .dims .ensures, c .before .before .before .before .before .who-in .ensures) (send-ready (lent-of (c .before .before .before .before .before .before .before .before .before .before .before .before .before .before)) (now (a .words)) (a .weight) (a .l) (c .before .before .before .before .before .before .before .before .before .before .before .before .before .before .pre) _ _ _ _ _ _ _ _ (spanned (c .before .before .before .before .before .before .before)))
 
 len-after-requires : tie.Need-len-after-requires
-len-after-requires c κs = let z = c .before .before .before .before .before .before .before .before .before .before .before .before .before .before .before .before .before .before .before .pre .standing in omega (arith, z .lens (c .before .before .before .before .before .before .before .before .before .before .before .before .before .before .before .before .before .before .before .args .l) (c .before .before .before .before .before .before .before .before .before .before .before .before .before .before .before .before .before .before .before .pre .inside), z .accepted .small)
+len-after-requires c κs = let z = c .before .before .before .before .before .before .before .before .before .before .before .before .before .before .before .before .before .before .before .before .before .pre .standing in omega (arith, z .lens (c .before .before .before .before .before .before .before .before .before .before .before .before .before .before .before .before .before .before .before .before .before .args .l) (c .before .before .before .before .before .before .before .before .before .before .before .before .before .before .before .before .before .before .before .before .before .pre .inside), z .accepted .small)
 
 mul-lens : tie.Need-mul-lens
-mul-lens c = let p = c .before .before .before .before .before .before .before .before .before .before .before .before .before .before .before .before .before .before .before .before .pre in let q = p .standing .accepted .few in let i = p .inside in search needs
+mul-lens c = let p = c .before .before .before .before .before .before .before .before .before .before .before .before .before .before .before .before .before .before .before .before .before .before .pre in let q = p .standing .accepted .few in let i = p .inside in let hl = p .headed .lens in let hf = p .headed .flags in search needs
 
-element-write-lens : tie.Need-element-write-lens
-element-write-lens c = let p = c .before .before .before .before .before .before .before .before .before .before .before .before .before .before .before .before .before .before .before .before .pre in let q = p .standing .accepted .few in let i = p .inside in search needs
+slice-write-lens : tie.Need-slice-write-lens
+slice-write-lens c = let p = c .before .before .before .before .before .before .before .before .before .before .before .before .before .before .before .before .before .before .before .before .before .before .pre in let q = p .standing .accepted .few in let i = p .inside in let hl = p .headed .lens in let hf = p .headed .flags in search needs
 
 kept-requires : tie.Need-kept-requires
 kept-requires c κs = search needs
@@ -138,56 +140,56 @@ same-length-3 c = search needs
 same-length-4 : tie.Need-same-length-4
 same-length-4 c = search needs
 
+same-length-5 : tie.Need-same-length-5
+same-length-5 c = search needs
+
 -- the parts that came back
 back : (c : tie.After-counts) → let s = c .before .before .before .before .before .before .before .before .before .before .before .before .before .before .span-of .result in let l = c .before .before .before .before .before .before .add .last in
-    Back (lent-of (c .before .before .before .before .before .before .before .before .before .before .before .before .before .before .before .before .before .before .before)) (c .before .before .before .before .before .before .before .before .before .before .before .before .before .before .before .before .before .before .before .pre .standing) (c .before .before .before .before .before .before .before .before .before .before .before .before .before .before .before .before .before .before .before .args .l) (c .before .before .before .before .before .before .before .before .before .before .before .before .before .before .before .before .before .before .before .pre .inside) (s .cells) (s .«cells_end») (s .norms) (s .«norms_end») (s .words) (s .«words_end») (s .seats) (s .«seats_end») (spanned (c .before .before .before .before .before .before .before .before .before .before .before .before .before .before)) (l .0) (l .1 .0) (l .1 .1 .0) (l .1 .1 .1 .0)
+    Back (lent-of (c .before .before .before .before .before .before .before .before .before .before .before .before .before .before .before .before .before .before .before .before .before)) (c .before .before .before .before .before .before .before .before .before .before .before .before .before .before .before .before .before .before .before .before .before .pre .standing) (c .before .before .before .before .before .before .before .before .before .before .before .before .before .before .before .before .before .before .before .before .before .args .l) (c .before .before .before .before .before .before .before .before .before .before .before .before .before .before .before .before .before .before .before .before .before .pre .inside) (s .cells) (s .«cells_end») (s .norms) (s .«norms_end») (s .words) (s .«words_end») (s .seats) (s .«seats_end») (spanned (c .before .before .before .before .before .before .before .before .before .before .before .before .before .before)) (l .0) (l .1 .0) (l .1 .1 .0) (l .1 .1 .1 .0)
 back c = record { cells = c .before .before .before .before .before .counters .given .0; norms = c .before .before .before .before .norms .given .0; words = c .before .before .entries .given .0; seats = c .counts .given .0 }
 
 -- the layer as it came back
-layer-now : (c : tie.After-add) → let a = c .before .before .before .before .before .before .before .before .before .before .before .before .before .args in let l = c .add .last in let f = getD (now (a .flags)) (a .l) false in
+layer-now : (c : tie.After-add) → let a = c .before .before .before .before .before .before .before .before .before .before .before .before .before .before .before .args in let l = c .add .last in let f = getD (now (a .flags)) (a .l) false in
     layerOf (dimsAt (a .h .shape) (a .l)) (l .0) (l .1 .0) (l .1 .1 .0) (l .1 .1 .1 .0) (lenBy (c .add .result) (getD (now (a .lens)) (a .l) 0)) (f && keptBy (c .add .result))
-    ≡ addLayer (dimsAt (a .h .shape) (a .l)) (item (whoAt (now (a .words)) (a .l)) (a .weight)) (layerAt (view (lent-of (c .before .before .before .before .before .before .before .before .before .before .before .before .before))) (a .l))
+    ≡ addLayer (dimsAt (a .h .shape) (a .l)) (item (whoAt (now (a .words)) (a .l)) (a .weight)) (layerAt (view (lent-of (c .before .before .before .before .before .before .before .before .before .before .before .before .before .before .before))) (a .l))
 layer-now c =
-    let a = c .before .before .before .before .before .before .before .before .before .before .before .before .before .args in
+    let a = c .before .before .before .before .before .before .before .before .before .before .before .before .before .before .before .args in
     rw (c .before .before .before .before .before .before .before .dims .ensures, c .before .before .before .before .before .before .who-in .ensures) at (c .add .ensures (getD (now (a .flags)) (a .l) false))
-    ∙ ap (addLayer (dimsAt (a .h .shape) (a .l)) (item (whoAt (now (a .words)) (a .l)) (a .weight))) (sym (handed-is (lent-of (c .before .before .before .before .before .before .before .before .before .before .before .before .before)) (c .before .before .before .before .before .before .before .before .before .before .before .before .before .pre .standing) (a .l) (c .before .before .before .before .before .before .before .before .before .before .before .before .before .pre .inside) _ _ _ _ _ _ _ _ (spanned (c .before .before .before .before .before .before .before .before))))
+    ∙ ap (addLayer (dimsAt (a .h .shape) (a .l)) (item (whoAt (now (a .words)) (a .l)) (a .weight))) (sym (handed-is (lent-of (c .before .before .before .before .before .before .before .before .before .before .before .before .before .before .before)) (c .before .before .before .before .before .before .before .before .before .before .before .before .before .before .before .pre .standing) (a .l) (c .before .before .before .before .before .before .before .before .before .before .before .before .before .before .before .pre .inside) _ _ _ _ _ _ _ _ (spanned (c .before .before .before .before .before .before .before .before))))
 
 -- flags and lengths as they are handed back
-after-kept : (c : tie.Then1) → let a = c .before .before .before .before .before .before .before .before .before .before .before .before .before .before .before .before .before .before .before .before .before .before .args in let h = headOf (a .h) (now (a .flags)) (now (a .lens)) in
+after-kept : (c : tie.Then1) → let a = c .before .before .before .before .before .before .before .before .before .before .before .before .before .before .before .before .before .before .before .before .before .before .before .before .args in let h = headOf (a .h) (now (a .flags)) (now (a .lens)) in
     headOf (a .h) (now (a .flags)) (set (now (a .lens)) (a .l) (c .before .before .len-after .result))
     ≡ withLayer h (a .l) (getD (now (a .flags)) (a .l) false && keptBy (c .before .before .before .before .before .before .before .before .before .add .result)) (lenBy (c .before .before .before .before .before .before .before .before .before .add .result) (getD (now (a .lens)) (a .l) 0))
 after-kept c =
-    let a = c .before .before .before .before .before .before .before .before .before .before .before .before .before .before .before .before .before .before .before .before .before .before .args in
+    let a = c .before .before .before .before .before .before .before .before .before .before .before .before .before .before .before .before .before .before .before .before .before .before .before .before .args in
     rw (c .before .before .len-after .ensures) (touched-kept (headOf (a .h) (now (a .flags)) (now (a .lens))) (a .l) _ (keptBy (c .before .before .before .before .before .before .before .before .before .add .result)) (sym (c .before .kept .ensures) ∙ c .if1 .taken))
 
-after-lost : (c : tie.Else1) → let a = c .before .before .before .before .before .before .before .before .before .before .before .before .before .before .before .before .before .before .before .before .before .before .args in let h = headOf (a .h) (now (a .flags)) (now (a .lens)) in
+after-lost : (c : tie.Else1) → let a = c .before .before .before .before .before .before .before .before .before .before .before .before .before .before .before .before .before .before .before .before .before .before .before .before .args in let h = headOf (a .h) (now (a .flags)) (now (a .lens)) in
     headOf (a .h) (set (now (a .flags)) (a .l) false) (set (now (a .lens)) (a .l) (c .before .before .len-after .result))
     ≡ withLayer h (a .l) (getD (now (a .flags)) (a .l) false && keptBy (c .before .before .before .before .before .before .before .before .before .add .result)) (lenBy (c .before .before .before .before .before .before .before .before .before .add .result) (getD (now (a .lens)) (a .l) 0))
 after-lost c =
-    let a = c .before .before .before .before .before .before .before .before .before .before .before .before .before .before .before .before .before .before .before .before .before .before .args in
+    let a = c .before .before .before .before .before .before .before .before .before .before .before .before .before .before .before .before .before .before .before .before .before .before .before .before .args in
     rw (c .before .before .len-after .ensures) (touched-lost (headOf (a .h) (now (a .flags)) (now (a .lens))) (a .l) _ (keptBy (c .before .before .before .before .before .before .before .before .before .add .result)) (sym (c .before .kept .ensures) ∙ c .if1 .left))
 
 -- no more candidates than seats
-few : (c : tie.After-add) → lenBy (c .add .result) (getD (now (c .before .before .before .before .before .before .before .before .before .before .before .before .before .args .lens)) (c .before .before .before .before .before .before .before .before .before .before .before .before .before .args .l) 0) ≤ dimsAt (c .before .before .before .before .before .before .before .before .before .before .before .before .before .args .h .shape) (c .before .before .before .before .before .before .before .before .before .before .before .before .before .args .l) .size
+few : (c : tie.After-add) → lenBy (c .add .result) (getD (now (c .before .before .before .before .before .before .before .before .before .before .before .before .before .before .before .args .lens)) (c .before .before .before .before .before .before .before .before .before .before .before .before .before .before .before .args .l) 0) ≤ dimsAt (c .before .before .before .before .before .before .before .before .before .before .before .before .before .before .before .args .h .shape) (c .before .before .before .before .before .before .before .before .before .before .before .before .before .before .before .args .l) .size
 unfolding layerAt view
 few c =
-    let a = c .before .before .before .before .before .before .before .before .before .before .before .before .before .args in
+    let a = c .before .before .before .before .before .before .before .before .before .before .before .before .before .before .before .args in
     rw (ap (λ (y : Layer). y .table .len) (layer-now c))
-    (add-few (dimsAt (a .h .shape) (a .l)) (item (whoAt (now (a .words)) (a .l)) (a .weight)) (layerAt (view (lent-of (c .before .before .before .before .before .before .before .before .before .before .before .before .before))) (a .l)) (c .before .before .before .before .before .before .before .before .before .before .before .before .before .pre .standing .lens (a .l) (c .before .before .before .before .before .before .before .before .before .before .before .before .before .pre .inside)))
+    (add-few (dimsAt (a .h .shape) (a .l)) (item (whoAt (now (a .words)) (a .l)) (a .weight)) (layerAt (view (lent-of (c .before .before .before .before .before .before .before .before .before .before .before .before .before .before .before))) (a .l)) (c .before .before .before .before .before .before .before .before .before .before .before .before .before .before .before .pre .standing .lens (a .l) (c .before .before .before .before .before .before .before .before .before .before .before .before .before .before .before .pre .inside)))
 
 returns : tie.Need-returns
 returns c =
-    let a = c .before .before .before .before .before .before .before .before .before .before .before .before .before .before .before .before .before .before .before .before .before .before .args in
-    let r = lent-of (c .before .before .before .before .before .before .before .before .before .before .before .before .before .before .before .before .before .before .before .before .before .before) in (
-      rw (after-kept c) (back-view r (c .before .before .before .before .before .before .before .before .before .before .before .before .before .before .before .before .before .before .before .before .before .before .pre .standing) (a .l) (c .before .before .before .before .before .before .before .before .before .before .before .before .before .before .before .before .before .before .before .before .before .before .pre .inside) _ _ _ _ _ _ _ _ (spanned (c .before .before .before .before .before .before .before .before .before .before .before .before .before .before .before .before .before)) _ _ _ _ _ _ _ (back (c .before .before .before)) (layer-now (c .before .before .before .before .before .before .before .before .before))),
-      rw (after-kept c) (back-standing r (c .before .before .before .before .before .before .before .before .before .before .before .before .before .before .before .before .before .before .before .before .before .before .pre .standing) (a .l) (c .before .before .before .before .before .before .before .before .before .before .before .before .before .before .before .before .before .before .before .before .before .before .pre .inside) _ _ _ _ _ _ _ _ (spanned (c .before .before .before .before .before .before .before .before .before .before .before .before .before .before .before .before .before)) _ _ _ _ _ _ (back (c .before .before .before)) (few (c .before .before .before .before .before .before .before .before .before))),
+    let a = c .before .before .before .before .before .before .before .before .before .before .before .before .before .before .before .before .before .before .before .before .before .before .before .before .args in
+    let r = lent-of (c .before .before .before .before .before .before .before .before .before .before .before .before .before .before .before .before .before .before .before .before .before .before .before .before) in (
+      rw (after-kept c) (back-view r (c .before .before .before .before .before .before .before .before .before .before .before .before .before .before .before .before .before .before .before .before .before .before .before .before .pre .standing) (a .l) (c .before .before .before .before .before .before .before .before .before .before .before .before .before .before .before .before .before .before .before .before .before .before .before .before .pre .inside) _ _ _ _ _ _ _ _ (spanned (c .before .before .before .before .before .before .before .before .before .before .before .before .before .before .before .before .before)) _ _ _ _ _ _ _ (back (c .before .before .before)) (layer-now (c .before .before .before .before .before .before .before .before .before))),
+      rw (after-kept c) (back-standing r (c .before .before .before .before .before .before .before .before .before .before .before .before .before .before .before .before .before .before .before .before .before .before .before .before .pre .standing) (a .l) (c .before .before .before .before .before .before .before .before .before .before .before .before .before .before .before .before .before .before .before .before .before .before .before .before .pre .inside) _ _ _ _ _ _ _ _ (spanned (c .before .before .before .before .before .before .before .before .before .before .before .before .before .before .before .before .before)) _ _ _ _ _ _ (back (c .before .before .before)) (few (c .before .before .before .before .before .before .before .before .before))),
     )
 
-element-write-flags : tie.Need-element-write-flags
-element-write-flags c = let p = c .before .before .before .before .before .before .before .before .before .before .before .before .before .before .before .before .before .before .before .before .before .before .pre in let q = p .standing .accepted .few in let i = p .inside in search needs
-
-same-length-5 : tie.Need-same-length-5
-same-length-5 c = search needs
+slice-write-flags : tie.Need-slice-write-flags
+slice-write-flags c = let p = c .before .before .before .before .before .before .before .before .before .before .before .before .before .before .before .before .before .before .before .before .before .before .before .before .pre in let q = p .standing .accepted .few in let i = p .inside in let hl = p .headed .lens in let hf = p .headed .flags in search needs
 
 same-length-6 : tie.Need-same-length-6
 same-length-6 c = search needs
@@ -198,13 +200,22 @@ same-length-7 c = search needs
 same-length-8 : tie.Need-same-length-8
 same-length-8 c = search needs
 
+same-length-9 : tie.Need-same-length-9
+same-length-9 c = search needs
+
+same-length-10 : tie.Need-same-length-10
+same-length-10 c = search needs
+
+same-length-11 : tie.Need-same-length-11
+same-length-11 c = search needs
+
 returns-2 : tie.Need-returns-2
 returns-2 c =
-    let a = c .before .before .before .before .before .before .before .before .before .before .before .before .before .before .before .before .before .before .before .before .before .before .args in
-    let r = lent-of (c .before .before .before .before .before .before .before .before .before .before .before .before .before .before .before .before .before .before .before .before .before .before) in (
-      rw (after-lost c) (back-view r (c .before .before .before .before .before .before .before .before .before .before .before .before .before .before .before .before .before .before .before .before .before .before .pre .standing) (a .l) (c .before .before .before .before .before .before .before .before .before .before .before .before .before .before .before .before .before .before .before .before .before .before .pre .inside) _ _ _ _ _ _ _ _ (spanned (c .before .before .before .before .before .before .before .before .before .before .before .before .before .before .before .before .before)) _ _ _ _ _ _ _ (back (c .before .before .before)) (layer-now (c .before .before .before .before .before .before .before .before .before))),
-      rw (after-lost c) (back-standing r (c .before .before .before .before .before .before .before .before .before .before .before .before .before .before .before .before .before .before .before .before .before .before .pre .standing) (a .l) (c .before .before .before .before .before .before .before .before .before .before .before .before .before .before .before .before .before .before .before .before .before .before .pre .inside) _ _ _ _ _ _ _ _ (spanned (c .before .before .before .before .before .before .before .before .before .before .before .before .before .before .before .before .before)) _ _ _ _ _ _ (back (c .before .before .before)) (few (c .before .before .before .before .before .before .before .before .before))),
+    let a = c .before .before .before .before .before .before .before .before .before .before .before .before .before .before .before .before .before .before .before .before .before .before .before .before .args in
+    let r = lent-of (c .before .before .before .before .before .before .before .before .before .before .before .before .before .before .before .before .before .before .before .before .before .before .before .before) in (
+      rw (after-lost c) (back-view r (c .before .before .before .before .before .before .before .before .before .before .before .before .before .before .before .before .before .before .before .before .before .before .before .before .pre .standing) (a .l) (c .before .before .before .before .before .before .before .before .before .before .before .before .before .before .before .before .before .before .before .before .before .before .before .before .pre .inside) _ _ _ _ _ _ _ _ (spanned (c .before .before .before .before .before .before .before .before .before .before .before .before .before .before .before .before .before)) _ _ _ _ _ _ _ (back (c .before .before .before)) (layer-now (c .before .before .before .before .before .before .before .before .before))),
+      rw (after-lost c) (back-standing r (c .before .before .before .before .before .before .before .before .before .before .before .before .before .before .before .before .before .before .before .before .before .before .before .before .pre .standing) (a .l) (c .before .before .before .before .before .before .before .before .before .before .before .before .before .before .before .before .before .before .before .before .before .before .before .before .pre .inside) _ _ _ _ _ _ _ _ (spanned (c .before .before .before .before .before .before .before .before .before .before .before .before .before .before .before .before .before)) _ _ _ _ _ _ (back (c .before .before .before)) (few (c .before .before .before .before .before .before .before .before .before))),
     )
 
 pub send-one-spec : {M : Type 1} → statement M
-send-one-spec = tie.close (tie.spec span-of-requires dims-requires who-in-requires mul-len element-copy-out-len mul-add sub-add part-add-start part-add-end mul-add-2 sub-add-2 part-add-start-2 part-add-end-2 mul-add-3 sub-add-3 part-add-start-3 part-add-end-3 mul-add-4 sub-add-4 part-add-start-4 part-add-end-4 add-requires len-after-requires mul-lens element-write-lens kept-requires same-length same-length-2 same-length-3 same-length-4 returns element-write-flags same-length-5 same-length-6 same-length-7 same-length-8 returns-2)
+send-one-spec = tie.close (tie.spec span-of-requires dims-requires who-in-requires mul-len slice-read-len mul-add sub-add part-add-start part-add-end mul-add-2 sub-add-2 part-add-start-2 part-add-end-2 mul-add-3 sub-add-3 part-add-start-3 part-add-end-3 mul-add-4 sub-add-4 part-add-start-4 part-add-end-4 add-requires len-after-requires mul-lens slice-write-lens kept-requires same-length same-length-2 same-length-3 same-length-4 same-length-5 returns slice-write-flags same-length-6 same-length-7 same-length-8 same-length-9 same-length-10 same-length-11 returns-2)

@@ -1,4 +1,4 @@
--- `header::Header::begin_update` meets its contract.
+-- `header::Fixed::begin_update` meets its contract.
 -- Written by tools/places.py from answers.txt; assumes nothing.
 use Prim.Native.Nat.{_+_}
 use mathlib.Core.Path.{_≡_, sym, ap, _∙_}
@@ -15,8 +15,8 @@ use Rattle.words.specs.Num.{top}
 use Rattle.words.proofs.Signed.{not-negative}
 use Rattle.header.proofs.Steps.{weight-negative, weight-positive}
 use Rattle.header.specs.Header.{beginOf}
-use Rattle.header.proofs.Header.begin_update.Statement.{statement}
-use Rattle.header.proofs.Header.begin_update.Tie as tie
+use Rattle.header.proofs.Fixed.begin_update.Statement.{statement}
+use Rattle.header.proofs.Fixed.begin_update.Tie as tie
 
 -- the sign of the weight, by the code's test
 negative : (c : tie.Then1) → nonNeg (c .before .args .weight) ≡ false
@@ -60,27 +60,19 @@ returns-3 c =
 add-sum : tie.Need-add-sum
 add-sum c = record { fits = omega (arith, c .before .before .before .before .before .before .pre, c .before .if3 .left) }
 
-with-weight-requires : tie.Need-with-weight-requires
-with-weight-requires c κs = search needs
-
 join-requires : tie.Need-join-requires
 join-requires c κs = search needs
-
-with-mode-requires : tie.Need-with-mode-requires
-with-mode-requires c κs = search needs
 
 returns-4 : tie.Need-returns-4
 unfolding beginOf
 returns-4 c =
     simp (
-      positive (c .before .before .before .before .before .before .before .before),
-      sym (c .before .before .before .before .before .before .before .clashes .ensures) ∙ c .before .before .before .before .before .before .if2 .left,
-      le-leb (c .before .before .before .before .before .before .before .before .before .args .self .weight + natAbs (c .before .before .before .before .before .before .before .before .before .args .weight)) top (omega (arith, c .before .before .before .before .before .before .before .before .before .pre, amount (c .before .before .before .before .before .before .before .before .before), c .before .before .before .before .if3 .left)),
-      c .with-mode .ensures,
-      c .before .before .with-weight .ensures,
-      c .before .join .ensures,
-      amount (c .before .before .before .before .before .before .before .before .before),
+      positive (c .before .before .before .before .before .before .before),
+      sym (c .before .before .before .before .before .before .clashes .ensures) ∙ c .before .before .before .before .before .if2 .left,
+      le-leb (c .before .before .before .before .before .before .before .before .args .self .weight + natAbs (c .before .before .before .before .before .before .before .before .args .weight)) top (omega (arith, c .before .before .before .before .before .before .before .before .pre, amount (c .before .before .before .before .before .before .before .before), c .before .before .before .if3 .left)),
+      c .join .ensures,
+      amount (c .before .before .before .before .before .before .before .before),
     )
 
 pub begin-update-spec : {M : Type 1} → statement M
-begin-update-spec = tie.close (tie.spec returns clashes-requires returns-2 cast-w sub-if3 returns-3 add-sum with-weight-requires join-requires with-mode-requires returns-4)
+begin-update-spec = tie.close (tie.spec returns clashes-requires returns-2 cast-w sub-if3 returns-3 add-sum join-requires returns-4)

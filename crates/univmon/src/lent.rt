@@ -1,0 +1,116 @@
+// The updates on a header whose lengths and flags are lent beside the slices, 19 places each: nothing
+// of 224 bytes is copied in and out.
+use crate::Kind;
+use crate::calls::update;
+use header::Begun;
+use header::Fixed;
+use header::Shape;
+ghost use mathlib.Core.Path.{_≡_};
+ghost use Prim.Native.Nat.{ℕ};
+ghost use Rattle.header.specs.Header.{headOf};
+ghost use Rattle.univmon.specs.declared.Kind.the-variants as kind;
+ghost use Rattle.univmon.specs.Slices.{lent};
+ghost use Rattle.univmon.specs.Calls.{left, leftBy, lentUpdateCall};
+
+// An update of any kind, on anything.
+fn update_lent(
+    kind: Kind,
+    had: Fixed,
+    flags: &mut [bool],
+    lens: &mut [usize],
+    counters: &mut [i64],
+    norms: &mut [u64],
+    entries: &mut [u64],
+    counts: &mut [i64],
+    words: &[u64],
+    weight: i64,
+) -> Begun
+    ensures { λ r. ⌜ left (r .refusal) (lent (headOf (r .fixed) (now (flags .exit)) (now (lens .exit))) (now (counters .exit)) (now (norms .exit)) (now (entries .exit)) (now (counts .exit)))
+        ≡ leftBy (lent (headOf had (now (flags .entry)) (now (lens .entry))) (now (counters .entry)) (now (norms .entry)) (now (entries .entry)) (now (counts .entry)))
+        (lentUpdateCall kind (lent (headOf had (now (flags .entry)) (now (lens .entry))) (now (counters .entry)) (now (norms .entry)) (now (entries .entry)) (now (counts .entry))) (now (words .entry)) weight) ⌝ }
+{
+    if lens.len() != Shape::MAX_LAYERS {
+        return Begun {
+            refusal: 9,
+            fixed: had,
+        };
+    }
+    if flags.len() != Shape::MAX_LAYERS {
+        return Begun {
+            refusal: 9,
+            fixed: had,
+        };
+    }
+    update(
+        kind,
+        had,
+        flags,
+        lens,
+        counters,
+        norms,
+        entries,
+        counts,
+        words,
+        weight,
+    )
+}
+
+// The key goes to layers 0 to its bottom layer.
+pub fn update_weighted_lent(
+    had: Fixed,
+    lens: &mut [usize],
+    flags: &mut [bool],
+    counters: &mut [i64],
+    norms: &mut [u64],
+    entries: &mut [u64],
+    counts: &mut [i64],
+    words: &[u64],
+    weight: i64,
+) -> Begun
+    ensures { λ r. ⌜ left (r .refusal) (lent (headOf (r .fixed) (now (flags .exit)) (now (lens .exit))) (now (counters .exit)) (now (norms .exit)) (now (entries .exit)) (now (counts .exit)))
+        ≡ leftBy (lent (headOf had (now (flags .entry)) (now (lens .entry))) (now (counters .entry)) (now (norms .entry)) (now (entries .entry)) (now (counts .entry)))
+        (lentUpdateCall kind.Standard (lent (headOf had (now (flags .entry)) (now (lens .entry))) (now (counters .entry)) (now (norms .entry)) (now (entries .entry)) (now (counts .entry))) (now (words .entry)) weight) ⌝ }
+{
+    update_lent(
+        Kind::Standard,
+        had,
+        flags,
+        lens,
+        counters,
+        norms,
+        entries,
+        counts,
+        words,
+        weight,
+    )
+}
+
+// The key goes to its bottom layer only.
+pub fn update_weighted_terminal_lent(
+    had: Fixed,
+    lens: &mut [usize],
+    flags: &mut [bool],
+    counters: &mut [i64],
+    norms: &mut [u64],
+    entries: &mut [u64],
+    counts: &mut [i64],
+    words: &[u64],
+    weight: i64,
+) -> Begun
+    ensures { λ r. ⌜ left (r .refusal) (lent (headOf (r .fixed) (now (flags .exit)) (now (lens .exit))) (now (counters .exit)) (now (norms .exit)) (now (entries .exit)) (now (counts .exit)))
+        ≡ leftBy (lent (headOf had (now (flags .entry)) (now (lens .entry))) (now (counters .entry)) (now (norms .entry)) (now (entries .entry)) (now (counts .entry)))
+        (lentUpdateCall kind.Terminal (lent (headOf had (now (flags .entry)) (now (lens .entry))) (now (counters .entry)) (now (norms .entry)) (now (entries .entry)) (now (counts .entry))) (now (words .entry)) weight) ⌝ }
+{
+    update_lent(
+        Kind::Terminal,
+        had,
+        flags,
+        lens,
+        counters,
+        norms,
+        entries,
+        counts,
+        words,
+        weight,
+    )
+}
