@@ -1,6 +1,6 @@
 -- One counter, and a hash's counters row by row: the stores and the questions of an update. Assumes nothing.
 use mathlib.Core.Path.{_≡_, refl, sym, ap, ap₂, _∙_}
-use mathlib.Core.Bool.{Bool, true, false, _&&_}
+use mathlib.Core.Bool.{Bool, true, _&&_}
 use Prim.Native.Nat.{ℕ, zero, suc, _+_, _-_, _*_, _≤_, _<_}
 use native.Mathlib.Omega.{arith}
 use native.Mathlib.Numerals.{add-one}
@@ -12,7 +12,7 @@ use lib.IntN.{ℤ, pos, natAbs, _+ℤ_}
 use lib.Dec.{leb}
 use borrow.Author.Tests.{leb-true}
 use Rattle.words.specs.Num.{top, squareCap, inRange, capped}
-use Rattle.words.proofs.Bools.{and-left, and-right, both}
+use Rattle.words.proofs.Bools.{and-left, and-right, both, and-cross}
 use Rattle.words.proofs.Squares.{range-bound}
 use Rattle.matrix_storage.specs.Bits.{maxRows, maxCols, signed}
 use Rattle.matrix_storage.proofs.Cells.{abs-signed}
@@ -87,13 +87,6 @@ unfolding rowsFit
 fit-none cols h w xs r = refl
 
 -- both at once
-and-cross : (a b c d : Bool) → a && b && (c && d) ≡ a && c && (b && d)
-and-cross true true true d = refl
-and-cross true true false d = refl
-and-cross true false true d = refl
-and-cross true false false d = refl
-and-cross false b c d = refl
-
 pub ready-step : (cols h w : ℕ) (xs : List ℤ) (ws : List ℕ) (rows k r : ℕ) → r < rows
     → rowsReady cols h w (sketchOf xs ws rows) (suc k) r ≡ rowRead (cellAt xs (cellOf cols h r)) (normAt ws r) cols && cellFits (cellOf cols h r) (signed h r (pos w)) xs && rowsReady cols h w (sketchOf xs ws rows) k (suc r)
 ready-step cols h w xs ws rows k r l =

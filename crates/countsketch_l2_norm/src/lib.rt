@@ -12,6 +12,7 @@ mod update;
 pub use cells::apply_delta;
 pub use cells::cell_fits;
 pub use cells::cell_read;
+pub use cells::norm_of;
 pub use estimate::cells_in;
 pub use estimate::count_with_hash;
 pub use estimate::estimate_with_hash;

@@ -1,11 +1,11 @@
 -- The tests of a shape, and what an accepted one holds. Assumes nothing.
 use mathlib.Core.Path.{_≡_, refl}
 use mathlib.Core.Bool.{Bool, true, false, cond, _||_}
-use Prim.Native.Nat.{ℕ, _+_, _*_, _≤_}
+use Prim.Native.Nat.{ℕ, _+_, _*_}
 use native.Mathlib.Omega.{arith}
 use borrow.Author.Tests.{eqb-false, ltb-false}
 use lib.Dec.{eqb, ltb}
-use Rattle.matrix_storage.specs.Bits.{maxRows, maxCols, hashBits, maskBits, Shaped}
+use Rattle.matrix_storage.specs.Bits.{maxRows, maxCols, hashBits, maskBits}
 use Rattle.matrix_storage.specs.Calls.{bitsRefusal}
 use Rattle.header.specs.Shape.{maxLayers, maxHeap, shapeRefusal}
 use Rattle.header.specs.Accepted.{Accepted}

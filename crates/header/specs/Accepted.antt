@@ -1,5 +1,5 @@
 -- What an accepted shape holds, by name.
-use Prim.Native.Nat.{ℕ, _≤_}
+use Prim.Native.Nat.{_≤_}
 use Rattle.matrix_storage.specs.Bits.{Shaped}
 use Rattle.header.specs.Shape.{maxLayers, maxHeap}
 use Rattle.header.specs.declared.Shape.{Shape}

@@ -14,7 +14,7 @@ use Rattle.heap_moves.specs.Cands.{Cand, noCand}
 use Rattle.heap_moves.specs.Flat.{candsOf}
 use Rattle.heap_moves.proofs.Views.{length-cands, cand-at}
 use lib.Dec.{eqb}
-use Rattle.words.proofs.Bools.{never, and-left, and-right}
+use Rattle.words.proofs.Bools.{and-left, and-right, not-same}
 use Rattle.heap.specs.Fours.{fourOther}
 use Rattle.heap.specs.Offer.{find}
 
@@ -60,9 +60,6 @@ find-end es ns k n l m =
     ∙ find-none k (take n (candsOf es ns)) (λ j hj q. m j (omega (arith, taken-long es ns n l)) (sym (taken-key es ns n j (omega (arith, taken-long es ns n l)) l) ∙ q))
 
 -- ---- four entries at once
-
-not-same : (x k : ℕ) → not (eqb x k) ≡ true → x ≢ k
-not-same x k t e = never (sym (ap not (eq-eqb x k e)) ∙ t)
 
 pub missed-four : (es : List ℕ) (k i : ℕ) → Missed es k i → fourOther es k (4 * i) ≡ true → Missed es k (i + 4)
 missed-four es k i m t =

@@ -1,5 +1,5 @@
 -- The tests of a layer, by the slices that they read. Assumes nothing.
-use mathlib.Core.Path.{_≡_, refl, sym, ap, _∙_}
+use mathlib.Core.Path.{_≡_, refl, ap, _∙_}
 use mathlib.Core.Bool.{Bool, true, false, _&&_}
 use mathlib.Core.List.{List}
 use Prim.Native.Nat.{ℕ, zero, suc, _+_, _*_, _<_}
@@ -15,7 +15,7 @@ use Rattle.heap_moves.specs.declared.Who.{Who}
 use Rattle.heap_moves.proofs.Rounds.{counts-cands}
 use Rattle.layer.specs.declared.Dims.{Dims}
 use Rattle.layer.specs.Layer.{layerOf, item, hashBy, addReads, addFits}
-use Rattle.layer.specs.Delta.{delta, deltaReads, deltaFits}
+use Rattle.layer.specs.Delta.{delta, deltaReads}
 
 -- ---- an update
 

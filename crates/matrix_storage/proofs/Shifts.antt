@@ -5,7 +5,7 @@ use native.Mathlib.Nat.{mul-assoc, add-comm, mod-eq-of-lt, div-one, mul-add-div-
 use native.Mathlib.Omega.{arith}
 use lib.Pow.{pow-pos, pow-add, shr-shr, shr-lt, high, low, mod-pow-add, mod-mod-pow, pow-lt}
 use lib.Bits.{bitAnd, and-mask}
-use Rattle.matrix_storage.specs.Bits.{hashOf, column}
+use Rattle.matrix_storage.specs.Bits.{hashOf}
 
 -- shifts across two words, at any word width w
 pub shift-high : (w s hi lo : ℕ) → w ≤ s → hi < 2 ^ w → lo < 2 ^ w → hi / 2 ^ (s - w) ≡ (hi * 2 ^ w + lo) / 2 ^ s % 2 ^ w

@@ -14,7 +14,7 @@ use lib.IntN.{ℤ, pos}
 use lib.Signed.{ltZ}
 use lib.Dec.{eqb}
 use borrow.Author.Tests.{eq-eqb, ne-eqb}
-use Rattle.words.proofs.Bools.{never, and-left, and-right}
+use Rattle.words.proofs.Bools.{and-left, and-right, not-same}
 use Rattle.sums.specs.Entries.{Entry, Space, space, at, view}
 use Rattle.sums.specs.Terminal.{recount, gatherOne}
 use Rattle.ranks.specs.Room.{Within, put, findFrom, fourOther}
@@ -142,9 +142,6 @@ missed-next ks k i m h j l = go (ℕ-discrete j i)
     go : Dec (j ≡ i) → getD ks j 0 ≢ k
     go (yes e) = subst (λ (z : ℕ). getD ks z 0 ≢ k) (sym e) h
     go (no f) = m j (omega (arith, f))
-
-not-same : (x k : ℕ) → not (eqb x k) ≡ true → x ≢ k
-not-same x k t e = never (sym (ap not (eq-eqb x k e)) ∙ t)
 
 missed-four : (ks : List ℕ) (k i : ℕ) → Missed ks k i → fourOther ks k i ≡ true → Missed ks k (i + 4)
 missed-four ks k i m t =

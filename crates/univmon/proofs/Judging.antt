@@ -1,9 +1,10 @@
 -- The tests of the touched layers. Assumes nothing.
-use mathlib.Core.Path.{_≡_, refl, sym, ap, ap₂, _∙_}
+use mathlib.Core.Path.{_≡_, refl, sym, ap, _∙_}
 use mathlib.Core.Bool.{Bool, true, false, cond, not, _&&_}
 use mathlib.Core.List.{List}
-use Prim.Native.Nat.{ℕ, zero, suc, _+_, _≤_, _<_}
+use Prim.Native.Nat.{ℕ, zero, suc, _+_, _<_}
 use native.Mathlib.Omega.{arith}
+use Rattle.words.proofs.Bools.{and-cross}
 use Rattle.header.specs.declared.Shape.{Shape}
 use Rattle.layer.specs.Layer.{Layer}
 use Rattle.univmon.specs.State.{State, layerAt, allLayers}
@@ -26,13 +27,6 @@ judge-one r words w many first l p h = record { standing = p .standing; headed =
 -- what is read does not depend on the weight
 pub judge-light : (r : Lent) (words : List ℕ) (w many first : ℕ) → JudgeReady r words w many first → JudgeReady r words 0 many first
 judge-light r words w many first p = record { standing = p .standing; headed = p .headed; recorded = p .recorded; light = omega arith; inside = p .inside }
-
-and-cross : (a b c d : Bool) → a && b && (c && d) ≡ a && c && (b && d)
-and-cross true true true d = refl
-and-cross true true false d = refl
-and-cross true false true d = refl
-and-cross true false false d = refl
-and-cross false b c d = refl
 
 -- all layers are ready if all are read and all fit
 pub both-tests : (sh : Shape) (words : List ℕ) (w k l : ℕ) (s : State) → allLayers (readyAt sh words w) k l s ≡ allLayers (readsAt sh words w) k l s && allLayers (fitsAt sh words w) k l s

@@ -1,15 +1,13 @@
 -- Where layers stand in the slices. Assumes nothing.
-use mathlib.Core.Path.{_≡_, refl, sym, ap, ap₂, _∙_}
+use mathlib.Core.Path.{_≡_, sym, _∙_}
 use Prim.Native.Nat.{ℕ, zero, suc, _+_, _*_, _≤_, _<_}
-use native.Mathlib.Nat.{suc-mul, mul-assoc, mul-comm, mul-le-mul, mul-le-mul-right, le-trans}
+use native.Mathlib.Nat.{suc-mul, mul-assoc, mul-le-mul, le-trans}
 use native.Mathlib.Decide.{ℕ-discrete}
 use native.Mathlib.Omega.{arith}
-use Rattle.matrix_storage.specs.Bits.{maxRows, maxCols}
 use Rattle.countsketch_l2_norm.specs.Merge.{sumBelow}
 use Rattle.header.specs.declared.Shape.{Shape}
-use Rattle.header.specs.Shape.{maxLayers, maxHeap}
 use Rattle.header.specs.Accepted.{Accepted}
-use Rattle.univmon.specs.State.{rowsAt, colsAt, dimsAt, cellOff, normOff, candOff}
+use Rattle.univmon.specs.State.{rowsAt, colsAt, cellOff, normOff, candOff}
 
 -- a part ends where the next begins, or before
 pub off-step : (f : ℕ → ℕ) (l m : ℕ) → l < m → sumBelow l f + f l ≤ sumBelow m f

@@ -12,7 +12,7 @@ use Rattle.words.specs.Num.{top}
 use Rattle.words.proofs.Bools.{never}
 use Rattle.header.specs.declared.Mode.{Mode}
 use Rattle.header.specs.Header.{headerOk, withMode, settled}
-use Rattle.layer.specs.Delta.{delta, deltaLayer, deltaReads, deltaFits}
+use Rattle.layer.specs.Delta.{deltaLayer, deltaReads, deltaFits}
 use Rattle.univmon.specs.State.{State, sizesOk, dimsAt, layerAt, putLayer}
 use Rattle.univmon.specs.Slices.{Lent, lent, lentOk, view, flat}
 use Rattle.univmon.specs.Judged.{refused, done}

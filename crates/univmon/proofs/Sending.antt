@@ -1,12 +1,11 @@
 -- The loop of an update over layers: what is left to do gives the answer, and what is left to read is still in range. Assumes nothing.
 use mathlib.Core.Path.{_≡_, refl, sym, ap, _∙_, subst}
-use mathlib.Core.Bool.{Bool, true, _&&_}
+use mathlib.Core.Bool.{Bool, true}
 use mathlib.Core.List.{List}
 use Prim.Native.Nat.{ℕ, zero, suc, _+_, _≤_, _<_}
 use native.Mathlib.Omega.{arith}
 use native.Mathlib.Numerals.{add-one}
-use lib.ListN.{length, getD}
-use Rattle.words.specs.Num.{top}
+use lib.ListN.{length}
 use Rattle.words.proofs.Bools.{and-left, and-right}
 use Rattle.header.specs.declared.Shape.{Shape}
 use Rattle.layer.specs.Layer.{Layer, item, addLayer}

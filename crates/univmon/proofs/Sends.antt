@@ -1,6 +1,6 @@
 -- One layer of a lent state is handed on, and comes back changed. Assumes nothing.
-use mathlib.Core.Path.{_≡_, refl, sym, ap, ap₂, _∙_, subst}
-use mathlib.Core.Bool.{Bool, true, false, _&&_}
+use mathlib.Core.Path.{_≡_, sym, ap, _∙_}
+use mathlib.Core.Bool.{Bool, false, _&&_}
 use mathlib.Core.List.{List}
 use Prim.Native.Nat.{ℕ, _+_, _-_, _*_, _≤_, _<_}
 use native.Mathlib.Omega.{arith}
@@ -8,26 +8,22 @@ use native.Mathlib.Decide.{ℕ-discrete, decLt}
 use lib.ListN.{length, getD, set}
 use lib.Seq.{getD-set-same, getD-set-other, set-out}
 use lib.IntN.{ℤ}
-use Rattle.words.specs.Num.{top}
 use Rattle.words.specs.Parts.{part, putPart}
 use Rattle.words.proofs.Parts.{length-part, length-put}
-use Rattle.matrix_storage.specs.Bits.{Shaped}
 use Rattle.heap_moves.specs.declared.Who.{Who}
 use Rattle.header.specs.declared.Shape.{Shape}
-use Rattle.header.specs.declared.Header.{Header}
 use Rattle.header.specs.Header.{withLayer}
-use Rattle.header.specs.Accepted.{Accepted}
 use Rattle.layer.specs.declared.Dims.{Dims}
 use Rattle.layer.specs.Layer.{Layer, layerOf, item, addReads, addFits}
 use Rattle.layer.specs.Needs.{Housed, AddReady}
 use Rattle.layer.proofs.Tests.{reads-are, fits-are}
 use Rattle.univmon.specs.declared.sizes.Span.{Span}
 use Rattle.univmon.specs.State.{rowsAt, colsAt, dimsAt, cellOff, normOff, candOff, layerAt, putLayer}
-use Rattle.univmon.specs.Slices.{Lent, lent, view, cellsIn, normsIn, candsIn}
+use Rattle.univmon.specs.Slices.{Lent, lent, view}
 use Rattle.univmon.specs.Spans.{spanOf}
 use Rattle.univmon.specs.Updates.{whoAt}
-use Rattle.univmon.specs.Needs.{Sizes, Standing, SendReady, JudgeReady, readsAt, fitsAt, readyAt}
-use Rattle.univmon.proofs.Views.{shapeBy, layerHere, cell-end, norm-end, cand-end, layer-view, put-view, same-part, same-put}
+use Rattle.univmon.specs.Needs.{Standing, SendReady, JudgeReady, readsAt, readyAt}
+use Rattle.univmon.proofs.Views.{shapeBy, cell-end, norm-end, cand-end, layer-view, put-view, same-part, same-put}
 
 -- where a layer's parts begin and end, as numbers
 pub record Spanned (sh : Shape) (l ca ce na ne ea ee ta te : ℕ) : Type 0 where

@@ -11,7 +11,6 @@ use lib.Signed.{nonNeg}
 use lib.Dec.{eqb, leb}
 use Rattle.words.specs.Num.{top, wordSize}
 use Rattle.header.specs.declared.Mode.{Mode}
-use Rattle.header.specs.declared.Header.{Header}
 use Rattle.header.specs.declared.Fixed.{Fixed}
 use Rattle.header.specs.declared.Begun.{Begun}
 use Rattle.header.specs.Shape.{maxLayers}

@@ -1,11 +1,11 @@
 -- A layer of a state, and the layer that stands in the parts of its slices. Assumes nothing.
 use mathlib.Core.Path.{_≡_, refl, sym, ap, ap₂, _∙_, subst}
 use mathlib.Core.Bool.{Bool, false}
-use mathlib.Core.List.{List, _++_}
+use mathlib.Core.List.{List}
 use Prim.Native.Nat.{ℕ, _+_, _-_, _*_, _≤_, _<_}
 use native.Mathlib.Omega.{arith}
 use native.Mathlib.Decide.{decLt}
-use lib.ListN.{length, getD, set}
+use lib.ListN.{length, getD}
 use lib.Seq.{ext-getD}
 use lib.IntN.{ℤ}
 use Rattle.words.specs.Parts.{part, putPart}
@@ -13,7 +13,7 @@ use Rattle.words.specs.Wide.{twoWords}
 use Rattle.words.proofs.Parts.{length-part, length-put, part-at, put-at-before, put-at-in, put-at-after}
 use Rattle.countsketch_l2_norm.specs.Norms.{normsOf, normAt}
 use Rattle.countsketch_l2_norm.proofs.Norms.{length-norms, norm-at}
-use Rattle.heap_moves.specs.Flat.{candsOf, entriesOf, countsOf}
+use Rattle.heap_moves.specs.Flat.{candsOf}
 use Rattle.heap_moves.proofs.Rounds.{entries-are, counts-are}
 use Rattle.heap_moves.proofs.Parts.{cands-part, cands-put}
 use Rattle.header.specs.declared.Shape.{Shape}

@@ -1,8 +1,7 @@
 -- A call as C makes it is the library's own on the header that C's stands for.
 use Prim.Native.Nat.{ℕ, zero, suc, _≤_, _<_}
-use mathlib.Core.Path.{_≡_, refl, sym, ap, _∙_}
-use mathlib.Core.Bool.{Bool, true, false, cond, _&&_}
-use lib.Dec.{leb}
+use mathlib.Core.Path.{_≡_, refl, ap, _∙_}
+use mathlib.Core.Bool.{Bool, true, false}
 use native.Mathlib.Omega.{arith}
 use borrow.Author.Tests.{le-leb, lt-leb}
 use Rattle.header.specs.declared.Header.{Header}
@@ -13,7 +12,7 @@ use Rattle.estimates.specs.declared.Answer.{Answer}
 use Rattle.estimates.specs.declared.PanelAnswer.{PanelAnswer}
 use Rattle.estimates.specs.Calls.{refusedBy, noPanel}
 use Rattle.univmon_c.specs.declared.CHeader.{CHeader}
-use Rattle.univmon_c.specs.Crossing.{isMode, modeOf, modeNumber, headerOf, cHeader, cAnswered, cAnswer, cPanel}
+use Rattle.univmon_c.specs.Crossing.{modeOf, modeNumber, headerOf, cHeader, cAnswered, cAnswer, cPanel}
 use Rattle.univmon_c.specs.Calls.{CLent, lentOf, ofLent, cLeft, crossed, changeBy, mergeBy, headBy, answerBy, panelBy}
 
 -- ---- calls that change a state
