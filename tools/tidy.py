@@ -1,0 +1,85 @@
+#!/usr/bin/env python3
+"""Finds what the gate does not: imports that nothing uses, and laws that stand twice.
+
+    python3 tools/tidy.py           prints both
+    python3 tools/tidy.py --fix     takes unused imports out of .antt files (then `rt fmt`)
+
+Imports are judged by name, file by file; the names of `.rt` files are printed only, since the clauses' types may want them. Two laws are the same if
+their types are, but for the names of what they bind; a row is a place to look.
+"""
+import collections
+import os
+import re
+import subprocess
+import sys
+
+ROOT = os.path.realpath(os.path.join(os.path.dirname(os.path.abspath(__file__)), ".."))
+USE = re.compile(r"^(ghost )?use ([^\n{]*?)\.\{([^}]*)\}(;?)$", re.M)
+LAW = re.compile(r"^( {0,2})(?:abbrev |unfoldable )?(?:pub )?([^\s:(){}]+) : (.*)$")
+TYPES = {"ℕ", "ℤ", "Bool"}
+
+
+def files(pattern):
+    listed = subprocess.run(["git", "ls-files", pattern], cwd=ROOT, capture_output=True, text=True, check=True).stdout.split()
+    return [f for f in listed if not f.endswith("/Proof.antt")]
+
+
+def is_used(name, body):
+    if name.startswith("_") or name.endswith("_"):
+        return name.strip("_") in body
+    return re.search(r"(?<![\w\-′·«])" + re.escape(name.split(" as ")[-1]) + r"(?![\w\-′])", body) is not None
+
+
+def unused(path, fix):
+    text = open(path).read()
+    uses = list(USE.finditer(text))
+    body = text
+    for m in reversed(uses):
+        body = body[: m.start()] + body[m.end() :]
+    body = re.sub(r"--.*" if path.endswith(".antt") else r"//.*", "", body)
+    for m in reversed(uses):
+        names = [n.strip() for n in m.group(3).split(",") if n.strip()]
+        idle = [n for n in names if not is_used(n, body) and (path.endswith(".antt") or n not in TYPES)]
+        if not idle:
+            continue
+        print(f"{os.path.relpath(path, ROOT)}: {m.group(2)}: {', '.join(idle)}")
+        if fix and path.endswith(".antt"):
+            kept = [n for n in names if n not in idle]
+            line = f"{m.group(1) or ''}use {m.group(2)}.{{{', '.join(kept)}}}{m.group(4)}"
+            text = text[: m.start()] + line + text[m.end() :] if kept else text[: m.start()] + text[m.end() + 1 :]
+    if fix:
+        open(path, "w").write(text)
+
+
+def laws(path):
+    """each law's type with its bound names numbered, and where it stands"""
+    lines = open(path).read().split("\n")
+    for i, line in enumerate(lines):
+        m = LAW.match(line)
+        if not m or line.startswith("use"):
+            continue
+        kind, j = m.group(3), i + 1
+        deep = len(m.group(1)) + 4
+        while j < len(lines) and lines[j].strip() and len(lines[j]) - len(lines[j].lstrip()) >= deep:
+            kind, j = kind + " " + lines[j].strip(), j + 1
+        names = [n for b in re.finditer(r"[({]([^(){}:]+) : ", kind) for n in b.group(1).split()]
+        for k, n in enumerate(dict.fromkeys(names)):
+            kind = re.sub(r"(?<![\w\-′·«.])" + re.escape(n) + r"(?![\w\-′])", f"${k}", kind)
+        if len(kind) > 40:
+            yield re.sub(r"\s+", " ", kind), f"{os.path.relpath(path, ROOT)}:{i + 1} {m.group(2)}"
+
+
+def main():
+    fix = "--fix" in sys.argv[1:]
+    for f in files("crates/*.antt") + files("crates/*.rt"):
+        unused(os.path.join(ROOT, f), fix)
+    stand = collections.defaultdict(list)
+    for f in files("crates/*.antt"):
+        for kind, place in laws(os.path.join(ROOT, f)):
+            stand[kind].append(place)
+    for kind, places in sorted(stand.items()):
+        if len(places) > 1:
+            print(" | ".join(places), "\n   ", kind[:150])
+
+
+main()
