@@ -9,6 +9,7 @@ ghost use Rattle.sums.specs.Entries.{space, view, listed};
 ghost use Rattle.sums.specs.Terms.{nought, addTerm, sumOver};
 ghost use Rattle.sums.specs.Terminal.{gatherOne, gather};
 ghost use Rattle.ranks.specs.Room.{Within};
+ghost use Rattle.ranks.specs.Spots.{Marked};
 ghost use Rattle.estimates.specs.Sums.{whosRead};
 ghost use Rattle.estimates.specs.Anew.{entryAt, whosFrom, Held, Readable};
 use layer::Dims;
@@ -85,6 +86,7 @@ fn absorb_at(
     keys: &mut [u64],
     bottoms: &mut [u64],
     counts: &mut [i64],
+    marks: &mut [u8],
     len: usize,
     cells: &[i64],
     entries: &[u64],
@@ -92,17 +94,18 @@ fn absorb_at(
     n: usize,
     i: usize,
 ) -> usize
-    requires { ⌜ Within (space (now keys) (now bottoms) (now counts)) (len + 1) ⌝ }
+    requires { ⌜ (Within (space (now keys) (now bottoms) (now counts)) (len + 1)) × (Marked (now marks) (now keys) len) ⌝ }
     requires { ⌜ Readable dims (now cells) (now entries) n ⌝ }
     requires { ⌜ i < n ⌝ }
     ensures { λ r. ⌜ view (space (now (keys .exit)) (now (bottoms .exit)) (now (counts .exit))) 0 r
         ≡ gatherOne (view (space (now (keys .entry)) (now (bottoms .entry)) (now (counts .entry))) 0 len)
         (entryAt dims (now (cells .entry)) (now (entries .entry)) i) ⌝ }
     ensures { λ r. ⌜ r ≤ len + 1 ⌝ }
+    ensures { λ r. ⌜ Marked (now (marks .exit)) (now (keys .exit)) r ⌝ }
 {
     let w = heap_moves::who_at(entries, i);
     let count = countsketch_l2_norm::count_with_hash(cells, dims.rows, dims.cols, w.high, w.low);
-    ranks::absorb_one(keys, bottoms, counts, len, w.key, w.bottom, count)
+    ranks::absorb_one(keys, bottoms, counts, marks, len, w.key, w.bottom, count)
 }
 
 // Takes the first n candidates in, behind the first `have` of the working space. Answers how many it
@@ -124,10 +127,23 @@ pub fn absorb(
         (listed (entryAt dims (now (cells .entry)) (now (entries .entry))) 0 n) ⌝ }
     ensures { λ r. ⌜ r ≤ have + n ⌝ }
 {
+    let mut marks = [0u8; 16381];
+    ranks::mark_first(&mut marks, &*keys, have);
     let mut len = have;
     let mut i = 0;
     while i < n {
-        len = absorb_at(keys, bottoms, counts, len, cells, entries, dims, n, i);
+        len = absorb_at(
+            keys,
+            bottoms,
+            counts,
+            &mut marks,
+            len,
+            cells,
+            entries,
+            dims,
+            n,
+            i,
+        );
         i += 1;
     }
     len

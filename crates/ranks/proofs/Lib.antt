@@ -2,4 +2,5 @@ pub mod Sizes
 pub mod Orders
 pub mod Ranks
 pub mod Gathers
+pub mod Spots
 pub mod Levels

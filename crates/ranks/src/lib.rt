@@ -3,10 +3,12 @@
 //
 // These functions are called by the other crates of this repository, which show what they require.
 mod blocks;
+mod marks;
 mod order;
 mod parts;
 mod step;
 
+pub use marks::mark_first;
 pub use order::absorb_one;
 pub use parts::rank;
 pub use step::close;
