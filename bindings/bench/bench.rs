@@ -6,24 +6,16 @@ use std::hint::black_box;
 use asap_sketchlib::{
     hash128_seeded, hash64_seeded, DataInput, UnivMon, UNIVMON_BOTTOM_LAYER_SEED_INDEX,
 };
+use random::Random;
 use univmon::{Owned, Shape, State, G};
+
+#[path = "../random.rs"]
+mod random;
 
 const ROWS: usize = 5;
 const COLS: usize = 2048;
 const LAYERS: usize = 8;
 const RECORD: usize = 2 + 2 * LAYERS;
-
-struct Random(u64);
-
-impl Random {
-    fn next(&mut self) -> u64 {
-        self.0 = self.0.wrapping_add(0x9E37_79B9_7F4A_7C15);
-        let mut z = self.0;
-        z = (z ^ (z >> 30)).wrapping_mul(0xBF58_476D_1CE4_E5B9);
-        z = (z ^ (z >> 27)).wrapping_mul(0x94D0_49BB_1331_11EB);
-        z ^ (z >> 31)
-    }
-}
 
 /// Zipf with exponent 1, as the original's own bench draws it.
 fn stream(seed: u64, updates: usize, keys: usize) -> Vec<u64> {

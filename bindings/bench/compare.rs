@@ -9,27 +9,11 @@ use asap_sketchlib::{
     hash128_seeded, hash64_seeded, DataInput, OwnedDataInput, UnivMon, UnivMonDeltaFidelity,
     UNIVMON_BOTTOM_LAYER_SEED_INDEX,
 };
+use random::Random;
 use univmon::{Fidelity, Owned, Refused, Shape, State, G};
 
-struct Random(u64);
-
-impl Random {
-    fn next(&mut self) -> u64 {
-        self.0 = self.0.wrapping_add(0x9E37_79B9_7F4A_7C15);
-        let mut z = self.0;
-        z = (z ^ (z >> 30)).wrapping_mul(0xBF58_476D_1CE4_E5B9);
-        z = (z ^ (z >> 27)).wrapping_mul(0x94D0_49BB_1331_11EB);
-        z ^ (z >> 31)
-    }
-
-    fn below(&mut self, n: usize) -> usize {
-        (self.next() % n as u64) as usize
-    }
-
-    fn one_in(&mut self, n: usize) -> bool {
-        self.below(n) == 0
-    }
-}
+#[path = "../random.rs"]
+mod random;
 
 /// Both sides of one relay.
 struct Pair {

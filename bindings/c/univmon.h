@@ -38,7 +38,7 @@
  * number or array content needs to be right. C itself asks for this, and the library cannot test it:
  *   - a pointer is not NULL, not even with length 0, is aligned to 8 bytes, and its length is not more
  *     than what lies behind it;
- *   - the arrays that a call writes overlap no other array of that call;
+ *   - the arrays that a call writes, lent lengths and flags among them, overlap no other array of it;
  *   - each byte of `flags` is a bool, 0 or 1, as it is wherever C code assigns it.
  */
 #ifndef UNIVMON_H
@@ -96,6 +96,21 @@ typedef struct univmon_answered {
     uint64_t refusal;
     univmon_header header;
 } univmon_answered;
+
+/* Dimensions, for the calls that have no header by value. */
+typedef struct univmon_shape {
+    size_t heap_size;
+    size_t rows;
+    size_t cols;
+    size_t layers;
+} univmon_shape;
+
+/* A refusal and weight and mode as they were, or 0 and the new ones. */
+typedef struct univmon_step {
+    uint64_t refusal;
+    uint64_t weight;
+    uint64_t mode;
+} univmon_step;
 
 /* A refusal and layer 0, or 0 and the layer. */
 typedef struct univmon_bottom {
@@ -160,6 +175,37 @@ univmon_answered univmon_update_weighted(
 /* The same, to its bottom layer only. */
 univmon_answered univmon_update_weighted_terminal(
     univmon_header header,
+    int64_t *counters, size_t counters_len,
+    uint64_t *norms, size_t norms_len,
+    uint64_t *entries, size_t entries_len,
+    int64_t *counts, size_t counts_len,
+    const uint64_t *record, size_t record_len,
+    int64_t weight);
+
+/* The same two updates with the header's lengths and flags lent and the rest of it as numbers: no header
+ * is copied in or out, which is most of what a call costs beside its layers. Both arrays have 19 places,
+ * or the call refuses with 9; it writes them where it is done. Weight and mode come back: store them in
+ * the header, refused or not. With a header h:
+ *   univmon_step s = univmon_update_weighted_lent(
+ *       (univmon_shape){h.heap_size, h.rows, h.cols, h.layers}, h.weight, h.mode,
+ *       h.lens, UNIVMON_MAX_LAYERS, h.flags, UNIVMON_MAX_LAYERS, .., record, record_len, weight);
+ *   h.weight = s.weight;
+ *   h.mode = s.mode; */
+univmon_step univmon_update_weighted_lent(
+    univmon_shape shape, uint64_t weight_had, uint64_t mode,
+    size_t *lens, size_t lens_len,
+    bool *flags, size_t flags_len,
+    int64_t *counters, size_t counters_len,
+    uint64_t *norms, size_t norms_len,
+    uint64_t *entries, size_t entries_len,
+    int64_t *counts, size_t counts_len,
+    const uint64_t *record, size_t record_len,
+    int64_t weight);
+
+univmon_step univmon_update_weighted_terminal_lent(
+    univmon_shape shape, uint64_t weight_had, uint64_t mode,
+    size_t *lens, size_t lens_len,
+    bool *flags, size_t flags_len,
     int64_t *counters, size_t counters_len,
     uint64_t *norms, size_t norms_len,
     uint64_t *entries, size_t entries_len,
@@ -232,6 +278,18 @@ univmon_answer univmon_estimate_cardinality(
 
 /* What the panel shows: L1, L2 and cardinality. Refuses 9. */
 univmon_panel univmon_panel_answer(
+    univmon_header header,
+    const int64_t *counters, size_t counters_len,
+    const uint64_t *norms, size_t norms_len,
+    const uint64_t *entries, size_t entries_len,
+    const int64_t *counts, size_t counts_len);
+
+/* ---- the state check */
+
+/* Whether header and arrays have what every accepted call keeps: lengths and ranges hold, each norm is
+ * its row's sum, no count in a layer is below its heap parent's, unused entries are zero. No for a number
+ * that is no mode. Goes once over each array. */
+bool univmon_check_state(
     univmon_header header,
     const int64_t *counters, size_t counters_len,
     const uint64_t *norms, size_t norms_len,

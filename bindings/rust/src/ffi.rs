@@ -1,5 +1,5 @@
 //! The functions of `univmon.h`, as they are exported. A slice is a pointer and a length.
-use crate::{Answer, Answered, Bottom, Header, Panel};
+use crate::{Answer, Answered, Bottom, Header, Panel, Shape, Step};
 
 extern "C" {
     pub fn univmon_check_shape(heap_size: usize, rows: usize, cols: usize, layers: usize) -> u64;
@@ -57,6 +57,46 @@ extern "C" {
         record_len: usize,
         weight: i64,
     ) -> Answered;
+    pub fn univmon_update_weighted_lent(
+        shape: Shape,
+        weight_had: u64,
+        mode: u64,
+        lens: *mut usize,
+        lens_len: usize,
+        flags: *mut bool,
+        flags_len: usize,
+        counters: *mut i64,
+        counters_len: usize,
+        norms: *mut u64,
+        norms_len: usize,
+        entries: *mut u64,
+        entries_len: usize,
+        counts: *mut i64,
+        counts_len: usize,
+        record: *const u64,
+        record_len: usize,
+        weight: i64,
+    ) -> Step;
+    pub fn univmon_update_weighted_terminal_lent(
+        shape: Shape,
+        weight_had: u64,
+        mode: u64,
+        lens: *mut usize,
+        lens_len: usize,
+        flags: *mut bool,
+        flags_len: usize,
+        counters: *mut i64,
+        counters_len: usize,
+        norms: *mut u64,
+        norms_len: usize,
+        entries: *mut u64,
+        entries_len: usize,
+        counts: *mut i64,
+        counts_len: usize,
+        record: *const u64,
+        record_len: usize,
+        weight: i64,
+    ) -> Step;
     pub fn univmon_apply_delta(
         header: Header,
         counters: *mut i64,
@@ -135,4 +175,15 @@ extern "C" {
         counts: *const i64,
         counts_len: usize,
     ) -> Panel;
+    pub fn univmon_check_state(
+        header: Header,
+        counters: *const i64,
+        counters_len: usize,
+        norms: *const u64,
+        norms_len: usize,
+        entries: *const u64,
+        entries_len: usize,
+        counts: *const i64,
+        counts_len: usize,
+    ) -> bool;
 }

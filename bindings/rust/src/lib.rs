@@ -48,6 +48,7 @@ pub enum G {
 }
 
 /// Heap size, rows, columns and layers.
+#[repr(C)]
 #[derive(Clone, Copy, Debug, PartialEq, Eq)]
 pub struct Shape {
     pub heap_size: usize,
@@ -122,6 +123,15 @@ impl Header {
 pub struct Answered {
     pub refusal: u64,
     pub header: Header,
+}
+
+/// What an update on lent lengths and flags answers: weight and mode as they are after it.
+#[repr(C)]
+#[derive(Clone, Copy, Debug, PartialEq, Eq)]
+pub struct Step {
+    pub refusal: u64,
+    pub weight: u64,
+    pub mode: u64,
 }
 
 #[repr(C)]
@@ -263,6 +273,14 @@ impl<'a> State<'a> {
         Ok(())
     }
 
+    /// Stores what an update on the header's own lengths and flags left of the rest: on a refusal that is
+    /// what was there.
+    fn put(&mut self, a: Step) -> Result<(), Refused> {
+        self.header.weight = a.weight;
+        self.header.mode = a.mode;
+        accepted(a.refusal)
+    }
+
     pub fn clear(&mut self) -> Result<(), Refused> {
         // SAFETY: each pointer and length is a slice's, and no two slices overlap.
         let a = unsafe {
@@ -281,12 +299,19 @@ impl<'a> State<'a> {
         self.take(a)
     }
 
-    /// Counts a key: it goes to layers 0 to its bottom layer.
+    /// Counts a key: it goes to layers 0 to its bottom layer. The header's lengths and flags are lent, so
+    /// that no header is copied.
     pub fn update_weighted(&mut self, record: &[u64], weight: i64) -> Result<(), Refused> {
         // SAFETY: each pointer and length is a slice's, and no two slices that are written overlap.
         let a = unsafe {
-            ffi::univmon_update_weighted(
-                self.header,
+            ffi::univmon_update_weighted_lent(
+                self.header.shape(),
+                self.header.weight,
+                self.header.mode,
+                self.header.lens.as_mut_ptr(),
+                self.header.lens.len(),
+                self.header.flags.as_mut_ptr(),
+                self.header.flags.len(),
                 self.counters.as_mut_ptr(),
                 self.counters.len(),
                 self.norms.as_mut_ptr(),
@@ -300,15 +325,21 @@ impl<'a> State<'a> {
                 weight,
             )
         };
-        self.take(a)
+        self.put(a)
     }
 
     /// Counts a key in its bottom layer only.
     pub fn update_weighted_terminal(&mut self, record: &[u64], weight: i64) -> Result<(), Refused> {
         // SAFETY: as in `update_weighted`.
         let a = unsafe {
-            ffi::univmon_update_weighted_terminal(
-                self.header,
+            ffi::univmon_update_weighted_terminal_lent(
+                self.header.shape(),
+                self.header.weight,
+                self.header.mode,
+                self.header.lens.as_mut_ptr(),
+                self.header.lens.len(),
+                self.header.flags.as_mut_ptr(),
+                self.header.flags.len(),
                 self.counters.as_mut_ptr(),
                 self.counters.len(),
                 self.norms.as_mut_ptr(),
@@ -322,7 +353,7 @@ impl<'a> State<'a> {
                 weight,
             )
         };
-        self.take(a)
+        self.put(a)
     }
 
     /// A change of one counter that another relay saw.
@@ -455,6 +486,26 @@ impl<'a> State<'a> {
                 counts.len(),
             )
         })
+    }
+
+    /// Whether header and slices have what every accepted call keeps: lengths and ranges, each norm its
+    /// row's sum, no count below its heap parent's, unused entries zero. Goes once over each slice.
+    pub fn check(&self) -> bool {
+        let Read(counters, norms, entries, counts) = self.read();
+        // SAFETY: each pointer and length is a slice's.
+        unsafe {
+            ffi::univmon_check_state(
+                self.header,
+                counters.as_ptr(),
+                counters.len(),
+                norms.as_ptr(),
+                norms.len(),
+                entries.as_ptr(),
+                entries.len(),
+                counts.as_ptr(),
+                counts.len(),
+            )
+        }
     }
 
     /// L1, L2 and cardinality.

@@ -115,3 +115,37 @@ fn merges() {
         assert_eq!(one.header().lens[0], 2);
     });
 }
+
+#[test]
+fn checks() {
+    with(|s| {
+        assert!(s.check());
+        s.update_weighted(&record(7, 0), 5).unwrap();
+        assert_eq!(s.update_weighted(&record(7, 0), -1), Err(Refused(5)));
+        assert!(s.check());
+    });
+    let (mut counters, mut norms) = ([0i64; 16], [0u64; 8]);
+    let (mut entries, mut counts) = ([0u64; 16], [0i64; 4]);
+    let mut state = State::new(SHAPE, &mut counters, &mut norms, &mut entries, &mut counts).unwrap();
+    state.update_weighted_terminal(&record(7, 0), 5).unwrap();
+    assert!(state.check());
+    let header = state.into_header();
+    norms[0] += 1;
+    assert!(!State::lend(header, &mut counters, &mut norms, &mut entries, &mut counts).unwrap().check());
+    norms[0] -= 1;
+    let odd = Header { mode: 3, ..header };
+    assert!(!State::lend(odd, &mut counters, &mut norms, &mut entries, &mut counts).unwrap().check());
+    assert!(State::lend(header, &mut counters, &mut norms, &mut entries, &mut counts).unwrap().check());
+}
+
+#[test]
+fn an_odd_mode_is_refused_and_stays() {
+    let (mut counters, mut norms) = ([0i64; 16], [0u64; 8]);
+    let (mut entries, mut counts) = ([0u64; 16], [0i64; 4]);
+    let state = State::new(SHAPE, &mut counters, &mut norms, &mut entries, &mut counts).unwrap();
+    let odd = Header { mode: 3, weight: 4, ..state.into_header() };
+    let mut state = State::lend(odd, &mut counters, &mut norms, &mut entries, &mut counts).unwrap();
+    assert_eq!(state.update_weighted(&record(7, 0), 1), Err(Refused(9)));
+    assert_eq!(state.update_weighted_terminal(&record(7, 0), 1), Err(Refused(9)));
+    assert_eq!(state.header(), &odd);
+}

@@ -1,28 +1,14 @@
 //! Random calls with wrong lengths, damaged states and extreme numbers: none faults, a refused one
 //! leaves everything as it was, and what is answered keeps the header's own rules.
 //! RANDOM_CALLS sets how many calls are made (default 400000), RANDOM_SEED where they start.
+use random::Random;
 use univmon::ffi::*;
-use univmon::{Answer, Answered, Header, MAX_LAYERS};
+use univmon::{Answer, Answered, Header, Step, MAX_LAYERS};
 
-struct Random(u64);
+#[path = "../../random.rs"]
+mod random;
 
 impl Random {
-    fn next(&mut self) -> u64 {
-        self.0 = self.0.wrapping_add(0x9E37_79B9_7F4A_7C15);
-        let mut z = self.0;
-        z = (z ^ (z >> 30)).wrapping_mul(0xBF58_476D_1CE4_E5B9);
-        z = (z ^ (z >> 27)).wrapping_mul(0x94D0_49BB_1331_11EB);
-        z ^ (z >> 31)
-    }
-
-    fn below(&mut self, n: usize) -> usize {
-        (self.next() % n as u64) as usize
-    }
-
-    fn one_in(&mut self, n: usize) -> bool {
-        self.below(n) == 0
-    }
-
     /// Below the first number, at times below the second.
     fn mostly(&mut self, n: usize, m: usize) -> usize {
         let most = if self.one_in(8) { m } else { n };
@@ -192,6 +178,36 @@ fn judge_float(a: Answer, kinds: &mut [u64; 16]) {
     }
 }
 
+/// An update on lent lengths and flags, at times on too few of them: it leaves what the update by value
+/// leaves, or refuses with 9.
+fn lent_update(r: &mut Random, s: &mut Lent, terminal: bool, words: &[u64], weight: i64) -> Answered {
+    let h = s.header;
+    let mut twin = s.clone();
+    let (mut lens, mut flags) = (h.lens, h.flags);
+    let short = r.one_in(20);
+    let (n, m) = if short { (r.below(MAX_LAYERS), r.below(MAX_LAYERS + 1)) } else { (MAX_LAYERS, MAX_LAYERS) };
+    let at = (words.as_ptr(), words.len());
+    let (a, b, c, d, e, f, g, i) = lend!(s);
+    let (ns, fs) = (lens.as_mut_ptr(), flags.as_mut_ptr());
+    let lent = if terminal { univmon_update_weighted_terminal_lent } else { univmon_update_weighted_lent };
+    let held = if terminal { univmon_update_weighted_terminal } else { univmon_update_weighted };
+    // SAFETY: as in `change`; of lengths and flags at most as many are lent as there are.
+    let Step { refusal, weight: total, mode } =
+        unsafe { lent(h.shape(), h.weight, h.mode, ns, n, fs, m, a, b, c, d, e, f, g, i, at.0, at.1, weight) };
+    let after = Header { weight: total, mode, lens, flags, ..h };
+    if short {
+        assert_eq!((refusal, after), (9, h), "too few lengths or flags");
+    } else {
+        let (a, b, c, d, e, f, g, i) = lend!(twin);
+        // SAFETY: as in `change`.
+        let by_value = unsafe { held(h, a, b, c, d, e, f, g, i, at.0, at.1, weight) };
+        twin.header = s.header;
+        assert_eq!((by_value.refusal, by_value.header), (refusal, after), "lent and by value differ");
+        assert_eq!(&twin, s, "lent and by value differ in the slices");
+    }
+    Answered { refusal, header: after }
+}
+
 fn change(r: &mut Random, s: &mut Lent, other: &mut Lent) -> Answered {
     let words = record(r, s.header.layers);
     let weight = if r.one_in(20) { r.extreme() as i64 } else { r.below(9) as i64 };
@@ -218,6 +234,7 @@ fn change(r: &mut Random, s: &mut Lent, other: &mut Lent) -> Answered {
                 let fidelity = if r.one_in(10) { r.extreme() } else { r.below(2) as u64 };
                 univmon_apply_delta(h, a, b, c, d, e, f, g, i, at.0, at.1, layer, row, col, count, fidelity)
             }
+            10..=13 => lent_update(r, s, terminal, &words, weight),
             _ if terminal => univmon_update_weighted_terminal(h, a, b, c, d, e, f, g, i, at.0, at.1, weight),
             _ => univmon_update_weighted(h, a, b, c, d, e, f, g, i, at.0, at.1, weight),
         }
@@ -249,12 +266,20 @@ fn ask(r: &mut Random, s: &mut Lent, kinds: &mut [u64; 16]) {
     assert_eq!(&before, s, "an answer changes nothing");
 }
 
+/// The state check.
+fn sound(s: &mut Lent) -> bool {
+    let (a, b, c, d, e, f, g, i) = lend!(s);
+    // SAFETY: as in `change`.
+    unsafe { univmon_check_state(s.header, a, b, c, d, e, f, g, i) }
+}
+
 #[test]
 fn random_calls() {
     let number = |name: &str, or: u64| std::env::var(name).map_or(or, |v| v.parse().unwrap());
     let calls = number("RANDOM_CALLS", 400_000);
     let mut r = Random(number("RANDOM_SEED", 1));
     let mut kinds = [0u64; 16];
+    let mut passed = 0;
     let mut s = fresh(&mut r);
     let mut other = s.clone();
     for n in 0..calls {
@@ -280,8 +305,11 @@ fn random_calls() {
             ask(&mut r, &mut s, &mut kinds);
         } else {
             let before = s.clone();
+            let (was, others) = (sound(&mut s), sound(&mut other));
             let a = change(&mut r, &mut s, &mut other);
             judge(&before, &mut s, a, &mut kinds);
+            assert!(!was || !others || sound(&mut s), "a call on states that pass the check leaves one that does not");
+            passed += was as u64;
         }
         if damaged && !r.one_in(400) {
             s = kept;
@@ -293,8 +321,9 @@ fn random_calls() {
             assert!(unsafe { univmon_check_shape(n(), n(), n(), n()) } <= 4);
         }
     }
-    println!("{calls} calls; answered by number: {kinds:?}");
+    println!("{calls} calls; answered by number: {kinds:?}; {passed} on states that pass the check");
     if calls >= 100_000 {
+        assert!(passed > calls / 10 && passed < calls, "the check says always the same");
         for refusal in [0, 5, 6, 7, 8, 9, 10, 11, 12] {
             assert!(kinds[refusal] > 0, "number {refusal} never came");
         }

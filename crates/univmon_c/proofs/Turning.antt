@@ -1,19 +1,25 @@
 -- A call as C makes it is the library's own on the header that C's stands for.
 use Prim.Native.Nat.{ℕ, zero, suc, _≤_, _<_}
-use mathlib.Core.Path.{_≡_, refl, ap, _∙_}
-use mathlib.Core.Bool.{Bool, true, false}
+use mathlib.Core.Path.{_≡_, refl, sym, ap, _∙_}
+use mathlib.Core.Bool.{Bool, true, false, cond, _&&_}
+use mathlib.Core.List.{List}
+use lib.IntN.{ℤ}
+use lib.Dec.{leb}
 use native.Mathlib.Omega.{arith}
 use borrow.Author.Tests.{le-leb, lt-leb}
+use Rattle.header.specs.declared.Shape.{Shape}
 use Rattle.header.specs.declared.Header.{Header}
 use Rattle.header.specs.declared.Answered.{Answered}
 use Rattle.univmon.specs.Slices.{Lent}
-use Rattle.univmon.specs.Calls.{Outcome, left, leftBy}
+use Rattle.univmon.specs.declared.Kind.{Kind}
+use Rattle.univmon.specs.Calls.{Outcome, Left, left, leftBy, lentUpdateCall}
+use Rattle.univmon_c.proofs.Shapes.{update-shape}
 use Rattle.estimates.specs.declared.Answer.{Answer}
 use Rattle.estimates.specs.declared.PanelAnswer.{PanelAnswer}
 use Rattle.estimates.specs.Calls.{refusedBy, noPanel}
 use Rattle.univmon_c.specs.declared.CHeader.{CHeader}
-use Rattle.univmon_c.specs.Crossing.{modeOf, modeNumber, headerOf, cHeader, cAnswered, cAnswer, cPanel}
-use Rattle.univmon_c.specs.Calls.{CLent, lentOf, ofLent, cLeft, crossed, changeBy, mergeBy, headBy, answerBy, panelBy}
+use Rattle.univmon_c.specs.Crossing.{isMode, modeOf, modeNumber, headerOf, cHeader, cAnswered, cAnswer, cPanel}
+use Rattle.univmon_c.specs.Calls.{CLent, cLent, lentOf, ofLent, cLeft, crossed, changeBy, mergeBy, headBy, answerBy, panelBy, checkBy}
 
 -- ---- calls that change a state
 
@@ -29,6 +35,40 @@ pub changed : (ok : Bool) (f : Lent → Outcome) (r : CLent) → r .head .mode �
     → left n t ≡ leftBy (lentOf r) (f (lentOf r)) → cLeft n (ofLent t) ≡ changeBy ok f r
 unfolding changeBy
 changed ok f r h k n t e = ap crossed e ∙ simp (le-leb _ _ h, k)
+
+-- an update on lent lengths and flags: the shape that C has is the shape after it
+abbrev pub shaped : CLent → Lent → CLent
+shaped r t =
+    cLent (record {
+      «heap_size» = r .head .«heap_size»;
+      rows = r .head .rows;
+      cols = r .head .cols;
+      layers = r .head .layers;
+      weight = t .head .weight;
+      mode = modeNumber (t .head .mode);
+      lens = t .head .lens;
+      flags = t .head .flags;
+    }) (t .counters) (t .norms) (t .entries) (t .counts)
+
+pub stepped : (k : Kind) (words : List ℕ) (w : ℤ) (r : CLent) → r .head .mode ≤ 2 → (n : ℕ) (t : Lent)
+    → left n t ≡ leftBy (lentOf r) (lentUpdateCall k (lentOf r) words w) → cLeft n (shaped r t) ≡ changeBy true (λ s. lentUpdateCall k s words w) r
+stepped k words w r h n t e = ap (λ (sh : Shape). cLeft n (at sh)) (sym same) ∙ changed true (λ s. lentUpdateCall k s words w) r h refl n t e
+  where
+    at : Shape → CLent
+    at sh =
+        cLent (record {
+          «heap_size» = sh .«heap_size»;
+          rows = sh .rows;
+          cols = sh .cols;
+          layers = sh .layers;
+          weight = t .head .weight;
+          mode = modeNumber (t .head .mode);
+          lens = t .head .lens;
+          flags = t .head .flags;
+        }) (t .counters) (t .norms) (t .entries) (t .counts)
+
+    same : t .head .shape ≡ lentOf r .head .shape
+    same = ap (λ (l : Left). l .lends .head .shape) e ∙ update-shape k (lentOf r) words w
 
 pub merge-no-mode : (f : Lent → Lent → Outcome) (r t : CLent) → 2 < r .head .mode → cLeft 9 r ≡ mergeBy f r t
 unfolding mergeBy
@@ -74,6 +114,14 @@ panel-no-mode h a k = simp (lt-leb _ _ k)
 pub panelled : (h : CHeader) (a b : PanelAnswer) → h .mode ≤ 2 → b ≡ a → cPanel b ≡ panelBy h a
 unfolding panelBy
 panelled h a b k q = ap cPanel q ∙ simp (le-leb _ _ k)
+
+pub check-no-mode : (f : Lent → Bool) (r : CLent) → 2 < r .head .mode → false ≡ checkBy f r
+unfolding checkBy
+check-no-mode f r h = simp (lt-leb _ _ h)
+
+pub checked : (f : Lent → Bool) (r : CLent) → r .head .mode ≤ 2 → (b : Bool) → b ≡ f (lentOf r) → b ≡ checkBy f r
+unfolding checkBy
+checked f r h b e = e ∙ simp (le-leb _ _ h)
 
 -- ---- a refused call gives the header back as it came
 

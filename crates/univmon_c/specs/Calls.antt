@@ -67,3 +67,7 @@ answerBy ok h a = cond (isMode (h .mode) && ok) (cAnswer a) (cAnswer (refusedBy 
 -- the panel answer
 unfoldable pub panelBy : CHeader → PanelAnswer → CPanel
 panelBy h a = cond (isMode (h .mode)) (cPanel a) (cPanel (noPanel 9))
+
+-- a yes or no on a whole state: a number that is no mode is no
+unfoldable pub checkBy : (Lent → Bool) → CLent → Bool
+checkBy f r = isMode (r .head .mode) && f (lentOf r)

@@ -1,11 +1,14 @@
 -- Between C's shapes and the library's: "When an answer is an enum, a definition specifies this paper's number and values for each of its cases."
 use Prim.Native.Nat.{ℕ}
 use mathlib.Core.Bool.{Bool, cond}
+use mathlib.Core.List.{List}
 use lib.Dec.{eqb, leb}
 use Rattle.header.specs.declared.Mode.{Mode}
 use Rattle.header.specs.declared.Mode.the-variants as mode
 use Rattle.header.specs.declared.Header.{Header}
 use Rattle.header.specs.declared.Answered.{Answered}
+use Rattle.header.specs.declared.Fixed.{Fixed}
+use Rattle.header.specs.declared.Begun.{Begun}
 use Rattle.header.specs.declared.BottomLayer.{BottomLayer}
 use Rattle.header.specs.declared.BottomLayer.the-variants as bottom
 use Rattle.univmon.specs.declared.Fidelity.{Fidelity}
@@ -19,6 +22,8 @@ use Rattle.univmon_c.specs.declared.CAnswered.{CAnswered}
 use Rattle.univmon_c.specs.declared.CBottom.{CBottom}
 use Rattle.univmon_c.specs.declared.CAnswer.{CAnswer}
 use Rattle.univmon_c.specs.declared.CPanel.{CPanel}
+use Rattle.univmon_c.specs.declared.CShape.{CShape}
+use Rattle.univmon_c.specs.declared.CStep.{CStep}
 
 -- ---- numbers for enums; a number that stands for nothing is refused with 9, "header out of range"
 
@@ -72,7 +77,17 @@ cHeader h =
       flags = h .flags;
     }
 
+-- a header whose lengths and flags stand beside it, and what is left of it without them
+abbrev pub cHead : CShape → ℕ → ℕ → List ℕ → List Bool → CHeader
+cHead s w m ns fs = record { «heap_size» = s .«heap_size»; rows = s .rows; cols = s .cols; layers = s .layers; weight = w; mode = m; lens = ns; flags = fs }
+
+abbrev pub cFixed : CShape → ℕ → ℕ → Fixed
+cFixed s w m = record { shape = record { «heap_size» = s .«heap_size»; rows = s .rows; cols = s .cols; layers = s .layers }; weight = w; mode = modeOf m }
+
 -- ---- answers
+
+abbrev pub cStep : Begun → CStep
+cStep b = record { refusal = b .refusal; weight = b .fixed .weight; mode = modeNumber (b .fixed .mode) }
 
 abbrev pub cAnswered : Answered → CAnswered
 cAnswered a = record { refusal = a .refusal; header = cHeader (a .header) }

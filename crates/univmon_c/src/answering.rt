@@ -12,8 +12,9 @@ ghost use mathlib.Core.Path.{_≡_};
 ghost use mathlib.Core.Bool.{Bool, true};
 ghost use Prim.Native.Nat.{ℕ};
 ghost use Rattle.estimates.specs.Calls.{l1Call, l2Call, sumCall, cardinalityCall, panelCall};
+ghost use Rattle.state_check.specs.Check.{stateOk};
 ghost use Rattle.univmon_c.specs.Crossing.{isG, gOf, headerOf};
-ghost use Rattle.univmon_c.specs.Calls.{cLent, lentOf, answerBy, panelBy};
+ghost use Rattle.univmon_c.specs.Calls.{cLent, lentOf, answerBy, panelBy, checkBy};
 
 // The greatest number that is a mode, and the greatest that is a choice of g.
 const LAST_MODE: u64 = 2;
@@ -110,4 +111,22 @@ pub extern "C" fn univmon_panel_answer(
     }
     let h = header_of(header);
     c_panel(estimates::panel_answer(h, counters, norms, entries, counts))
+}
+
+// Whether a header and four slices have what every accepted call keeps: a mode that is no mode is no.
+#[no_mangle]
+pub extern "C" fn univmon_check_state(
+    header: CHeader,
+    counters: &[i64],
+    norms: &[u64],
+    entries: &[u64],
+    counts: &[i64],
+) -> bool
+    ensures { λ r. ⌜ r ≡ checkBy stateOk (cLent header (now (counters .entry)) (now (norms .entry)) (now (entries .entry)) (now (counts .entry))) ⌝ }
+{
+    if LAST_MODE < header.mode {
+        return false;
+    }
+    let h = header_of(header);
+    state_check::check_state(h, counters, norms, entries, counts)
 }

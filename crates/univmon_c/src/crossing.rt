@@ -4,10 +4,14 @@ use crate::CAnswered;
 use crate::CBottom;
 use crate::CHeader;
 use crate::CPanel;
+use crate::CShape;
+use crate::CStep;
 use estimates::Answer;
 use estimates::PanelAnswer;
 use header::Answered;
+use header::Begun;
 use header::BottomLayer;
+use header::Fixed;
 use header::Header;
 use header::Mode;
 use header::Shape;
@@ -28,6 +32,8 @@ ghost use Rattle.univmon_c.specs.Crossing.{
   cBottom,
   cAnswer,
   cPanel,
+  cFixed,
+  cStep,
 };
 
 // ---- numbers for enums
@@ -117,7 +123,38 @@ fn c_header(h: Header) -> CHeader
     }
 }
 
+// What is left of a header without lengths and flags.
+pub fn fixed_of(s: CShape, weight: u64, mode: u64) -> Fixed
+    ensures { λ r. ⌜ r ≡ cFixed s weight mode ⌝ }
+{
+    let shape = Shape {
+        heap_size: s.heap_size,
+        rows: s.rows,
+        cols: s.cols,
+        layers: s.layers,
+    };
+    let had = mode_of(mode);
+    Fixed {
+        shape,
+        weight,
+        mode: had,
+    }
+}
+
 // ---- answers
+
+pub fn c_step(b: Begun) -> CStep
+    ensures { λ r. ⌜ r ≡ cStep b ⌝ }
+{
+    let fixed = b.fixed;
+    let now = fixed.mode;
+    let mode = mode_number(now);
+    CStep {
+        refusal: b.refusal,
+        weight: fixed.weight,
+        mode,
+    }
+}
 
 pub fn c_answered(a: Answered) -> CAnswered
     ensures { λ r. ⌜ r ≡ cAnswered a ⌝ }

@@ -1,8 +1,10 @@
 // UnivMon for programs in C and Rust: the public calls under plain names with the prefix `univmon_`.
-// A header crosses by value with its mode as a number, a slice as a pointer and a length.
+// A header crosses by value with its mode as a number, a slice as a pointer and a length. For updates
+// the header's lengths and flags may be lent instead, so that nothing large is copied.
 pub mod answering;
 pub mod changing;
 mod crossing;
+pub mod lending;
 
 // A header as C has it: mode 0 is unset, 1 standard, 2 terminal; another number is refused with 9.
 #[repr(C)]
@@ -45,4 +47,21 @@ pub struct CPanel {
     pub l1: f64,
     pub l2: f64,
     pub cardinality: f64,
+}
+
+// Dimensions, for calls that have no header by value.
+#[repr(C)]
+pub struct CShape {
+    pub heap_size: usize,
+    pub rows: usize,
+    pub cols: usize,
+    pub layers: usize,
+}
+
+// A refusal and weight and mode as they were, or 0 and the new ones.
+#[repr(C)]
+pub struct CStep {
+    pub refusal: u64,
+    pub weight: u64,
+    pub mode: u64,
 }

@@ -1,0 +1,57 @@
+-- `univmon_c::lending::univmon_update_weighted_terminal_lent` meets its contract.
+-- Written by tools/places.py from answers.txt; assumes nothing.
+use mathlib.Core.Bool.{true}
+use native.Mathlib.Omega.{arith}
+use borrow.Author.Needs.{needs}
+use denote.Ref.{now}
+use mir.Facts.{toZ-ofZ}
+use Rattle.univmon.specs.declared.Kind.the-variants as kind
+use Rattle.univmon.specs.Calls.{left, lentUpdateCall}
+use Rattle.univmon_c.specs.Crossing.{cHead}
+use Rattle.univmon_c.specs.Calls.{CLent, cLent}
+use Rattle.univmon_c.proofs.Turning.{change-no-mode, stepped}
+use Rattle.univmon_c.proofs.lending.univmon_update_weighted_terminal_lent.Statement.{statement}
+use Rattle.univmon_c.proofs.lending.univmon_update_weighted_terminal_lent.Tie as tie
+
+-- what C lends
+abbrev here : tie.Start → CLent
+here c = cLent (cHead (c .args .shape) (c .args .weight-had) (c .args .mode) (now (c .args .lens)) (now (c .args .flags))) (now (c .args .counters)) (now (c .args .norms)) (now (c .args .entries)) (now (c .args .counts))
+
+returns : tie.Need-returns
+returns c = change-no-mode true (λ s. lentUpdateCall kind.Terminal s (now (c .before .before .before .before .before .before .args .words)) (c .before .before .before .before .before .before .args .weight)) (here (c .before .before .before .before .before .before)) (omega (arith, c .if1 .taken))
+
+fixed-of-requires : tie.Need-fixed-of-requires
+fixed-of-requires c κs = search needs
+
+update-weighted-terminal-lent-requires : tie.Need-update-weighted-terminal-lent-requires
+update-weighted-terminal-lent-requires c κs = search needs
+
+c-step-requires : tie.Need-c-step-requires
+c-step-requires c κs = search needs
+
+same-length : tie.Need-same-length
+same-length c = search needs
+
+same-length-2 : tie.Need-same-length-2
+same-length-2 c = search needs
+
+same-length-3 : tie.Need-same-length-3
+same-length-3 c = search needs
+
+same-length-4 : tie.Need-same-length-4
+same-length-4 c = search needs
+
+same-length-5 : tie.Need-same-length-5
+same-length-5 c = search needs
+
+same-length-6 : tie.Need-same-length-6
+same-length-6 c = search needs
+
+returns-2 : tie.Need-returns-2
+returns-2 c =
+    rw (c .c-step .ensures)
+    (stepped kind.Terminal (now (c .before .before .before .before .before .before .before .before .before .before .before .before .before .before .before .before .before .before .before .before .before .before .before .before .before .args .words)) (c .before .before .before .before .before .before .before .before .before .before .before .before .before .before .before .before .before .before .before .before .before .before .before .before .before .args .weight) (here (c .before .before .before .before .before .before .before .before .before .before .before .before .before .before .before .before .before .before .before .before .before .before .before .before .before)) (omega (arith, c .before .before .before .before .before .before .before .before .before .before .before .before .before .before .before .before .before .before .before .if1 .left)) _ _
+    (rw (c .before .before .before .before .before .before .before .before .before .before .before .before .before .before .before .before .before .before .fixed-of .ensures, toZ-ofZ (c .before .before .before .before .before .before .before .before .before .before .before .before .before .before .before .before .before .before .before .before .before .before .before .before .before .fits .weight)) at (c .before .before .before .before .before .before .before .before .before .before .before .update-weighted-terminal-lent .ensures)))
+
+pub univmon-update-weighted-terminal-lent-spec : {M : Type 1} → statement M
+univmon-update-weighted-terminal-lent-spec = tie.close (tie.spec returns fixed-of-requires update-weighted-terminal-lent-requires c-step-requires same-length same-length-2 same-length-3 same-length-4 same-length-5 same-length-6 returns-2)

@@ -1,0 +1,95 @@
+// The updates on a header whose lengths and flags are lent: C hands over its own arrays, and weight and
+// mode come back as numbers.
+use crate::CShape;
+use crate::CStep;
+use crate::crossing::c_step;
+use crate::crossing::fixed_of;
+ghost use mathlib.Core.Path.{_≡_};
+ghost use mathlib.Core.Bool.{Bool, true};
+ghost use Prim.Native.Nat.{ℕ};
+ghost use Rattle.univmon.specs.declared.Kind.the-variants as kind;
+ghost use Rattle.univmon.specs.Slices.{Lent};
+ghost use Rattle.univmon.specs.Calls.{Outcome, lentUpdateCall};
+ghost use Rattle.univmon_c.specs.Crossing.{cHead};
+ghost use Rattle.univmon_c.specs.Calls.{cLent, cLeft, changeBy};
+
+// The greatest number that is a mode.
+const LAST_MODE: u64 = 2;
+
+// The key goes to layers 0 to its bottom layer.
+#[no_mangle]
+pub extern "C" fn univmon_update_weighted_lent(
+    shape: CShape,
+    weight_had: u64,
+    mode: u64,
+    lens: &mut [usize],
+    flags: &mut [bool],
+    counters: &mut [i64],
+    norms: &mut [u64],
+    entries: &mut [u64],
+    counts: &mut [i64],
+    words: &[u64],
+    weight: i64,
+) -> CStep
+    ensures { λ r. ⌜ cLeft (r .refusal) (cLent (cHead shape (r .weight) (r .mode) (now (lens .exit)) (now (flags .exit))) (now (counters .exit)) (now (norms .exit)) (now (entries .exit)) (now (counts .exit)))
+        ≡ changeBy true (λ s. lentUpdateCall kind.Standard s (now (words .entry)) weight) (cLent (cHead shape «weight_had» mode (now (lens .entry)) (now (flags .entry))) (now (counters .entry)) (now (norms .entry)) (now (entries .entry)) (now (counts .entry))) ⌝ }
+{
+    if LAST_MODE < mode {
+        return CStep {
+            refusal: 9,
+            weight: weight_had,
+            mode,
+        };
+    }
+    let had = fixed_of(shape, weight_had, mode);
+    c_step(univmon::update_weighted_lent(
+        had,
+        lens,
+        flags,
+        counters,
+        norms,
+        entries,
+        counts,
+        words,
+        weight,
+    ))
+}
+
+// The key goes to its bottom layer only.
+#[no_mangle]
+pub extern "C" fn univmon_update_weighted_terminal_lent(
+    shape: CShape,
+    weight_had: u64,
+    mode: u64,
+    lens: &mut [usize],
+    flags: &mut [bool],
+    counters: &mut [i64],
+    norms: &mut [u64],
+    entries: &mut [u64],
+    counts: &mut [i64],
+    words: &[u64],
+    weight: i64,
+) -> CStep
+    ensures { λ r. ⌜ cLeft (r .refusal) (cLent (cHead shape (r .weight) (r .mode) (now (lens .exit)) (now (flags .exit))) (now (counters .exit)) (now (norms .exit)) (now (entries .exit)) (now (counts .exit)))
+        ≡ changeBy true (λ s. lentUpdateCall kind.Terminal s (now (words .entry)) weight) (cLent (cHead shape «weight_had» mode (now (lens .entry)) (now (flags .entry))) (now (counters .entry)) (now (norms .entry)) (now (entries .entry)) (now (counts .entry))) ⌝ }
+{
+    if LAST_MODE < mode {
+        return CStep {
+            refusal: 9,
+            weight: weight_had,
+            mode,
+        };
+    }
+    let had = fixed_of(shape, weight_had, mode);
+    c_step(univmon::update_weighted_terminal_lent(
+        had,
+        lens,
+        flags,
+        counters,
+        norms,
+        entries,
+        counts,
+        words,
+        weight,
+    ))
+}
