@@ -29,6 +29,8 @@ ghost use Rattle.header.specs.Header.{
 // 2^52, the greatest weight.
 const TOP: u64 = 4503599627370496;
 
+const WORD_MAX: u64 = 18446744073709551615;
+
 // Heap size, rows, columns and layers.
 pub struct Shape {
     pub heap_size: usize,
@@ -154,19 +156,18 @@ pub fn check_shape(heap_size: usize, rows: usize, cols: usize, layers: usize) ->
     shape.refusal()
 }
 
-// The last layer that a key with this bottom hash reaches, of at least one layer.
+// The last layer that a key with this bottom hash reaches, of at least one layer: as many as there
+// are ones from bit 1 on, by the zeros of their opposites, so that no jump depends on the hash.
 pub fn bottom_of(hash: u64, layers: usize) -> usize
     requires { ⌜ (1 ≤ layers) × (layers ≤ 19) ⌝ }
     ensures { λ r. ⌜ (r ≡ bottomOf hash layers) × (r < layers) ⌝ }
 {
-    let mut l = 1;
-    while l < layers {
-        if (hash >> l) % 2 == 0 {
-            return l - 1;
-        }
-        l += 1;
+    let ones = u64::trailing_zeros(WORD_MAX - (hash >> 1)) as usize;
+    let last = layers - 1;
+    if ones < last {
+        return ones;
     }
-    layers - 1
+    last
 }
 
 // The same for any number of layers: 1 for none, 2 above 19.

@@ -1,56 +1,38 @@
 -- `header::bottom_of` meets its contract.
 -- Written by tools/places.py from answers.txt; assumes nothing.
-use Prim.Native.Nat.{_-_, _≤_}
-use mathlib.Core.Path.{_≡_, refl, sym, _∙_}
+use Prim.Native.Nat.{ℕ, _-_, _/_, _^_, _≤_, _<_, min}
+use mathlib.Core.Path.{_≡_}
 use native.Mathlib.Omega.{arith}
 use borrow.Author.Needs.{needs}
-use Rattle.header.proofs.Bottoms.{bottom-stop, bottom-on, bottom-end}
-use Rattle.header.specs.Shape.{bottomOf, bottomFrom}
+use Rattle.header.proofs.Bottoms.{bottom-min}
+use Rattle.header.specs.Shape.{bottomOf}
+use lib.Count.{trailingZeros, trailing-le}
 use Rattle.header.proofs.bottom_of.Statement.{statement}
 use Rattle.header.proofs.bottom_of.Tie as tie
 
-abbrev Inv-loop : tie.InvT-loop
-Inv-loop hash layers l₀ l = (1 ≤ l) × ((l ≤ layers) × (bottomOf hash layers ≡ bottomFrom hash (layers - l) l))
+sub-ones : tie.Need-sub-ones
+sub-ones c = search needs
 
-abbrev μ-loop : tie.MeasureT-loop
-μ-loop hash layers l₀ l = layers - l
+abbrev ones : tie.Start → ℕ
+ones c = trailingZeros 64 (18446744073709551615 - c .args .hash / 2)
 
-loop-holds : tie.Need-loop-holds Inv-loop μ-loop
-unfolding bottomOf
-loop-holds c = (omega arith, (c .pre .0, refl))
+few : (c : tie.Start) → ones c < 2 ^ 64
+few c = omega (arith, trailing-le 64 (18446744073709551615 - c .args .hash / 2))
 
-shr-if1 : tie.Need-shr-if1 Inv-loop μ-loop
-shr-if1 c = search needs
+cast-ones : tie.Need-cast-ones
+cast-ones c = record { fits = few c }
 
-sub-result : tie.Need-sub-result Inv-loop μ-loop
-sub-result c = search needs
+sub-last : tie.Need-sub-last
+sub-last c = search needs
 
-returns : tie.Need-returns Inv-loop μ-loop
-returns c =
-    let a = c .before .before .before .args in
-    let i = c .before .before .loop .inv in
-    (bottom-stop (a .hash) (a .layers) (c .before .before .loop .l) (c .before .loop-test .taken) (c .if1 .taken) ∙ sym (i .1 .1), omega arith)
+is : (c : tie.Start) → bottomOf (c .args .hash) (c .args .layers) ≡ min (ones c) (c .args .layers - 1)
+is c = bottom-min (c .args .hash) (c .args .layers) (c .pre .1) (search needs)
 
-add-l : tie.Need-add-l Inv-loop μ-loop
-add-l c = search needs
+returns : tie.Need-returns
+returns c = let t : ones (c .before) < c .before .args .layers - 1 = c .if1 .taken in (omega (arith, is (c .before)), omega arith)
 
-loop-less : tie.Need-loop-less Inv-loop μ-loop
-loop-less c = search needs
-
-loop-again : tie.Need-loop-again Inv-loop μ-loop
-loop-again c =
-    let a = c .before .before .before .args in
-    let i = c .before .before .loop .inv in
-    (omega arith, (omega arith, i .1 .1 ∙ bottom-on (a .hash) (a .layers) (c .before .before .loop .l) (c .before .loop-test .taken) (c .if1 .left)))
-
-sub-result-2 : tie.Need-sub-result-2 Inv-loop μ-loop
-sub-result-2 c = search needs
-
-returns-2 : tie.Need-returns-2 Inv-loop μ-loop
-returns-2 c =
-    let a = c .before .before .args in
-    let i = c .before .loop .inv in
-    (bottom-end (a .hash) (a .layers) (c .before .loop .l) (i .1 .0) (c .loop-test .left) ∙ sym (i .1 .1), omega arith)
+returns-2 : tie.Need-returns-2
+returns-2 c = let t : c .before .args .layers - 1 ≤ ones (c .before) = c .if1 .left in (omega (arith, is (c .before)), omega arith)
 
 pub bottom-of-spec : {M : Type 1} → statement M
-bottom-of-spec = tie.close (tie.spec Inv-loop μ-loop loop-holds shr-if1 sub-result returns add-l loop-less loop-again sub-result-2 returns-2)
+bottom-of-spec = tie.close (tie.spec sub-ones cast-ones sub-last returns returns-2)
