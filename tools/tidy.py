@@ -2,9 +2,9 @@
 """Finds what the gate does not: imports that nothing uses, and laws that stand twice.
 
     python3 tools/tidy.py           prints both
-    python3 tools/tidy.py --fix     takes unused imports out of .antt files (then `rt fmt`)
+    python3 tools/tidy.py --fix     takes unused imports out (then `rt fmt`)
 
-Imports are judged by name, file by file; the names of `.rt` files are printed only, since the clauses' types may want them. Two laws are the same if
+Imports are judged by name, file by file. Two laws are the same if
 their types are, but for the names of what they bind; a row is a place to look.
 """
 import collections
@@ -43,7 +43,7 @@ def unused(path, fix):
         if not idle:
             continue
         print(f"{os.path.relpath(path, ROOT)}: {m.group(2)}: {', '.join(idle)}")
-        if fix and path.endswith(".antt"):
+        if fix:
             kept = [n for n in names if n not in idle]
             line = f"{m.group(1) or ''}use {m.group(2)}.{{{', '.join(kept)}}}{m.group(4)}"
             text = text[: m.start()] + line + text[m.end() :] if kept else text[: m.start()] + text[m.end() + 1 :]

@@ -7,24 +7,7 @@ ghost use lib.ListN.{length, getD, set, replicate};
 ghost use Rattle.words.specs.Num.{top};
 ghost use Rattle.header.specs.declared.Mode.{Mode};
 ghost use Rattle.header.specs.Shape.{shapeRefusal, checkedShape, bottomOf, bottomLayer};
-ghost use Rattle.header.specs.Header.{
-  zeroHeader,
-  freshHeader,
-  withWeight,
-  withMode,
-  withFlags,
-  withLens,
-  withLayer,
-  headOf,
-  fixedOf,
-  clash,
-  joined,
-  settled,
-  beginOf,
-  freshFlags,
-  lensFrom,
-  headerOk,
-};
+ghost use Rattle.header.specs.Header.{zeroHeader, freshHeader, withWeight, withMode, withFlags, withLens, withLayer, headOf, fixedOf, clash, joined, beginOf, freshFlags, lensFrom, headerOk};
 
 // 2^52, the greatest weight.
 const TOP: u64 = 4503599627370496;

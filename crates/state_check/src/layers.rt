@@ -1,11 +1,11 @@
 // The check of a state: header and lengths, then layer by layer.
 ghost use mathlib.Core.Path.{_≡_};
 ghost use mathlib.Core.Bool.{Bool, false};
-ghost use Prim.Native.Nat.{ℕ, _*_, _<_, _≤_};
+ghost use Prim.Native.Nat.{ℕ, _*_, _<_};
 ghost use lib.ListN.{length};
 ghost use Rattle.layer.specs.Layer.{layerOf};
 ghost use Rattle.layer.specs.Needs.{Housed};
-ghost use Rattle.univmon.specs.State.{dimsAt, layerAt, allLayers};
+ghost use Rattle.univmon.specs.State.{dimsAt, layerAt};
 ghost use Rattle.univmon.specs.Slices.{lent, view};
 ghost use Rattle.univmon.specs.Needs.{Standing};
 ghost use Rattle.state_check.specs.Check.{layerOk, layersOk, stateOk};

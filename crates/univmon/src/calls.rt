@@ -15,7 +15,6 @@ ghost use Prim.Native.Nat.{ℕ};
 ghost use Rattle.header.specs.Header.{headOf};
 ghost use Rattle.univmon.specs.declared.Kind.the-variants as kind;
 ghost use Rattle.univmon.specs.Slices.{lent, view};
-ghost use Rattle.univmon.specs.Judged.{Out};
 ghost use Rattle.univmon.specs.Updates.{modeOf, firstSent, update};
 ghost use Rattle.univmon.specs.Calls.{left, leftBy, outcomeOf, updateCall};
 ghost use Rattle.univmon.specs.Needs.{Headed, JudgeReady, UpdateReady, sentBy};

@@ -12,7 +12,6 @@ use heap::Answer;
 ghost use mathlib.Core.Path.{_≡_};
 ghost use mathlib.Core.Bool.{Bool, true, _&&_};
 ghost use Prim.Native.Nat.{ℕ, _≤_, _<_};
-ghost use lib.ListN.{length};
 ghost use lib.IntN.{ℤ, natAbs};
 ghost use Rattle.words.specs.Num.{top};
 ghost use Rattle.heap.specs.Offer.{keptBy};

@@ -5,12 +5,12 @@ use crate::sizes::span_of;
 use crate::update::who_in;
 use header::Fixed;
 ghost use mathlib.Core.Path.{_≡_};
-ghost use mathlib.Core.Bool.{Bool, true, _&&_};
-ghost use Prim.Native.Nat.{ℕ, _+_, _*_, _≤_, _<_};
+ghost use mathlib.Core.Bool.{Bool, true};
+ghost use Prim.Native.Nat.{ℕ, _+_, _<_};
 ghost use Rattle.header.specs.Header.{headOf};
 ghost use Rattle.univmon.specs.State.{layerAt, allLayers};
 ghost use Rattle.univmon.specs.Slices.{lent, view};
-ghost use Rattle.univmon.specs.Needs.{Standing, JudgeReady, readsAt, readyAt, judgedAt};
+ghost use Rattle.univmon.specs.Needs.{JudgeReady, readsAt, readyAt, judgedAt};
 
 // Whether one layer is ready for the update.
 fn ready_at(

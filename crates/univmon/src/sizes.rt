@@ -3,7 +3,7 @@
 use header::Shape;
 use layer::Dims;
 ghost use mathlib.Core.Path.{_≡_};
-ghost use Prim.Native.Nat.{ℕ, _+_, _*_, _≤_, _<_};
+ghost use Prim.Native.Nat.{ℕ, _+_, _*_, _<_};
 ghost use Rattle.header.specs.Accepted.{Accepted};
 ghost use Rattle.univmon.specs.State.{dimsAt};
 ghost use Rattle.univmon.specs.Slices.{lengthsOk};

@@ -4,16 +4,15 @@ use crate::sizes::span_of;
 use header::Fixed;
 use heap_moves::Who;
 ghost use mathlib.Core.Path.{_≡_};
-ghost use mathlib.Core.Bool.{Bool, true, _&&_};
+ghost use mathlib.Core.Bool.{Bool};
 ghost use Prim.Native.Nat.{ℕ, _+_, _*_, _≤_, _<_};
 ghost use lib.ListN.{length};
-ghost use Rattle.words.specs.Num.{top};
-ghost use Rattle.layer.specs.Layer.{item, addLayer, addReads, addFits};
+ghost use Rattle.layer.specs.Layer.{item, addLayer};
 ghost use Rattle.header.specs.Header.{headOf};
-ghost use Rattle.univmon.specs.State.{dimsAt, layerAt, putLayer, overLayers, allLayers};
+ghost use Rattle.univmon.specs.State.{dimsAt, layerAt, putLayer, overLayers};
 ghost use Rattle.univmon.specs.Slices.{lent, view};
 ghost use Rattle.univmon.specs.Updates.{whoAt};
-ghost use Rattle.univmon.specs.Needs.{Standing, SendReady, SendsReady, readsAt, fitsAt, addsAt};
+ghost use Rattle.univmon.specs.Needs.{Standing, SendReady, SendsReady, addsAt};
 
 // Who a record names, with the hash of a layer.
 pub fn who_in(words: &[u64], l: usize) -> Who

@@ -11,7 +11,7 @@ use Rattle.layer.specs.Layer.{Layer}
 use Rattle.univmon.specs.declared.Kind.{Kind}
 use Rattle.univmon.specs.State.{State, layerAt, putLayer, overLayers}
 use Rattle.univmon.specs.Slices.{Lent, lentOk, view, flat}
-use Rattle.univmon.specs.Judged.{Out, refused, done, judge}
+use Rattle.univmon.specs.Judged.{refused, judge}
 use Rattle.univmon.specs.Updates.{updateTests, updated, update}
 use Rattle.univmon.specs.Calls.{Outcome, leftBy, outcomeOf, updateCall, lentUpdateCall}
 

@@ -11,9 +11,8 @@ ghost use mathlib.Core.Bool.{Bool, true};
 ghost use Prim.Native.Nat.{ℕ};
 ghost use Rattle.header.specs.Shape.{shapeRefusal, bottomLayer};
 ghost use Rattle.univmon.specs.declared.Kind.the-variants as kind;
-ghost use Rattle.univmon.specs.Slices.{Lent};
 ghost use Rattle.univmon.specs.Arriving.{arrival};
-ghost use Rattle.univmon.specs.Calls.{Outcome, newCall, updateCall, deltaCall, mergeCall, clearCall, weightCall, markCall, markLayerCall};
+ghost use Rattle.univmon.specs.Calls.{newCall, updateCall, deltaCall, mergeCall, clearCall, weightCall, markCall, markLayerCall};
 ghost use Rattle.univmon_c.specs.Crossing.{isFidelity, fidelityOf, cBottom};
 ghost use Rattle.univmon_c.specs.Calls.{cLent, cLeft, crossed, changeBy, mergeBy, headBy};
 

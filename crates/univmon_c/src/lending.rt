@@ -8,8 +8,7 @@ ghost use mathlib.Core.Path.{_≡_};
 ghost use mathlib.Core.Bool.{Bool, true};
 ghost use Prim.Native.Nat.{ℕ};
 ghost use Rattle.univmon.specs.declared.Kind.the-variants as kind;
-ghost use Rattle.univmon.specs.Slices.{Lent};
-ghost use Rattle.univmon.specs.Calls.{Outcome, lentUpdateCall};
+ghost use Rattle.univmon.specs.Calls.{lentUpdateCall};
 ghost use Rattle.univmon_c.specs.Crossing.{cHead};
 ghost use Rattle.univmon_c.specs.Calls.{cLent, cLeft, changeBy};
 
