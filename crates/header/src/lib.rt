@@ -29,6 +29,9 @@ ghost use Rattle.header.specs.Header.{
 // 2^52, the greatest weight.
 const TOP: u64 = 4503599627370496;
 
+// 2^64 - 1.
+const ALL_ONES: u64 = 18446744073709551615;
+
 // Heap size, rows, columns and layers.
 pub struct Shape {
     pub heap_size: usize,
@@ -154,17 +157,17 @@ pub fn check_shape(heap_size: usize, rows: usize, cols: usize, layers: usize) ->
     shape.refusal()
 }
 
-// The last layer that a key with this bottom hash reaches, of at least one layer.
+// The last layer that a key with this bottom hash reaches, of at least one layer: as many as there are
+// ones in a row from bit 1 on. They are counted at once, as the zeros of what is missing to all ones: a
+// loop would end where no processor foresees it.
 pub fn bottom_of(hash: u64, layers: usize) -> usize
     requires { ⌜ (1 ≤ layers) × (layers ≤ 19) ⌝ }
     ensures { λ r. ⌜ (r ≡ bottomOf hash layers) × (r < layers) ⌝ }
 {
-    let mut l = 1;
-    while l < layers {
-        if (hash >> l) % 2 == 0 {
-            return l - 1;
-        }
-        l += 1;
+    let missing = (ALL_ONES - hash) >> 1;
+    let run = u64::trailing_zeros(missing) as usize;
+    if run < layers {
+        return run;
     }
     layers - 1
 }

@@ -1,56 +1,27 @@
 -- `header::bottom_of` meets its contract.
 -- Written by tools/places.py from answers.txt; assumes nothing.
-use Prim.Native.Nat.{_-_, _≤_}
-use mathlib.Core.Path.{_≡_, refl, sym, _∙_}
+use Prim.Native.Nat.{_-_, _/_, _^_}
 use native.Mathlib.Omega.{arith}
 use borrow.Author.Needs.{needs}
-use Rattle.header.proofs.Bottoms.{bottom-stop, bottom-on, bottom-end}
-use Rattle.header.specs.Shape.{bottomOf, bottomFrom}
+use Rattle.header.proofs.Bottoms.{run-ends, run-over}
+use lib.Count.{trailing-le}
 use Rattle.header.proofs.bottom_of.Statement.{statement}
 use Rattle.header.proofs.bottom_of.Tie as tie
 
-abbrev Inv-loop : tie.InvT-loop
-Inv-loop hash layers l₀ l = (1 ≤ l) × ((l ≤ layers) × (bottomOf hash layers ≡ bottomFrom hash (layers - l) l))
+sub-missing : tie.Need-sub-missing
+sub-missing c = search needs
 
-abbrev μ-loop : tie.MeasureT-loop
-μ-loop hash layers l₀ l = layers - l
+cast-run : tie.Need-cast-run
+cast-run c = record { fits = omega (arith, trailing-le 64 ((2 ^ 64 - 1 - c .args .hash) / 2 ^ 1)) }
 
-loop-holds : tie.Need-loop-holds Inv-loop μ-loop
-unfolding bottomOf
-loop-holds c = (omega arith, (c .pre .0, refl))
+returns : tie.Need-returns
+returns c = (run-ends (c .before .args .hash) (c .before .args .layers) (c .before .fits .hash .fits) (c .before .pre .1) (c .if1 .taken), c .if1 .taken)
 
-shr-if1 : tie.Need-shr-if1 Inv-loop μ-loop
-shr-if1 c = search needs
-
-sub-result : tie.Need-sub-result Inv-loop μ-loop
+sub-result : tie.Need-sub-result
 sub-result c = search needs
 
-returns : tie.Need-returns Inv-loop μ-loop
-returns c =
-    let a = c .before .before .before .args in
-    let i = c .before .before .loop .inv in
-    (bottom-stop (a .hash) (a .layers) (c .before .before .loop .l) (c .before .loop-test .taken) (c .if1 .taken) ∙ sym (i .1 .1), omega arith)
-
-add-l : tie.Need-add-l Inv-loop μ-loop
-add-l c = search needs
-
-loop-less : tie.Need-loop-less Inv-loop μ-loop
-loop-less c = search needs
-
-loop-again : tie.Need-loop-again Inv-loop μ-loop
-loop-again c =
-    let a = c .before .before .before .args in
-    let i = c .before .before .loop .inv in
-    (omega arith, (omega arith, i .1 .1 ∙ bottom-on (a .hash) (a .layers) (c .before .before .loop .l) (c .before .loop-test .taken) (c .if1 .left)))
-
-sub-result-2 : tie.Need-sub-result-2 Inv-loop μ-loop
-sub-result-2 c = search needs
-
-returns-2 : tie.Need-returns-2 Inv-loop μ-loop
-returns-2 c =
-    let a = c .before .before .args in
-    let i = c .before .loop .inv in
-    (bottom-end (a .hash) (a .layers) (c .before .loop .l) (i .1 .0) (c .loop-test .left) ∙ sym (i .1 .1), omega arith)
+returns-2 : tie.Need-returns-2
+returns-2 c = (run-over (c .before .args .hash) (c .before .args .layers) (c .before .fits .hash .fits) (c .before .pre .1) (c .if1 .left), omega (arith, c .before .pre .0))
 
 pub bottom-of-spec : {M : Type 1} → statement M
-bottom-of-spec = tie.close (tie.spec Inv-loop μ-loop loop-holds shr-if1 sub-result returns add-l loop-less loop-again sub-result-2 returns-2)
+bottom-of-spec = tie.close (tie.spec sub-missing cast-run returns sub-result returns-2)
