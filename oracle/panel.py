@@ -12,6 +12,8 @@ import re
 import subprocess
 import sys
 
+from model import shape_refusal
+
 ROOT = os.path.realpath(os.path.join(os.path.dirname(os.path.abspath(__file__)), ".."))
 rng = random.Random(20261115)
 TOP, BIG, HALF = 1 << 52, 1 << 64, 1 << 63
@@ -40,21 +42,10 @@ class Oracle:
 oracle = Oracle()
 
 
-def mask_bits(cols):
-    return (cols - 1).bit_length() if cols > 1 else 0
-
-
 def refusal(heap, rows, cols, layers):
-    """of a shape, by the paper's table"""
-    if 0 in (heap, rows, cols, layers):
-        return 1
-    if layers > 19:
-        return 2
-    if (mask_bits(cols) + 1) * rows > 128:
-        return 3
-    if rows > 20 or cols > 4096 or heap > 1024:
-        return 4
-    return 4 if layers * rows * cols > 4096 or layers * heap > 512 else 0
+    """of a shape: the table's, then the program's own bounds"""
+    n = shape_refusal(heap, rows, cols, layers)
+    return n or (4 if layers * rows * cols > 4096 or layers * heap > 512 else 0)
 
 
 def held_to_oracle(shape, n):

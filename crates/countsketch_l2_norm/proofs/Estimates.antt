@@ -53,3 +53,11 @@ sorted-count rows cols h xs buf e = ap middle e
 pub sorted-float : (rows cols h : ℕ) (xs buf : List ℤ) → take rows buf ≡ sortZ (estimates cols h xs rows 0) → cellsIn cols h xs rows 0 ≡ true → middleF (map (ofInt binary64) (take rows buf)) ≡ estimateF rows cols h xs
 unfolding estimateF
 sorted-float rows cols h xs buf e i = ap (λ (l : List ℤ). middleF (map (ofInt binary64) l)) e ∙ sym (median-ints (estimates cols h xs rows 0) (all-estimates cols h xs rows 0 i))
+
+-- the same, of a buffer in the rows' order
+pub counted-in : (rows cols h : ℕ) (xs buf : List ℤ) → take rows buf ≡ estimates cols h xs rows 0 → cellsIn cols h xs rows 0 ≡ true → allIn (take rows buf) ≡ true
+counted-in rows cols h xs buf e i = rw e (all-estimates cols h xs rows 0 i)
+
+pub counted : (rows cols h : ℕ) (xs buf : List ℤ) → take rows buf ≡ estimates cols h xs rows 0 → middle (sortZ (take rows buf)) ≡ estimateOf rows cols h xs
+unfolding estimateOf
+counted rows cols h xs buf e = ap (λ (l : List ℤ). middle (sortZ l)) e

@@ -27,4 +27,5 @@ pub use norm::norms_in;
 pub use update::rows_fit;
 pub use update::rows_read;
 pub use update::rows_ready;
+pub use update::update_and_count;
 pub use update::update_weighted_with_hash;

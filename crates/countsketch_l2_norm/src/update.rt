@@ -1,19 +1,21 @@
 // An update of every row with a hash and a weight, what it reads, and whether it fits.
 ghost use mathlib.Core.Path.{_≡_};
 ghost use mathlib.Core.Bool.{true, _&&_};
-ghost use Prim.Native.Nat.{ℕ, _*_, _<_, _≤_};
-ghost use lib.ListN.{length};
+ghost use Prim.Native.Nat.{ℕ, _+_, _-_, _*_, _<_, _≤_};
+ghost use lib.ListN.{length, set, take};
 ghost use lib.IntN.{ℤ, pos, natAbs, _+ℤ_};
-ghost use Rattle.words.specs.Num.{top, inRange};
+ghost use Rattle.words.specs.Num.{top, inRange, capped};
 ghost use Rattle.words.specs.Wide.{valueOf};
 ghost use Rattle.matrix_storage.specs.Bits.{maxRows, maxCols, maskBits, signed, hashOf, Shaped};
-ghost use Rattle.countsketch_l2_norm.specs.Sketch.{sketchOf, cellOf, addRows, rowRead, rowsRead, rowsFit, rowsReady};
-ghost use Rattle.countsketch_l2_norm.specs.Estimate.{cellsIn};
-ghost use Rattle.countsketch_l2_norm.specs.Needs.{Ready};
+ghost use Rattle.countsketch_l2_norm.specs.Norms.{normAt, setNorm};
+ghost use Rattle.countsketch_l2_norm.specs.Sketch.{sketchOf, cellOf, cellAt, addRows, rowRead, rowsRead, rowsFit, rowsReady};
+ghost use Rattle.countsketch_l2_norm.specs.Estimate.{estimates, estimateOf, cellsIn};
+ghost use Rattle.countsketch_l2_norm.specs.Needs.{Ready, CellReady};
 use crate::cells::add_cell;
 use crate::cells::index_of;
 use crate::cells::norm_of;
 use crate::cells::row_read;
+use crate::estimate::row_estimate;
 use words::Wide;
 
 // The index of the counter that a hash names in a row, with `bits` the mask bits of `cols`.
@@ -56,6 +58,81 @@ pub fn update_weighted_with_hash(
         add_cell(counters, norms, at, r, delta);
         r += 1;
     }
+}
+
+// One row of an update: its counter takes the weight with the row's sign, and the row's estimate is
+// read off the counter just stored.
+fn update_row(
+    counters: &mut [i64],
+    norms: &mut [u64],
+    at: usize,
+    r: usize,
+    high: u64,
+    low: u64,
+    weight: u64,
+) -> i64
+    requires { ⌜ weight ≤ top ⌝ }
+    requires { ⌜ CellReady at r (signed (hashOf high low) r (pos weight)) (now counters) (now norms) ⌝ }
+    ensures { λ _. ⌜ now (counters .exit) ≡ set (now (counters .entry)) at (cellAt (now (counters .entry)) at +ℤ signed (hashOf high low) r (pos weight)) ⌝ }
+    ensures { λ _. ⌜ now (norms .exit)
+        ≡ setNorm (now (norms .entry)) r
+        (normAt (now (norms .entry)) r - capped (cellAt (now (counters .entry)) at)
+        + capped (cellAt (now (counters .entry)) at +ℤ signed (hashOf high low) r (pos weight))) ⌝ }
+    ensures { λ v. ⌜ v ≡ signed (hashOf high low) r (cellAt (now (counters .exit)) at) ⌝ }
+{
+    let delta = delta_at(high, low, r, weight);
+    add_cell(counters, norms, at, r, delta);
+    row_estimate(&*counters, high, low, at, r)
+}
+
+// Every row of an update, and the rows' estimates after it to the front of a buffer.
+fn update_rows(
+    buf: &mut [i64; 20],
+    counters: &mut [i64],
+    norms: &mut [u64],
+    rows: usize,
+    cols: usize,
+    high: u64,
+    low: u64,
+    weight: u64,
+)
+    requires { ⌜ length (now buf) ≡ 20 ⌝ }
+    requires { ⌜ Ready rows cols (hashOf high low) weight (now counters) (now norms) ⌝ }
+    ensures { λ _. ⌜ length (now (buf .exit)) ≡ 20 ⌝ }
+    ensures { λ _. ⌜ sketchOf (now (counters .exit)) (now (norms .exit)) rows
+        ≡ addRows cols (hashOf high low) weight rows 0 (sketchOf (now (counters .entry)) (now (norms .entry)) rows) ⌝ }
+    ensures { λ _. ⌜ take rows (now (buf .exit)) ≡ estimates cols (hashOf high low) (now (counters .exit)) rows 0 ⌝ }
+{
+    let bits = matrix_storage::mask_bits(cols);
+    let mut r = 0;
+    while r < rows {
+        let at = place(high, low, bits, cols, r);
+        let v = update_row(counters, norms, at, r, high, low, weight);
+        buf[r] = v;
+        r += 1;
+    }
+}
+
+// The update and the count of the same hash after it, in one pass over the rows. What it stores is
+// what `update_weighted_with_hash` stores, what it answers is what `count_with_hash` then answers:
+// those two say what is meant, this one is quicker.
+pub fn update_and_count(
+    counters: &mut [i64],
+    norms: &mut [u64],
+    rows: usize,
+    cols: usize,
+    high: u64,
+    low: u64,
+    weight: u64,
+) -> i64
+    requires { ⌜ Ready rows cols (hashOf high low) weight (now counters) (now norms) ⌝ }
+    ensures { λ _. ⌜ sketchOf (now (counters .exit)) (now (norms .exit)) rows
+        ≡ addRows cols (hashOf high low) weight rows 0 (sketchOf (now (counters .entry)) (now (norms .entry)) rows) ⌝ }
+    ensures { λ v. ⌜ v ≡ estimateOf rows cols (hashOf high low) (now (counters .exit)) ⌝ }
+{
+    let mut buf = [0i64; 20];
+    update_rows(&mut buf, counters, norms, rows, cols, high, low, weight);
+    structure_utils::median_of(&buf, rows)
 }
 
 // Whether all that an update reads is in range.

@@ -1,10 +1,9 @@
 -- Document 01's figures marked *, as rows of one table: what the definitions give, and what 01 says.
-use Prim.Native.Nat.{ℕ, _*_, _^_}
+use Prim.Native.Nat.{ℕ, _^_}
 use mathlib.Core.Bool.{Bool, true, false, _&&_}
 use mathlib.Core.List.{List, [], _∷_, map}
 use lib.ListN.{replicate}
 use lib.IntN.{ℤ, pos, negsuc}
-use lib.Dec.{eqb}
 use lib.Signed.{leZ}
 use lib.Ieee.{Float, binary64, toBits}
 use Rattle.words.specs.Num.{capped}

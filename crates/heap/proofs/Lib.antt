@@ -4,3 +4,4 @@ pub mod Scans
 pub mod Cases
 pub mod Sounds
 pub mod Effects
+pub mod Raises

@@ -3,3 +3,4 @@ pub mod Slices
 pub mod Keys
 pub mod Sound
 pub mod Fours
+pub mod Raised

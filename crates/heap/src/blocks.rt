@@ -2,38 +2,9 @@
 // right; the plain scan behind it says which place stopped it.
 ghost use mathlib.Core.Path.{_≡_};
 ghost use mathlib.Core.Logic.{_≢_};
-ghost use mathlib.Core.Bool.{Bool, _&&_};
 ghost use Prim.Native.Nat.{ℕ, _+_, _*_, _≤_, _<_};
-ghost use lib.ListN.{length, getD, take, drop};
-ghost use Rattle.words.specs.Num.{allIn};
-ghost use Rattle.heap.specs.Fours.{fourIn, fourOther};
-
-fn four_in(counts: &[i64], i: usize) -> bool
-    requires { ⌜ i + 4 ≤ length (now counts) ⌝ }
-    ensures { λ r. ⌜ r ≡ fourIn (now (counts .entry)) i ⌝ }
-{
-    let a = words::in_range(counts[i]);
-    let b = words::in_range(counts[i + 1]);
-    let c = words::in_range(counts[i + 2]);
-    let d = words::in_range(counts[i + 3]);
-    a & b & c & d
-}
-
-// A place before which all of the first n counts are in range.
-pub fn front_in(counts: &[i64], n: usize) -> usize
-    requires { ⌜ n ≤ length (now counts) ⌝ }
-    ensures { λ r. ⌜ (r ≤ n) × (allIn (take n (now (counts .entry))) ≡ allIn (drop r (take n (now (counts .entry))))) ⌝ }
-{
-    let whole = n - n % 4;
-    let mut i = 0;
-    while i < whole {
-        if !four_in(counts, i) {
-            return i;
-        }
-        i += 4;
-    }
-    i
-}
+ghost use lib.ListN.{length, getD};
+ghost use Rattle.heap.specs.Fours.{fourOther};
 
 fn four_other(entries: &[u64], a: usize, key: u64) -> bool
     requires { ⌜ a + 13 ≤ length (now entries) ⌝ }

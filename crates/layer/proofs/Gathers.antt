@@ -162,7 +162,7 @@ unfolding offerAll
 offers-append d cells [] ys t = refl
 offers-append d cells (a ∷ xs) ys t = offers-append d cells xs ys (offerTo d a cells t .table)
 
-zero-cands : (n : ℕ) → candsOf (replicate (4 * n) 0) (replicate n (pos 0)) ≡ replicate n noCand
+pub zero-cands : (n : ℕ) → candsOf (replicate (4 * n) 0) (replicate n (pos 0)) ≡ replicate n noCand
 unfolding candsOf
 zero-cands zero = refl
 zero-cands (suc n) = ap (λ (z : ℕ). candsOf (replicate z 0) (pos 0 ∷ replicate n (pos 0))) four ∙ ap (λ (z : List Cand). noCand ∷ z) (zero-cands n)

@@ -78,7 +78,14 @@ pub fn add(
     let cols = d.cols;
     let high = who.high;
     let low = who.low;
-    countsketch_l2_norm::update_weighted_with_hash(counters, norms, rows, cols, high, low, weight);
-    let count = countsketch_l2_norm::count_with_hash(&*counters, rows, cols, high, low);
+    let count = countsketch_l2_norm::update_and_count(
+        counters,
+        norms,
+        rows,
+        cols,
+        high,
+        low,
+        weight,
+    );
     heap::offer(entries, counts, d.size, len, who, count)
 }

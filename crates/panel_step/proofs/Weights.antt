@@ -2,21 +2,17 @@
 use Prim.Native.Nat.{ℕ, _+_, _*_}
 use mathlib.Core.Path.{_≡_, sym, ap, _∙_, subst}
 use mathlib.Core.List.{List}
-use lib.IntN.{ℤ, pos, negsuc}
+use lib.IntN.{ℤ}
 use lib.ListN.{length}
 use native.Mathlib.Omega.{arith}
 use mir.Syntax.{w64}
 use mir.Val.{toZ, ofZ}
 use Rattle.text.specs.Signs.{SignedWord}
-use Rattle.text.proofs.IntTexts.{back-neg, back-pos}
+use Rattle.text.proofs.IntReads.{fits-back}
 use Rattle.panel_lines.specs.declared.line.Request.the-variants.{Shape, Add, Show, Unreadable}
 use Rattle.panel_lines.specs.Line.{Reading, readOf}
 use Rattle.panel_lines.specs.Ask.{Ask, shape, add, show, readingOf, Writes, Readable}
 use Rattle.panel_lines.proofs.Readable.{read-is-written}
-
-fits-back : (z : ℤ) → SignedWord z → toZ w64 (ofZ w64 z) ≡ z
-fits-back (pos n) h = back-pos n h
-fits-back (negsuc n) h = back-neg n h
 
 pub weight-back : (s : List ℕ) (w : ℤ) (n : ℕ) → readOf s .request ≡ Add w n → toZ w64 (ofZ w64 w) ≡ w
 unfolding readingOf

@@ -18,7 +18,7 @@ use Rattle.estimates.specs.declared.PanelAnswer.{PanelAnswer}
 use Rattle.estimates.specs.Calls.{panelCall}
 use Rattle.panel_lines.specs.declared.line.Request.{Request}
 use Rattle.panel_lines.specs.declared.line.Request.the-variants as ask
-use Rattle.panel_lines.specs.Line.{Reading, readOf}
+use Rattle.panel_lines.specs.Line.{readOf}
 use Rattle.panel_lines.specs.Split.{someLast, chunkLines, chunkHeld}
 use Rattle.panel_lines.specs.Answers.{okText, refusedText, showText}
 use Rattle.panel_step.specs.declared.extent.Extent.{Extent}

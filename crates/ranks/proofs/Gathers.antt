@@ -1,9 +1,11 @@
 -- What taking a candidate in does to the list of candidates that the arrays hold: `gatherOne`. Assumes nothing.
 use Prim.Native.Nat.{ℕ, zero, suc, _+_, _≤_, _<_}
-use mathlib.Core.Path.{_≡_, refl, sym, ap, ap₂, _∙_}
-use mathlib.Core.Bool.{Bool, true, false, cond}
+use mathlib.Core.Path.{_≡_, refl, sym, ap, ap₂, subst, _∙_}
+use mathlib.Core.Logic.{_≢_}
+use mathlib.Core.Bool.{Bool, true, false, cond, not, _&&_}
 use mathlib.Core.List.{List, [], _∷_}
 use native.Mathlib.Omega.{arith}
+use native.Mathlib.Decide.{ℕ-discrete}
 use native.Mathlib.Numerals.{add-one}
 use native.Mathlib.Nat.{zero-add}
 use lib.ListN.{set, getD}
@@ -12,9 +14,10 @@ use lib.IntN.{ℤ, pos}
 use lib.Signed.{ltZ}
 use lib.Dec.{eqb}
 use borrow.Author.Tests.{eq-eqb, ne-eqb}
+use Rattle.words.proofs.Bools.{never, and-left, and-right}
 use Rattle.sums.specs.Entries.{Entry, Space, space, at, view}
 use Rattle.sums.specs.Terminal.{recount, gatherOne}
-use Rattle.ranks.specs.Room.{Within, put, findFrom}
+use Rattle.ranks.specs.Room.{Within, put, findFrom, fourOther}
 use Rattle.ranks.proofs.Sizes.{within-less}
 use Rattle.ranks.proofs.Ranks.{at-same, at-other, view-same}
 
@@ -118,7 +121,7 @@ pub record Seeking (ks : List ℕ) (k n i : ℕ) : Type 0 where
   pub all : left + i ≡ n
   pub goes : findFrom ks k i left ≡ findFrom ks k 0 n
 
-pub seek-start : (ks : List ℕ) (k n : ℕ) → Seeking ks k n 0
+seek-start : (ks : List ℕ) (k n : ℕ) → Seeking ks k n 0
 seek-start ks k n = record { left = n; all = omega arith; goes = refl }
 
 pub seek-on : (ks : List ℕ) (k n i : ℕ) → Seeking ks k n i → i < n → (getD ks i 0 ≡ k → ⊥) → Seeking ks k n (i + 1)
@@ -128,6 +131,53 @@ seek-on ks k n i s h d = go (s .left) (s .all) (s .goes)
     go : (m : ℕ) → m + i ≡ n → findFrom ks k i m ≡ findFrom ks k 0 n → Seeking ks k n (i + 1)
     go zero q z = absurd (omega arith)
     go (suc m) q z = record { left = m; all = omega arith; goes = rw add-one (sym (rw (ne-eqb (getD ks i 0) k d)) ∙ z) }
+
+-- none of the first i places holds the key
+abbrev pub Missed : List ℕ → ℕ → ℕ → Type 0
+Missed ks k i = (j : ℕ) → j < i → getD ks j 0 ≢ k
+
+missed-next : (ks : List ℕ) (k i : ℕ) → Missed ks k i → getD ks i 0 ≢ k → Missed ks k (i + 1)
+missed-next ks k i m h j l = go (ℕ-discrete j i)
+  where
+    go : Dec (j ≡ i) → getD ks j 0 ≢ k
+    go (yes e) = subst (λ (z : ℕ). getD ks z 0 ≢ k) (sym e) h
+    go (no f) = m j (omega (arith, f))
+
+not-same : (x k : ℕ) → not (eqb x k) ≡ true → x ≢ k
+not-same x k t e = never (sym (ap not (eq-eqb x k e)) ∙ t)
+
+missed-four : (ks : List ℕ) (k i : ℕ) → Missed ks k i → fourOther ks k i ≡ true → Missed ks k (i + 4)
+missed-four ks k i m t =
+    let m1 : Missed ks k (i + 1) = missed-next ks k i m (not-same (getD ks i 0) k (and-left b0 (b 1) t1)) in
+    let m2 : Missed ks k (i + 1 + 1) = missed-next ks k (i + 1) m1 (not-same (getD ks (i + 1) 0) k (and-right b0 (b 1) t1)) in
+    let m3 : Missed ks k (i + 2 + 1) = missed-next ks k (i + 2) (λ j l. m2 j (omega (arith, l))) (not-same (getD ks (i + 2) 0) k (and-right (b0 && b 1) (b 2) t2)) in
+    let m4 : Missed ks k (i + 3 + 1) = missed-next ks k (i + 3) (λ j l. m3 j (omega (arith, l))) (not-same (getD ks (i + 3) 0) k (and-right ((b0 && b 1) && b 2) (b 3) t)) in
+    λ j l. m4 j (omega (arith, l))
+  where
+    b : ℕ → Bool
+    b d = not (eqb (getD ks (i + d) 0) k)
+
+    b0 : Bool
+    b0 = not (eqb (getD ks i 0) k)
+
+    t2 : (b0 && b 1) && b 2 ≡ true
+    t2 = and-left ((b0 && b 1) && b 2) (b 3) t
+
+    t1 : b0 && b 1 ≡ true
+    t1 = and-left (b0 && b 1) (b 2) t2
+
+pub missed-eight : (ks : List ℕ) (k i : ℕ) → Missed ks k i → fourOther ks k i && fourOther ks k (i + 4) ≡ true → Missed ks k (i + 8)
+missed-eight ks k i m t =
+    let m1 : Missed ks k (i + 4) = missed-four ks k i m (and-left (fourOther ks k i) (fourOther ks k (i + 4)) t) in
+    let m2 : Missed ks k (i + 4 + 4) = missed-four ks k (i + 4) m1 (and-right (fourOther ks k i) (fourOther ks k (i + 4)) t) in
+    λ j l. m2 j (omega (arith, l))
+
+-- the search goes on where those places end
+pub seek-from : (ks : List ℕ) (k n i : ℕ) → i ≤ n → Missed ks k i → Seeking ks k n i
+seek-from ks k n zero h m = seek-start ks k n
+seek-from ks k n (suc i) h m =
+    let z : i + 1 ≡ suc i = omega arith in
+    subst (Seeking ks k n) z (seek-on ks k n i (seek-from ks k n i (omega arith) (λ j l. m j (omega arith))) (omega arith) (m i (omega arith)))
 
 pub seek-hit : (ks : List ℕ) (k n i : ℕ) → Seeking ks k n i → i < n → getD ks i 0 ≡ k → i ≡ findFrom ks k 0 n
 unfolding findFrom

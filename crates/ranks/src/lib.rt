@@ -2,11 +2,13 @@
 // bottom hash and count. Candidates are taken in, put in order, cut and summed.
 //
 // These functions are called by the other crates of this repository, which show what they require.
+mod blocks;
 mod order;
+mod parts;
 mod step;
 
 pub use order::absorb_one;
-pub use order::rank;
+pub use parts::rank;
 pub use step::close;
 use sums::G;
 

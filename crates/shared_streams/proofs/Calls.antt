@@ -77,36 +77,39 @@ lent-view sh b r x = subst (RelayBy sh b) (sym (ap view (x .is) ∙ view-flat (x
 pub lent-lengths : (sh : Shape) (b : Book) (r : Lent) → LentBy sh b r → lentOk r ≡ true
 lent-lengths sh b r x = ap lentOk (x .is) ∙ flat-lengths (x .state) (x .by .sized)
 
-yes-inj : (r t : Lent) → Outcome.yes r ≡ Outcome.yes t → r ≡ t
+pub yes-inj : (r t : Lent) → Outcome.yes r ≡ Outcome.yes t → r ≡ t
 yes-inj r t e = cc
 
 pub no-yes : (n : ℕ) (t : Lent) → Outcome.no n ≡ Outcome.yes t → ⊥
 no-yes n t e = let z : _≡_ {A = ℕ} 0 1 = cc in omega arith
+
+-- a call that a test lets through, and one that a test bars
+pub gated : (b : Bool) (o : Outcome) (t : Lent) → cond b o (Outcome.no 9) ≡ Outcome.yes t → o ≡ Outcome.yes t
+gated true o t e = e
+gated false o t e = absurd (no-yes 9 t e)
+
+pub barred : (b : Bool) (o : Outcome) (t : Lent) → cond b (Outcome.no 9) o ≡ Outcome.yes t → o ≡ Outcome.yes t
+barred true o t e = absurd (no-yes 9 t e)
+barred false o t e = e
 
 -- an accepted call was accepted on the state
 said : (o : Out) (t : Lent) → outcomeOf o ≡ Outcome.yes t → (s : State) × (o ≡ done s) × (t ≡ flat s)
 said (refused n) t e = absurd (no-yes n t e)
 said (done s) t e = (s, refl, sym (yes-inj (flat s) t e))
 
-gated : (b : Bool) (o : Out) (t : Lent) → cond b (outcomeOf o) (Outcome.no 9) ≡ Outcome.yes t → (s : State) × (o ≡ done s) × (t ≡ flat s)
-gated true o t e = said o t e
-gated false o t e = absurd (no-yes 9 t e)
-
-barred : (b : Bool) (o : Out) (t : Lent) → cond b (Outcome.no 9) (outcomeOf o) ≡ Outcome.yes t → (s : State) × (o ≡ done s) × (t ≡ flat s)
-barred true o t e = absurd (no-yes 9 t e)
-barred false o t e = said o t e
-
 pub lent-fed : (sh : Shape) → shapeRefusal sh ≡ 0 → (k : Kind) (b : Book) (r t : Lent) (words : List ℕ) (w : ℤ) → LentBy sh b r → updateCall k r words w ≡ Outcome.yes t
     → LentBy sh (b ++ (updateBy k words w ∷ [])) t
 unfolding updateCall
 lent-fed sh v k b r t words w x e =
-    let g : (s : State) × (update k (view r) words w ≡ done s) × (t ≡ flat s) = gated (lentOk r) (update k (view r) words w) t e in
+    let g : (s : State) × (update k (view r) words w ≡ done s) × (t ≡ flat s) =
+    said (update k (view r) words w) t (gated (lentOk r) (outcomeOf (update k (view r) words w)) t e) in
     record { state = g .0; is = g .2; by = state-fed sh v k b (view r) (g .0) words w (lent-view sh b r x) (g .1) }
 
 pub lent-joined : (sh : Shape) → shapeRefusal sh ≡ 0 → (a b : Book) (r t u : Lent) → LentBy sh a r → LentBy sh b t → mergeCall r t ≡ Outcome.yes u → LentBy sh (a ++ b) u
 unfolding mergeCall
 lent-joined sh v a b r t u x y e =
-    let g : (s : State) × (merge (view r) (view t) ≡ done s) × (u ≡ flat s) = barred (not (lentOk r) || not (lentOk t)) (merge (view r) (view t)) u e in
+    let g : (s : State) × (merge (view r) (view t) ≡ done s) × (u ≡ flat s) =
+    said (merge (view r) (view t)) u (barred (not (lentOk r) || not (lentOk t)) (outcomeOf (merge (view r) (view t))) u e) in
     record { state = g .0; is = g .2; by = state-joined sh v a b (view r) (view t) (g .0) (lent-view sh a r x) (lent-view sh b t y) (g .1) }
 
 -- a call that is accepted on the state

@@ -16,9 +16,9 @@ use Rattle.header.specs.Header.{freshFlags, freshHeader}
 use Rattle.header.specs.Accepted.{Accepted}
 use Rattle.layer.specs.Layer.{noLayer}
 use Rattle.univmon.specs.State.{rowsAt, colsAt, dimsAt, cellOff, normOff, candOff, layerAt, newState}
+use Rattle.univmon.proofs.Offsets.{off-step}
 use Rattle.shared_streams.specs.Books.{sent, weightOf}
 use Rattle.shared_streams.proofs.Layers.{LayerBy, layer-none}
-use Rattle.shared_streams.proofs.States.{off-step}
 use Rattle.shared_streams.proofs.BookLaws.{bookMode}
 use Rattle.shared_streams.proofs.Relays.{RelayBy}
 use Rattle.shared_streams.proofs.Lists.{getD-all, part-all}

@@ -19,6 +19,7 @@ use Rattle.header.specs.Accepted.{Accepted}
 use Rattle.layer.specs.declared.Dims.{Dims}
 use Rattle.layer.specs.Layer.{Item, Layer, addLayer}
 use Rattle.layer.specs.Merge.{mergeLayer}
+use Rattle.layer.specs.Needs.{Fits}
 use Rattle.univmon.specs.declared.Kind.{Kind}
 use Rattle.univmon.specs.State.{State, colsAt, dimsAt, layerAt, overLayers, withHead}
 use Rattle.univmon.specs.Updates.{recordLength, bottomWord, itemAt, modeOf, firstSent, manySent, updated}
@@ -30,7 +31,7 @@ use Rattle.shared_streams.proofs.Counters.{cellSum-append}
 use Rattle.countsketch_l2_norm.proofs.Merges.{length-rowNorms}
 use Rattle.shared_streams.proofs.Ranges.{weights}
 use Rattle.shared_streams.proofs.Layers.{LayerBy, layer-same, layer-added, layer-merged}
-use Rattle.shared_streams.proofs.States.{Sized, Fits, Over, over}
+use Rattle.shared_streams.proofs.States.{Sized, Over, over}
 use Rattle.shared_streams.proofs.BookLaws.{Fitting, sent-room, reaches-in, reaches-not, sent-append, sent-last, weight-append, cons-weight, no-weight, sent-weights, bookMode, OfMode, joined-kind, mode-append, one-mode, joined-clear}
 use Rattle.shared_streams.proofs.Lists.{All, all-append, all-map, map-append}
 

@@ -7,7 +7,7 @@
 -- The proofs stand in proofs/SharedStreams.antt, under the names `shared-streams`, `with-premises`, `two-shares`, `fresh`.
 use Prim.Native.Nat.{ℕ, _≤_, _<_}
 use mathlib.Core.Path.{_≡_}
-use mathlib.Core.Bool.{true, false}
+use mathlib.Core.Bool.{false}
 use mathlib.Core.List.{List, _++_}
 use lib.IntN.{ℤ, pos}
 use lib.Ieee.{binary64, ofInt}

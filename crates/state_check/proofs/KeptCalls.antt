@@ -28,7 +28,7 @@ use Rattle.univmon.specs.Updates.{update}
 use Rattle.univmon.specs.Deltas.{Arrival, applyDelta}
 use Rattle.univmon.specs.Merges.{merge}
 use Rattle.univmon.specs.Calls.{Outcome, outcomeOf, left, answered, newCall, updateCall, deltaCall, mergeCall, clearCall, weightCall, markCall, markLayerCall}
-use Rattle.shared_streams.proofs.Calls.{no-yes}
+use Rattle.shared_streams.proofs.Calls.{yes-inj, no-yes, gated, barred}
 use Rattle.shared_streams.proofs.Lists.{getD-all}
 use Rattle.state_check.specs.Check.{stateOk}
 use Rattle.state_check.specs.Reached.{Passing, under, Reached}
@@ -53,20 +53,9 @@ fresh-passing sh v = lent-passing (freshLent sh) (fresh-lengths sh) (subst Whole
 
 -- ---- what an accepted call left
 
-yes-is : (r t : Lent) → Outcome.yes r ≡ Outcome.yes t → r ≡ t
-yes-is r t e = cc
-
 said : (o : Out) (t : Lent) → outcomeOf o ≡ Outcome.yes t → ((s : State) → o ≡ done s → WholeState s) → Passing t
 said (refused n) t e f = absurd (no-yes n t e)
-said (done s) t e f = subst Passing (yes-is (flat s) t e) (flat-passing s (f s refl))
-
-gated : (b : Bool) (o : Outcome) (t : Lent) → cond b o (Outcome.no 9) ≡ Outcome.yes t → o ≡ Outcome.yes t
-gated true o t e = e
-gated false o t e = absurd (no-yes 9 t e)
-
-barred : (b : Bool) (o : Outcome) (t : Lent) → cond b (Outcome.no 9) o ≡ Outcome.yes t → o ≡ Outcome.yes t
-barred true o t e = absurd (no-yes 9 t e)
-barred false o t e = e
+said (done s) t e f = subst Passing (yes-inj (flat s) t e) (flat-passing s (f s refl))
 
 -- ---- the calls
 
@@ -99,7 +88,7 @@ merge-kept r q t p o e =
 pub clear-kept : (r t : Lent) → Passing r → clearCall r ≡ Outcome.yes t → Passing t
 unfolding clearCall view
 clear-kept r t p e =
-    subst Passing (yes-is (freshLent (r .head .shape)) t (barred (not (headerOk (r .head)) || not (lentOk r)) (Outcome.yes (freshLent (r .head .shape))) t e)) (fresh-passing (r .head .shape) (shown r p .shape))
+    subst Passing (yes-inj (freshLent (r .head .shape)) t (barred (not (headerOk (r .head)) || not (lentOk r)) (Outcome.yes (freshLent (r .head .shape))) t e)) (fresh-passing (r .head .shape) (shown r p .shape))
 
 -- ---- the calls on the header alone
 

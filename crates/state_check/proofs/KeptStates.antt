@@ -15,9 +15,7 @@ use Rattle.words.proofs.Bools.{both}
 use Rattle.countsketch_l2_norm.specs.Norms.{normsOf}
 use Rattle.countsketch_l2_norm.proofs.Norms.{norm-at, length-norms}
 use Rattle.heap_moves.specs.Cands.{Cand, noCand}
-use Rattle.heap_moves.specs.Flat.{candsOf}
 use Rattle.heap_moves.specs.Order.{Rest}
-use Rattle.heap_moves.proofs.Views.{length-cands, cand-at, who-path, cand-path}
 use Rattle.header.specs.declared.Shape.{Shape}
 use Rattle.header.specs.Shape.{maxLayers, shapeRefusal}
 use Rattle.header.specs.Header.{freshHeader, joined, settled}
@@ -27,6 +25,7 @@ use Rattle.header.proofs.Refusals.{accepted-of}
 use Rattle.layer.specs.Layer.{Layer, addLayer, addFits}
 use Rattle.layer.specs.Delta.{deltaLayer, deltaFits}
 use Rattle.layer.specs.Merge.{mergeLayer, mergeFits}
+use Rattle.layer.proofs.Gathers.{zero-cands}
 use Rattle.univmon.specs.declared.Kind.{Kind}
 use Rattle.univmon.specs.State.{State, shapeOf, rowsAt, colsAt, dimsAt, candOff, layerAt, allLayers, newState}
 use Rattle.univmon.specs.Judged.{done}
@@ -182,13 +181,6 @@ unfolding twoWords
 zero-norms n =
     ext-getD 0 (normsOf (replicate (2 * n) 0) n) (replicate n 0) (length-norms (replicate (2 * n) 0) n ∙ sym (length-replicate {A = ℕ} n 0))
     (λ i h. norm-at (replicate (2 * n) 0) n i (omega (arith, h, length-norms (replicate (2 * n) 0) n)) ∙ ap₂ twoWords (getD-all {A = ℕ} 0 (2 * n) (2 * i)) (getD-all {A = ℕ} 0 (2 * n) (2 * i + 1)) ∙ sym (getD-all {A = ℕ} 0 n i))
-
-zero-cands : (n : ℕ) → candsOf (replicate (4 * n) 0) (replicate n (pos 0)) ≡ replicate n noCand
-zero-cands n =
-    ext-getD noCand (candsOf (replicate (4 * n) 0) (replicate n (pos 0))) (replicate n noCand) (length-cands (replicate (4 * n) 0) (replicate n (pos 0)) ∙ length-replicate n (pos 0) ∙ sym (length-replicate n noCand))
-    (λ i h. cand-at (replicate (4 * n) 0) (replicate n (pos 0)) i (subst (λ (m : ℕ). i < m) (length-cands (replicate (4 * n) 0) (replicate n (pos 0))) h)
-    ∙ cand-path (who-path (getD-all {A = ℕ} 0 (4 * n) (4 * i)) (getD-all {A = ℕ} 0 (4 * n) (4 * i + 1)) (getD-all {A = ℕ} 0 (4 * n) (4 * i + 2)) (getD-all {A = ℕ} 0 (4 * n) (4 * i + 3))) (getD-all (pos 0) n i)
-    ∙ sym (getD-all noCand n i))
 
 pub fresh-view : (sh : Shape) → view (freshLent sh) ≡ newState sh
 unfolding view freshLent newState freshHeader

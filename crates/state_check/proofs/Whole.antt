@@ -28,7 +28,7 @@ use Rattle.heap.specs.Offer.{Table}
 use Rattle.heap.specs.Sound.{Sound}
 use Rattle.layer.specs.declared.Dims.{Dims}
 use Rattle.layer.specs.Layer.{Layer}
-use Rattle.shared_streams.proofs.States.{Fits}
+use Rattle.layer.specs.Needs.{Fits}
 use Rattle.shared_streams.proofs.Tables.{InR}
 use Rattle.state_check.specs.Check.{rowOk, rowsOk, isNone, seatedOk, seatOk, seatsOk, layerOk}
 use Rattle.state_check.proofs.RowSums.{all-of, rows-step, rows-none}

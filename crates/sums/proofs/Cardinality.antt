@@ -7,7 +7,6 @@ use lib.ListN.{length}
 use lib.IntN.{ℤ, pos}
 use lib.Ieee.{binary64, ofInt}
 use Rattle.sums.specs.Entries.{Entry}
-use Rattle.sums.specs.Terms.{one}
 use Rattle.sums.specs.Layers.{gSum}
 use Rattle.sums.specs.Whole.{onward, times}
 use Rattle.sums.specs.declared.G.the-variants.{One}

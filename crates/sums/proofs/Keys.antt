@@ -9,7 +9,6 @@ use lib.IntN.{ℤ, pos, negsuc, subℕ, _+ℤ_, _*ℤ_, +ℤ-assoc, +ℤ-comm}
 use lib.Dec.{eqb}
 use borrow.Author.Tests.{eq-eqb, le-ltb, eqb-true}
 use Rattle.sums.specs.Entries.{Entry}
-use Rattle.sums.specs.Terms.{one, counted}
 use Rattle.sums.specs.Whole.{bitOff, bitSum, keySum, onward, times}
 
 -- the bits' sum, with those whose bit is 1 counted twice more, counts all

@@ -108,7 +108,7 @@ int-sound s i stop z j e = go (leb (length s) i) (eqb (getD s i 0) 45) refl e
     go false false q r = plain-sound s i stop z j r
 
 -- a number that was read comes back from its bits
-fits-back : (z : ℤ) → SignedWord z → toZ w64 (ofZ w64 z) ≡ z
+pub fits-back : (z : ℤ) → SignedWord z → toZ w64 (ofZ w64 z) ≡ z
 fits-back (pos n) h = back-pos n h
 fits-back (negsuc n) h = back-neg n h
 

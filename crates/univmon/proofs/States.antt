@@ -25,7 +25,7 @@ pub record Long (s : State) : Type 0 where
   pub norms : length (s .norms) ≡ normOff (s .head .shape) (s .head .shape .layers)
   pub cands : length (s .cands) ≡ candOff (s .head .shape) (s .head .shape .layers)
 
-layer-path : {c c′ : List ℤ} {n n′ : List ℕ} {t t′ : List Cand} {k k′ : ℕ} {f f′ : Bool} → c ≡ c′ → n ≡ n′ → t ≡ t′ → k ≡ k′ → f ≡ f′
+pub layer-path : {c c′ : List ℤ} {n n′ : List ℕ} {t t′ : List Cand} {k k′ : ℕ} {f f′ : Bool} → c ≡ c′ → n ≡ n′ → t ≡ t′ → k ≡ k′ → f ≡ f′
     → _≡_ {A = Layer} (record { sketch = record { cells = c; norms = n }; table = record { cands = t; len = k }; flag = f })
     (record { sketch = record { cells = c′; norms = n′ }; table = record { cands = t′; len = k′ }; flag = f′ })
 layer-path p q r s t = λ i. record { sketch = record { cells = p i; norms = q i }; table = record { cands = r i; len = s i }; flag = t i }

@@ -1,7 +1,7 @@
 -- `heap::counts_in_range` meets its contract.
 -- Written by tools/places.py from answers.txt; assumes nothing.
 use Prim.Native.Nat.{_-_, _≤_}
-use mathlib.Core.Path.{_≡_, sym, _∙_}
+use mathlib.Core.Path.{_≡_, refl, sym, _∙_}
 use lib.ListN.{getD, take, drop}
 use lib.IntN.{pos}
 use native.Mathlib.Omega.{arith}
@@ -20,14 +20,17 @@ Inv-loop counts n i₀ i = (i ≤ n) × (allIn (take n counts) ≡ allIn (drop i
 abbrev μ-loop : tie.MeasureT-loop
 μ-loop counts n i₀ i = n - i
 
-front-in-requires : tie.Need-front-in-requires Inv-loop μ-loop
-front-in-requires c κs = search needs
+joined-requires : tie.Need-joined-requires Inv-loop μ-loop
+joined-requires c κs = search needs
+
+returns : tie.Need-returns Inv-loop μ-loop
+returns c = sym (c .before .joined .ensures (c .if1 .taken))
 
 loop-holds : tie.Need-loop-holds Inv-loop μ-loop
-loop-holds c = c .front-in .ensures
+loop-holds c = (omega arith, refl)
 
 -- what `in_range` says of the count that was read
-said : (c : tie.After-in-range Inv-loop μ-loop) → inRange (getD (now (c .before .before .before .before .before .args .counts)) (c .before .before .before .loop .i) (pos 0)) ≡ c .in-range .result
+said : (c : tie.After-in-range Inv-loop μ-loop) → inRange (getD (now (c .before .before .before .before .before .before .args .counts)) (c .before .before .before .loop .i) (pos 0)) ≡ c .in-range .result
 said c = sym (rw (toZ-ofZ (sfits-of (c .before .in-range-arg .given))) at (c .in-range .ensures))
 
 mul-in-range : tie.Need-mul-in-range Inv-loop μ-loop
@@ -39,10 +42,10 @@ shared-slice-copy-out-in-range c = omega arith
 in-range-requires : tie.Need-in-range-requires Inv-loop μ-loop
 in-range-requires c κs = search needs
 
-returns : tie.Need-returns Inv-loop μ-loop
-returns c =
-    scan-no (now (c .before .before .before .before .before .before .args .counts)) (c .before .before .before .before .before .before .args .n) (c .before .before .before .before .loop .i) (omega arith) (c .before .before .before .before .before .before .pre) (c .before .before .before .before .loop .inv .1)
-    (said (c .before) ∙ not-true _ (c .if1 .taken))
+returns-2 : tie.Need-returns-2 Inv-loop μ-loop
+returns-2 c =
+    scan-no (now (c .before .before .before .before .before .before .before .args .counts)) (c .before .before .before .before .before .before .before .args .n) (c .before .before .before .before .loop .i) (omega arith) (c .before .before .before .before .before .before .before .pre) (c .before .before .before .before .loop .inv .1)
+    (said (c .before) ∙ not-true _ (c .if2 .taken))
 
 add-i : tie.Need-add-i Inv-loop μ-loop
 add-i c = omega arith
@@ -53,12 +56,12 @@ loop-less c = omega arith
 loop-again : tie.Need-loop-again Inv-loop μ-loop
 loop-again c = (
   omega arith,
-  scan-next (now (c .before .before .before .before .before .before .args .counts)) (c .before .before .before .before .before .before .args .n) (c .before .before .before .before .loop .i) (omega arith) (c .before .before .before .before .before .before .pre) (c .before .before .before .before .loop .inv .1)
-      (said (c .before) ∙ not-false _ (c .if1 .left)),
+  scan-next (now (c .before .before .before .before .before .before .before .args .counts)) (c .before .before .before .before .before .before .before .args .n) (c .before .before .before .before .loop .i) (omega arith) (c .before .before .before .before .before .before .before .pre) (c .before .before .before .before .loop .inv .1)
+      (said (c .before) ∙ not-false _ (c .if2 .left)),
 )
 
-returns-2 : tie.Need-returns-2 Inv-loop μ-loop
-returns-2 c = scan-end (now (c .before .before .before .args .counts)) (c .before .before .before .args .n) (c .before .loop .i) (omega arith) (c .before .before .before .pre) (c .before .loop .inv .1)
+returns-3 : tie.Need-returns-3 Inv-loop μ-loop
+returns-3 c = scan-end (now (c .before .before .before .before .args .counts)) (c .before .before .before .before .args .n) (c .before .loop .i) (omega arith) (c .before .before .before .before .pre) (c .before .loop .inv .1)
 
 pub counts-in-range-spec : {M : Type 1} → statement M
-counts-in-range-spec = tie.close (tie.spec Inv-loop μ-loop front-in-requires loop-holds mul-in-range shared-slice-copy-out-in-range in-range-requires returns add-i loop-less loop-again returns-2)
+counts-in-range-spec = tie.close (tie.spec Inv-loop μ-loop joined-requires returns loop-holds mul-in-range shared-slice-copy-out-in-range in-range-requires returns-2 add-i loop-less loop-again returns-3)

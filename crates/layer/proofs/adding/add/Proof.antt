@@ -1,8 +1,8 @@
 -- `layer::adding::add` meets its contract.
 -- Written by tools/places.py from answers.txt; assumes nothing.
-use mathlib.Core.Path.{_≡_, sym, ap, _∙_}
+use mathlib.Core.Path.{_≡_, sym, _∙_}
 use mathlib.Core.Bool.{true, false}
-use lib.ListN.{length, take}
+use lib.ListN.{take}
 use native.Mathlib.Omega.{arith}
 use borrow.Author.Needs.{needs, sfits-of}
 use denote.Ref.{now}
@@ -11,12 +11,10 @@ use mir.Val.{toZ, ofZ}
 use mir.Facts.{toZ-ofZ}
 use Rattle.words.specs.Num.{allIn}
 use Rattle.words.proofs.Bools.{and-left}
-use Rattle.countsketch_l2_norm.specs.Sketch.{Sketch, sketchOf, addRows, rowsRead, rowsFit}
-use Rattle.countsketch_l2_norm.proofs.After.{fit-after, length-rows}
+use Rattle.countsketch_l2_norm.specs.Sketch.{sketchOf, rowsRead, rowsFit}
 use Rattle.layer.specs.Layer.{hashBy}
 use Rattle.layer.proofs.Tests.{reads-are, fits-are}
 use Rattle.layer.proofs.Steps.{add-is}
-use native.Mathlib.Nat.{zero-add}
 use Rattle.layer.proofs.adding.add.Statement.{statement}
 use Rattle.layer.proofs.adding.add.Tie as tie
 
@@ -32,8 +30,8 @@ rows-do-fit c =
     let a = c .args in
     sym (fits-are (a .d) (a .who) (a .weight) (now (a .counters)) (now (a .norms)) (now (a .entries)) (now (a .counts)) (a .len) false) ∙ c .pre .fit
 
-update-weighted-with-hash-requires : tie.Need-update-weighted-with-hash-requires
-update-weighted-with-hash-requires c κs =
+update-and-count-requires : tie.Need-update-and-count-requires
+update-and-count-requires c κs =
     let p = c .before .before .before .before .pre in
     record {
       shaped = p .housed .shaped;
@@ -45,30 +43,12 @@ update-weighted-with-hash-requires c κs =
     }
 
 -- the count as it is handed on
-count-back : (c : tie.After-count-with-hash) → toZ w64 (ofZ w64 (c .count-with-hash .result)) ≡ c .count-with-hash .result
-count-back c = toZ-ofZ (sfits-of (c .count-with-hash .ok))
-
--- the counters after the update
-cells-now : (c : tie.After-update-weighted-with-hash) → let a = c .before .before .before .before .before .args in
-    c .update-weighted-with-hash .last .0 ≡ addRows (a .d .cols) (hashBy (a .who)) (a .weight) (a .d .rows) 0 (sketchOf (now (a .counters)) (now (a .norms)) (a .d .rows)) .cells
-cells-now c = ap (λ (s : Sketch). s .cells) (c .update-weighted-with-hash .ensures)
-
-count-with-hash-requires : tie.Need-count-with-hash-requires
-count-with-hash-requires c κs =
-    let a = c .before .before .before .before .before .before .before .before .before .args in
-    let p = c .before .before .before .before .before .before .before .before .before .pre in
-    let s = sketchOf (now (a .counters)) (now (a .norms)) (a .d .rows) in (
-      p .housed .shaped,
-      (
-        omega (arith, p .housed .cells, ap length (cells-now (c .before .before .before .before)), length-rows (a .d .cols) (hashBy (a .who)) (a .weight) (a .d .rows) 0 s),
-        rw (cells-now (c .before .before .before .before))
-            (fit-after (a .d .cols) (hashBy (a .who)) (a .weight) (a .d .rows) 0 s (p .housed .shaped .some) (rw (zero-add (a .d .rows)) (omega (arith, p .housed .cells))) (rows-do-fit (c .before .before .before .before .before .before .before .before .before))),
-      ),
-    )
+count-back : (c : tie.After-update-and-count) → toZ w64 (ofZ w64 (c .update-and-count .result)) ≡ c .update-and-count .result
+count-back c = toZ-ofZ (sfits-of (c .update-and-count .ok))
 
 offer-requires : tie.Need-offer-requires
 offer-requires c κs =
-    let p = c .before .before .before .before .before .before .before .before .before .before .before .before .pre in
+    let p = c .before .before .before .before .before .before .before .before .before .before .pre in
     record { words = p .words; counts = p .housed .seats; some = p .housed .some; used = p .housed .used }
 
 same-length : tie.Need-same-length
@@ -85,11 +65,11 @@ same-length-4 c = search needs
 
 returns : tie.Need-returns
 returns c =
-    let a = c .before .before .before .before .before .before .before .before .before .before .before .before .before .before .before .before .args in
+    let a = c .before .before .before .before .before .before .before .before .before .before .before .before .before .before .args in
+    let u = c .before .before .before .before .before .before .before .before .before .update-and-count in
     let o = c .before .before .before .offer .ensures in
-    add-is (a .d) (a .who) (a .weight) (now (a .counters)) (now (a .norms)) (now (a .entries)) (now (a .counts)) (a .len) _ _ _ _ (c .before .before .before .offer .result) (c .before .before .before .before .before .before .count-with-hash .result)
-    (c .before .before .before .before .before .before .before .before .before .before .before .update-weighted-with-hash .ensures) (c .before .before .before .before .before .before .count-with-hash .ensures)
-    (rw (count-back (c .before .before .before .before .before .before)) at (o .0)) (rw (count-back (c .before .before .before .before .before .before)) at (o .1 .0)) (rw (count-back (c .before .before .before .before .before .before)) at (o .1 .1 .0))
+    add-is (a .d) (a .who) (a .weight) (now (a .counters)) (now (a .norms)) (now (a .entries)) (now (a .counts)) (a .len) _ _ _ _ (c .before .before .before .offer .result) (u .result) (u .ensures .0) (u .ensures .1)
+    (rw (count-back (c .before .before .before .before .before .before .before .before .before)) at (o .0)) (rw (count-back (c .before .before .before .before .before .before .before .before .before)) at (o .1 .0)) (rw (count-back (c .before .before .before .before .before .before .before .before .before)) at (o .1 .1 .0))
 
 pub add-spec : {M : Type 1} → statement M
-add-spec = tie.close (tie.spec update-weighted-with-hash-requires count-with-hash-requires offer-requires same-length same-length-2 same-length-3 same-length-4 returns)
+add-spec = tie.close (tie.spec update-and-count-requires offer-requires same-length same-length-2 same-length-3 same-length-4 returns)
