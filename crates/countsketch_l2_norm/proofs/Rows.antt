@@ -11,7 +11,7 @@ use lib.Seq.{getD-set-other}
 use lib.IntN.{ℤ, pos, natAbs, _+ℤ_}
 use lib.Dec.{leb}
 use borrow.Author.Tests.{leb-true}
-use Rattle.words.specs.Num.{top, squareCap, inRange, capped}
+use Rattle.words.specs.Num.{top, shortTop, squareCap, inRange, capped}
 use Rattle.words.proofs.Bools.{and-left, and-right, both}
 use Rattle.words.proofs.Signed.{abs-add}
 use Rattle.words.proofs.Squares.{range-bound, range-of, capped-small}
@@ -44,10 +44,10 @@ and-end : (b : Bool) → b ≡ b && true
 and-end true = refl
 and-end false = refl
 
--- a small counter and a weight that is not near the end of the range: only the norm is asked for
-pub small-ready : (x d : ℤ) (n cols : ℕ) → natAbs x ≤ 3037000499 → natAbs d ≤ 4503596590369997 → leb n (cols * squareCap) && leb (natAbs x * natAbs x) n ≡ rowRead x n cols && inRange (x +ℤ d)
+-- a short counter and a weight that is not near the end of the range: only the norm is asked for
+pub small-ready : (x d : ℤ) (n cols : ℕ) → natAbs x ≤ shortTop → natAbs d ≤ 4503597479886848 → leb n (cols * squareCap) && leb (natAbs x * natAbs x) n ≡ rowRead x n cols && inRange (x +ℤ d)
 small-ready x d n cols h k =
-    rw (capped-small x h, range-of x (omega arith), range-of (x +ℤ d) (omega (arith, abs-add x d))) (and-end (leb n (cols * squareCap) && leb (capped x) n))
+    rw (capped-small x (omega arith), range-of x (omega arith), range-of (x +ℤ d) (omega (arith, abs-add x d))) (and-end (leb n (cols * squareCap) && leb (capped x) n))
 
 -- what is read of a counter is in range, and it stays so: it may be stored
 pub cell-ready : (rows cols at r : ℕ) (d : ℤ) (xs : List ℤ) (ws : List ℕ) → at < length xs → r < rows → rows ≤ maxRows → cols ≤ maxCols → 2 * rows ≤ length ws → natAbs d ≤ top

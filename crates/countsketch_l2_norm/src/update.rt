@@ -19,10 +19,8 @@ use crate::cells::row_read;
 use crate::estimate::row_estimate;
 use words::Wide;
 
-// The greatest number whose square stays below 2^63, and what is left of the range above it.
-const UNCAPPED_TOP: u64 = 3037000499;
-
-const LIGHT_TOP: u64 = 4503596590369997;
+// 2^52 - 2^31: a weight up to here keeps a counter of 32 bits in range.
+const LIGHT_TOP: u64 = 4503597479886848;
 
 // The index of the counter that a hash names in a row, with `bits` the mask bits of `cols`.
 pub fn place(high: u64, low: u64, bits: usize, cols: usize, r: usize) -> usize
@@ -194,27 +192,25 @@ pub fn rows_fit(
     true
 }
 
-// Whether a norm is in range and holds the square of a number so small that it is not capped.
-fn norm_ready(a: u64, w: Wide, cols: usize) -> bool
-    requires { ⌜ a ≤ 3037000499 ⌝ }
-    ensures { λ b. ⌜ b ≡ leb (valueOf w) (cols * squareCap) && leb (a * a) (valueOf w) ⌝ }
+// Whether a norm is in range and holds a square.
+fn norm_ready(square: u64, w: Wide, cols: usize) -> bool
+    ensures { λ b. ⌜ b ≡ leb (valueOf w) (cols * squareCap) && leb square (valueOf w) ⌝ }
 {
     if !words::at_most_caps(w.lo, w.hi, cols as u64) {
         return false;
     }
-    words::at_least(w.lo, w.hi, a * a)
+    words::at_least(w.lo, w.hi, square)
 }
 
-// Whether a row may take the weight: what is read is in range, and so is the new counter. A small
+// Whether a row may take the weight: what is read is in range, and so is the new counter. A short
 // counter and a weight that is not near the end of the range leave only the norm to be asked for.
 fn row_ready(x: i64, w: Wide, cols: usize, high: u64, low: u64, r: usize, weight: u64) -> bool
     requires { ⌜ (r < maxRows) × (weight ≤ top) ⌝ }
     ensures { λ b. ⌜ b ≡ rowRead x (valueOf w) cols && inRange (x +ℤ signed (hashOf high low) r (pos weight)) ⌝ }
 {
-    let a = words::magnitude(x);
-    if a <= UNCAPPED_TOP {
+    if words::is_short(x) {
         if weight <= LIGHT_TOP {
-            return norm_ready(a, w, cols);
+            return norm_ready(words::short_square(x), w, cols);
         }
     }
     if !row_read(x, w, cols) {

@@ -1,8 +1,10 @@
 -- `countsketch_l2_norm::update::row_ready` meets its contract.
 -- Written by tools/places.py from answers.txt; assumes nothing.
-use Prim.Native.Nat.{_≤_}
-use mathlib.Core.Path.{_≡_, sym, _∙_}
+use Prim.Native.Nat.{ℕ, _*_, _≤_}
+use mathlib.Core.Path.{_≡_, sym, ap, _∙_}
+use mathlib.Core.Bool.{_&&_}
 use lib.IntN.{ℤ, pos, natAbs, _+ℤ_}
+use lib.Dec.{leb}
 use native.Mathlib.Omega.{arith}
 use borrow.Author.Needs.{needs}
 use borrow.Author.Tests.{not-true, not-false}
@@ -10,30 +12,34 @@ use mir.Facts.{toZ-ofZ}
 use Rattle.countsketch_l2_norm.proofs.Rows.{read-as, small-ready}
 use Rattle.countsketch_l2_norm.specs.Sketch.{rowRead}
 use Rattle.words.proofs.Signed.{back, fits, abs-add, sum-is}
-use Rattle.words.specs.Num.{top}
+use Rattle.words.specs.Num.{top, shortTop, squareCap}
 use Rattle.words.specs.Wide.{valueOf}
 use Rattle.matrix_storage.specs.Bits.{signed, hashOf}
 use Rattle.matrix_storage.proofs.Cells.{abs-signed}
 use Rattle.countsketch_l2_norm.proofs.update.row_ready.Statement.{statement}
 use Rattle.countsketch_l2_norm.proofs.update.row_ready.Tie as tie
 
-magnitude-requires : tie.Need-magnitude-requires
-magnitude-requires c κs = search needs
+is-short-requires : tie.Need-is-short-requires
+is-short-requires c κs = search needs
 
 abbrev delta : tie.Start → ℤ
 delta c = signed (hashOf (c .args .high) (c .args .low)) (c .args .r) (pos (c .args .weight))
 
-mag-is : (c : tie.After-magnitude) → c .magnitude .result ≡ natAbs (c .before .args .x)
-mag-is c = rw (toZ-ofZ (c .before .fits .x)) at (c .magnitude .ensures)
+short : (c : tie.Then1) → natAbs (c .before .before .args .x) ≤ shortTop
+short c = rw (toZ-ofZ (c .before .before .fits .x)) at (c .before .is-short .ensures) (c .if1 .taken)
+
+short-square-requires : tie.Need-short-square-requires
+short-square-requires c κs = rw (toZ-ofZ (c .before .before .before .fits .x)) (short (c .before))
 
 norm-ready-requires : tie.Need-norm-ready-requires
-norm-ready-requires c κs = c .before .if1 .taken
+norm-ready-requires c κs = search needs
 
 returns : tie.Need-returns
 returns c =
-    let a = c .before .before .before .before .args in
-    rw (mag-is (c .before .before .before)) at (c .norm-ready .ensures)
-    ∙ small-ready (a .x) (delta (c .before .before .before .before)) (valueOf (a .w)) (a .cols) (rw (mag-is (c .before .before .before)) at (c .before .before .if1 .taken)) (omega (arith, abs-signed (hashOf (a .high) (a .low)) (a .r) (pos (a .weight)), c .before .if2 .taken))
+    let a = c .before .before .before .before .before .args in
+    c .norm-ready .ensures
+    ∙ ap (λ (n : ℕ). leb (valueOf (a .w)) (a .cols * squareCap) && leb n (valueOf (a .w))) (rw (toZ-ofZ (c .before .before .before .before .before .fits .x)) at (c .before .short-square .ensures))
+    ∙ small-ready (a .x) (delta (c .before .before .before .before .before)) (valueOf (a .w)) (a .cols) (short (c .before .before .before)) (omega (arith, abs-signed (hashOf (a .high) (a .low)) (a .r) (pos (a .weight)), c .before .before .if2 .taken))
 
 row-read-requires : tie.Need-row-read-requires
 row-read-requires c κs = search needs
@@ -72,4 +78,4 @@ returns-3 c =
     (rw (sum-is (c .before .before .before .before .before .before .args .x) (c .before .delta-at .result) (cell-small (c .before .before)) (delta-small (c .before)), c .before .delta-at .ensures) at (c .in-range .ensures))
 
 pub row-ready-spec : {M : Type 1} → statement M
-row-ready-spec = tie.close (tie.spec magnitude-requires norm-ready-requires returns row-read-requires returns-2 delta-at-requires add-in-range in-range-requires returns-3)
+row-ready-spec = tie.close (tie.spec is-short-requires short-square-requires norm-ready-requires returns row-read-requires returns-2 delta-at-requires add-in-range in-range-requires returns-3)
