@@ -11,9 +11,10 @@ use lib.Seq.{getD-set-other}
 use lib.IntN.{ℤ, pos, natAbs, _+ℤ_}
 use lib.Dec.{leb}
 use borrow.Author.Tests.{leb-true}
-use Rattle.words.specs.Num.{top, squareCap, inRange, capped}
+use Rattle.words.specs.Num.{top, shortTop, squareCap, inRange, capped}
 use Rattle.words.proofs.Bools.{and-left, and-right, both, and-cross}
-use Rattle.words.proofs.Squares.{range-bound}
+use Rattle.words.proofs.Signed.{abs-add}
+use Rattle.words.proofs.Squares.{range-bound, range-of, capped-small}
 use Rattle.matrix_storage.specs.Bits.{maxRows, maxCols, signed}
 use Rattle.matrix_storage.proofs.Cells.{abs-signed}
 use Rattle.countsketch_l2_norm.specs.Norms.{normsOf, normAt, setNorm}
@@ -38,6 +39,15 @@ read-as x n cols e =
       normIn = leb-true n (cols * squareCap) (and-right (inRange x) (leb n (cols * squareCap)) two);
       holds = leb-true (capped x) n (and-right (inRange x && leb n (cols * squareCap)) (leb (capped x) n) e);
     }
+
+and-end : (b : Bool) → b ≡ b && true
+and-end true = refl
+and-end false = refl
+
+-- a short counter and a weight that is not near the end of the range: only the norm is asked for
+pub small-ready : (x d : ℤ) (n cols : ℕ) → natAbs x ≤ shortTop → natAbs d ≤ 4503597479886848 → leb n (cols * squareCap) && leb (natAbs x * natAbs x) n ≡ rowRead x n cols && inRange (x +ℤ d)
+small-ready x d n cols h k =
+    rw (capped-small x (omega arith), range-of x (omega arith), range-of (x +ℤ d) (omega (arith, abs-add x d))) (and-end (leb n (cols * squareCap) && leb (capped x) n))
 
 -- what is read of a counter is in range, and it stays so: it may be stored
 pub cell-ready : (rows cols at r : ℕ) (d : ℤ) (xs : List ℤ) (ws : List ℕ) → at < length xs → r < rows → rows ≤ maxRows → cols ≤ maxCols → 2 * rows ≤ length ws → natAbs d ≤ top

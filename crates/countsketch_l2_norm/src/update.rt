@@ -3,8 +3,9 @@ ghost use mathlib.Core.Path.{_≡_};
 ghost use mathlib.Core.Bool.{true, _&&_};
 ghost use Prim.Native.Nat.{ℕ, _+_, _-_, _*_, _<_, _≤_};
 ghost use lib.ListN.{length, set, take};
-ghost use lib.IntN.{ℤ, pos, natAbs, _+ℤ_};
-ghost use Rattle.words.specs.Num.{top, inRange, capped};
+ghost use lib.IntN.{ℤ, pos, _+ℤ_};
+ghost use lib.Dec.{leb};
+ghost use Rattle.words.specs.Num.{top, squareCap, inRange, capped};
 ghost use Rattle.words.specs.Wide.{valueOf};
 ghost use Rattle.matrix_storage.specs.Bits.{maxRows, maxCols, maskBits, signed, hashOf, Shaped};
 ghost use Rattle.countsketch_l2_norm.specs.Norms.{normAt, setNorm};
@@ -17,6 +18,9 @@ use crate::cells::norm_of;
 use crate::cells::row_read;
 use crate::estimate::row_estimate;
 use words::Wide;
+
+// 2^52 - 2^31: a weight up to here keeps a counter of 32 bits in range.
+const LIGHT_TOP: u64 = 4503597479886848;
 
 // The index of the counter that a hash names in a row, with `bits` the mask bits of `cols`.
 pub fn place(high: u64, low: u64, bits: usize, cols: usize, r: usize) -> usize
@@ -188,15 +192,31 @@ pub fn rows_fit(
     true
 }
 
-// Whether a row may take a number: what is read is in range, and so is the new counter.
-fn row_ready(x: i64, w: Wide, cols: usize, delta: i64) -> bool
-    requires { ⌜ natAbs delta ≤ top ⌝ }
-    ensures { λ b. ⌜ b ≡ rowRead x (valueOf w) cols && inRange (x +ℤ delta) ⌝ }
+// Whether a norm is in range and holds a square.
+fn norm_ready(square: u64, w: Wide, cols: usize) -> bool
+    ensures { λ b. ⌜ b ≡ leb (valueOf w) (cols * squareCap) && leb square (valueOf w) ⌝ }
 {
+    if !words::at_most_caps(w.lo, w.hi, cols as u64) {
+        return false;
+    }
+    words::at_least(w.lo, w.hi, square)
+}
+
+// Whether a row may take the weight: what is read is in range, and so is the new counter. A short
+// counter and a weight that is not near the end of the range leave only the norm to be asked for.
+fn row_ready(x: i64, w: Wide, cols: usize, high: u64, low: u64, r: usize, weight: u64) -> bool
+    requires { ⌜ (r < maxRows) × (weight ≤ top) ⌝ }
+    ensures { λ b. ⌜ b ≡ rowRead x (valueOf w) cols && inRange (x +ℤ signed (hashOf high low) r (pos weight)) ⌝ }
+{
+    if words::is_short(x) {
+        if weight <= LIGHT_TOP {
+            return norm_ready(words::short_square(x), w, cols);
+        }
+    }
     if !row_read(x, w, cols) {
         return false;
     }
-    words::in_range(x + delta)
+    words::in_range(x + delta_at(high, low, r, weight))
 }
 
 // Whether an update may be made: both questions in one pass, where it does not matter which of them
@@ -218,8 +238,7 @@ pub fn rows_ready(
     let mut r = 0;
     while r < rows {
         let at = place(high, low, bits, cols, r);
-        let delta = delta_at(high, low, r, weight);
-        if !row_ready(counters[at], norm_of(norms, r), cols, delta) {
+        if !row_ready(counters[at], norm_of(norms, r), cols, high, low, r, weight) {
             return false;
         }
         r += 1;

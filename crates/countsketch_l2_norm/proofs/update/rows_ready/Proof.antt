@@ -18,7 +18,6 @@ use Rattle.countsketch_l2_norm.proofs.Rows.{ready-step, ready-none}
 use Rattle.countsketch_l2_norm.specs.Norms.{normAt}
 use Rattle.countsketch_l2_norm.specs.Sketch.{sketchOf, cellOf, cellAt, rowRead, cellFits, rowsReady}
 use Rattle.matrix_storage.specs.Bits.{signed, hashOf}
-use Rattle.matrix_storage.proofs.Cells.{abs-signed}
 use Rattle.countsketch_l2_norm.proofs.update.rows_ready.Statement.{statement}
 use Rattle.countsketch_l2_norm.proofs.update.rows_ready.Tie as tie
 
@@ -39,15 +38,12 @@ inside c =
     let a = c .before .before .before .before .before .args in
     rw (c .place .ensures) (cell-lt (a .rows) (a .cols) (hash (c .before .before .before .before .before)) (c .before .before .loop .r) (length (now (a .counters))) (c .before .before .before .before .before .pre .0 .some) (c .before .loop-test .taken) (c .before .before .before .before .before .pre .1 .0))
 
-delta-is : (c : tie.After-delta-at Inv-loop μ-loop) → toZ w64 (ofZ w64 (c .delta-at .result)) ≡ signed (hash (c .before .before .before .before .before .before)) (c .before .before .before .loop .r) (pos (c .before .before .before .before .before .before .args .weight))
-delta-is c = toZ-ofZ (sfits-of (c .delta-at .ok)) ∙ c .delta-at .ensures
-
-row-is : (c : tie.After-row-ready Inv-loop μ-loop) → rowRead (cellAt (now (c .before .before .before .before .before .before .before .before .before .args .counters)) (cellOf (c .before .before .before .before .before .before .before .before .before .args .cols) (hash (c .before .before .before .before .before .before .before .before .before)) (c .before .before .before .before .before .before .loop .r))) (normAt (now (c .before .before .before .before .before .before .before .before .before .args .norms)) (c .before .before .before .before .before .before .loop .r)) (c .before .before .before .before .before .before .before .before .before .args .cols) && cellFits (cellOf (c .before .before .before .before .before .before .before .before .before .args .cols) (hash (c .before .before .before .before .before .before .before .before .before)) (c .before .before .before .before .before .before .loop .r)) (signed (hash (c .before .before .before .before .before .before .before .before .before)) (c .before .before .before .before .before .before .loop .r) (pos (c .before .before .before .before .before .before .before .before .before .args .weight))) (now (c .before .before .before .before .before .before .before .before .before .args .counters)) ≡ c .row-ready .result
+row-is : (c : tie.After-row-ready Inv-loop μ-loop) → rowRead (cellAt (now (c .before .before .before .before .before .before .before .before .args .counters)) (cellOf (c .before .before .before .before .before .before .before .before .args .cols) (hash (c .before .before .before .before .before .before .before .before)) (c .before .before .before .before .before .loop .r))) (normAt (now (c .before .before .before .before .before .before .before .before .args .norms)) (c .before .before .before .before .before .loop .r)) (c .before .before .before .before .before .before .before .before .args .cols) && cellFits (cellOf (c .before .before .before .before .before .before .before .before .args .cols) (hash (c .before .before .before .before .before .before .before .before)) (c .before .before .before .before .before .loop .r)) (signed (hash (c .before .before .before .before .before .before .before .before)) (c .before .before .before .before .before .loop .r) (pos (c .before .before .before .before .before .before .before .before .args .weight))) (now (c .before .before .before .before .before .before .before .before .args .counters)) ≡ c .row-ready .result
 row-is c =
-    let a = c .before .before .before .before .before .before .before .before .before .args in
-    let x = getD (now (a .counters)) (c .before .before .before .before .place .result) (pos 0) in
+    let a = c .before .before .before .before .before .before .before .before .args in
+    let x = getD (now (a .counters)) (c .before .before .before .place .result) (pos 0) in
     let e : toZ w64 (ofZ w64 x) ≡ x = toZ-ofZ (sfits-of (c .before .before .row-ready-arg .given)) in
-    sym (rw (e, delta-is (c .before .before .before), c .before .before .before .before .place .ensures, c .before .norm-of .ensures) at (c .row-ready .ensures))
+    sym (rw (e, c .before .before .before .place .ensures, c .before .norm-of .ensures) at (c .row-ready .ensures))
 
 step : (c : tie.In-loop Inv-loop μ-loop) → (k : ℕ) → scanned (c .before .before .before .before) (suc k) (c .before .loop .r) ≡ (rowRead (cellAt (now (c .before .before .before .before .args .counters)) (cellOf (c .before .before .before .before .args .cols) (hash (c .before .before .before .before)) (c .before .loop .r))) (normAt (now (c .before .before .before .before .args .norms)) (c .before .loop .r)) (c .before .before .before .before .args .cols) && cellFits (cellOf (c .before .before .before .before .args .cols) (hash (c .before .before .before .before)) (c .before .loop .r)) (signed (hash (c .before .before .before .before)) (c .before .loop .r) (pos (c .before .before .before .before .args .weight))) (now (c .before .before .before .before .args .counters))) && scanned (c .before .before .before .before) k (suc (c .before .loop .r))
 step c k = let a = c .before .before .before .before .args in ready-step (a .cols) (hash (c .before .before .before .before)) (a .weight) (now (a .counters)) (now (a .norms)) (a .rows) k (c .before .loop .r) (c .loop-test .taken)
@@ -61,23 +57,20 @@ loop-holds c = scan-start (scanned (c .before .before)) (c .before .before .args
 place-requires : tie.Need-place-requires Inv-loop μ-loop
 place-requires c κs = place-asks (c .before .before .before .before .args .rows) (c .before .before .before .before .args .cols) (c .before .loop .r) _ (c .before .before .before .before .pre .0) (c .loop-test .taken) (c .before .before .mask-bits .ensures)
 
-delta-at-requires : tie.Need-delta-at-requires Inv-loop μ-loop
-delta-at-requires c κs = (omega (arith, c .before .before .before .before .before .pre .0 .few), c .before .before .before .before .before .pre .1 .1 .1)
-
 mul-row-ready : tie.Need-mul-row-ready Inv-loop μ-loop
-mul-row-ready c = let h = inside (c .before) in search needs
+mul-row-ready c = let h = inside c in search needs
 
 shared-slice-copy-out-row-ready : tie.Need-shared-slice-copy-out-row-ready Inv-loop μ-loop
-shared-slice-copy-out-row-ready c = let h = inside (c .before) in search needs
+shared-slice-copy-out-row-ready c = let h = inside c in search needs
 
 norm-of-requires : tie.Need-norm-of-requires Inv-loop μ-loop
-norm-of-requires c κs = (omega (arith, c .before .before .before .before .before .before .before .pre .0 .few), omega (arith, c .before .before .before .before .before .before .before .pre .1 .1 .0))
+norm-of-requires c κs = (omega (arith, c .before .before .before .before .before .before .pre .0 .few), omega (arith, c .before .before .before .before .before .before .pre .1 .1 .0))
 
 row-ready-requires : tie.Need-row-ready-requires Inv-loop μ-loop
-row-ready-requires c κs = rw (delta-is (c .before .before)) (omega (arith, abs-signed (hash (c .before .before .before .before .before .before .before .before)) (c .before .before .before .before .before .loop .r) (pos (c .before .before .before .before .before .before .before .before .args .weight)), c .before .before .before .before .before .before .before .before .pre .1 .1 .1))
+row-ready-requires c κs = (omega (arith, c .before .before .before .before .before .before .before .pre .0 .few), c .before .before .before .before .before .before .before .pre .1 .1 .1)
 
 returns : tie.Need-returns Inv-loop μ-loop
-returns c = scan-stop (scanned (c .before .before .before .before .before .before .before .before .before .before)) (c .before .before .before .before .before .before .before .before .before .before .args .rows) (c .before .before .before .before .before .before .before .loop .r) _ (c .before .before .before .before .before .before .before .loop .inv) (c .before .before .before .before .before .before .loop-test .taken) (step (c .before .before .before .before .before .before)) (row-is (c .before) ∙ not-true _ (c .if1 .taken))
+returns c = scan-stop (scanned (c .before .before .before .before .before .before .before .before .before)) (c .before .before .before .before .before .before .before .before .before .args .rows) (c .before .before .before .before .before .before .loop .r) _ (c .before .before .before .before .before .before .loop .inv) (c .before .before .before .before .before .loop-test .taken) (step (c .before .before .before .before .before)) (row-is (c .before) ∙ not-true _ (c .if1 .taken))
 
 add-r : tie.Need-add-r Inv-loop μ-loop
 add-r c = search needs
@@ -86,27 +79,10 @@ loop-less : tie.Need-loop-less Inv-loop μ-loop
 loop-less c = search needs
 
 loop-again : tie.Need-loop-again Inv-loop μ-loop
-loop-again c = scan-on (scanned (c .before .before .before .before .before .before .before .before .before .before)) (c .before .before .before .before .before .before .before .before .before .before .args .rows) (c .before .before .before .before .before .before .before .loop .r) _ (c .before .before .before .before .before .before .before .loop .inv) (c .before .before .before .before .before .before .loop-test .taken) (step (c .before .before .before .before .before .before)) (row-is (c .before) ∙ not-false _ (c .if1 .left))
+loop-again c = scan-on (scanned (c .before .before .before .before .before .before .before .before .before)) (c .before .before .before .before .before .before .before .before .before .args .rows) (c .before .before .before .before .before .before .loop .r) _ (c .before .before .before .before .before .before .loop .inv) (c .before .before .before .before .before .loop-test .taken) (step (c .before .before .before .before .before)) (row-is (c .before) ∙ not-false _ (c .if1 .left))
 
 returns-2 : tie.Need-returns-2 Inv-loop μ-loop
 returns-2 c = let a = c .before .before .before .before .args in scan-end (scanned (c .before .before .before .before)) (a .rows) (c .before .loop .r) (c .before .loop .inv) (c .loop-test .left) (ready-none (a .cols) (hash (c .before .before .before .before)) (a .weight) (sketchOf (now (a .counters)) (now (a .norms)) (a .rows)) (c .before .loop .r))
 
 pub rows-ready-spec : {M : Type 1} → statement M
-rows-ready-spec =
-    tie.close
-    (tie.spec
-    Inv-loop
-    μ-loop
-    mask-bits-requires
-    loop-holds
-    place-requires
-    delta-at-requires
-    mul-row-ready
-    shared-slice-copy-out-row-ready
-    norm-of-requires
-    row-ready-requires
-    returns
-    add-r
-    loop-less
-    loop-again
-    returns-2)
+rows-ready-spec = tie.close (tie.spec Inv-loop μ-loop mask-bits-requires loop-holds place-requires mul-row-ready shared-slice-copy-out-row-ready norm-of-requires row-ready-requires returns add-r loop-less loop-again returns-2)
