@@ -1,5 +1,6 @@
 // The working space of a terminal sum: three arrays, with a place in each for a candidate's key,
-// bottom hash and count. Candidates are taken in, put in order, cut and summed.
+// bottom hash and count. Candidates are taken in, put in order, cut and summed. Marks beside the arrays
+// tell which keys are new.
 //
 // These functions are called by the other crates of this repository, which show what they require.
 mod blocks;
