@@ -1,6 +1,7 @@
 /* The dearest answer: a terminal state of 19 full layers of 1,024 candidates, 20 rows, 32 columns. Once with weights
  * as they come, once with three times the weight at each layer up, so that a candidate that is taken in
- * passes by nearly all that are there.
+ * passes by nearly all that are there; and both again with keys that all have one remainder by 16,381, so
+ * that none of them can be told to be new by its mark.
  *   cc -O2 -D_POSIX_C_SOURCE=200809L -I bindings/c bindings/bench/worst.c target/staticlib/libunivmon_c.a -o target/bindings/worst && target/bindings/worst
  * Writes the processor time of one cardinality and one sum of squares, the least and the greatest of 20 turns. */
 #include <inttypes.h>
@@ -47,8 +48,8 @@ static void report(const char *what, univmon_header header, uint64_t g) {
     printf("%s: refusal %" PRIu64 ", value %g, %.1f to %.1f ms\n", what, a.refusal, a.value, 1e3 * least, 1e3 * greatest);
 }
 
-/* 19 full layers; each layer's weights are `times` those of the layer below it. */
-static int full(const char *what, int64_t times) {
+/* 19 full layers; each layer's weights are `times` those of the layer below it, the keys are `apart`. */
+static int full(const char *what, int64_t times, uint64_t apart) {
     univmon_answered a = univmon_new(HEAP, ROWS, COLS, LAYERS, ALL);
     int64_t scale[LAYERS];
     scale[LAYERS - 1] = 1;
@@ -58,7 +59,7 @@ static int full(const char *what, int64_t times) {
     for (uint64_t i = 0; a.refusal == 0 && i < (uint64_t)LAYERS * HEAP; i++) {
         uint64_t record[UNIVMON_RECORD(LAYERS)];
         uint64_t layer = i % LAYERS;
-        record[0] = i;
+        record[0] = i * apart;
         /* bits 1 to layer are 1, the next is 0: this layer is the key's bottom */
         record[1] = (mixed(i, 0) & ~((UINT64_C(2) << (layer + 1)) - 1)) | ((UINT64_C(2) << layer) - 2);
         for (size_t k = 2; k < UNIVMON_RECORD(LAYERS); k++) {
@@ -79,5 +80,6 @@ static int full(const char *what, int64_t times) {
 }
 
 int main(void) {
-    return full("weights as they come", 1) || full("three times the weight at each layer up", 3);
+    return full("weights as they come", 1, 1) || full("three times the weight at each layer up", 3, 1)
+        || full("weights as they come, keys of one mark", 1, 16381) || full("three times the weight, keys of one mark", 3, 16381);
 }
