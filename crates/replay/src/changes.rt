@@ -238,7 +238,7 @@ pub fn merge(
     other_entries: &[u64],
     other_counts: &[i64],
 ) -> Relay {
-    let out = univmon::merge(
+    let out = univmon_merge::merge(
         r.header,
         counters,
         norms,

@@ -22,7 +22,7 @@ use Rattle.univmon.specs.declared.Kind.{Kind}
 use Rattle.univmon.specs.State.{State, dimsAt, cellOff, normOff, candOff, layerAt, allLayers, sizesOk}
 use Rattle.univmon.specs.Judged.{refused, done, judge, unsound}
 use Rattle.univmon.specs.Updates.{recordLength, bottomWord, bottomBy, itemAt, modeOf, firstSent, manySent, sentAll, updateTests, updated, update}
-use Rattle.univmon.specs.Merges.{sameShape, mergeTests, merged, merge}
+use Rattle.univmon_merge.specs.Merges.{sameShape, mergeTests, merged, merge}
 use Rattle.estimates.specs.Norms.{isTerminal}
 use Rattle.estimates.specs.Sums.{layerReads, sumReads, sumRefusal, headerAlone}
 use Rattle.shared_streams.specs.Books.{Book, sent}

@@ -23,7 +23,7 @@ use Rattle.layer.specs.Needs.{Fits}
 use Rattle.univmon.specs.declared.Kind.{Kind}
 use Rattle.univmon.specs.State.{State, colsAt, dimsAt, layerAt, overLayers, withHead}
 use Rattle.univmon.specs.Updates.{recordLength, bottomWord, itemAt, modeOf, firstSent, manySent, updated}
-use Rattle.univmon.specs.Merges.{merged}
+use Rattle.univmon_merge.specs.Merges.{merged}
 use Rattle.shared_streams.specs.Relays.{updateBy}
 use Rattle.shared_streams.specs.Books.{Update, Book, sent, cellSum, times, itemKeys, weightOf}
 use Rattle.shared_streams.proofs.Keys.{times-append}

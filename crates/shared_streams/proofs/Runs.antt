@@ -13,7 +13,8 @@ use Rattle.words.proofs.Bools.{and-left, and-right}
 use Rattle.header.specs.declared.Shape.{Shape}
 use Rattle.header.specs.Shape.{shapeRefusal}
 use Rattle.univmon.specs.Slices.{Lent}
-use Rattle.univmon.specs.Calls.{Outcome, updateCall, mergeCall}
+use Rattle.univmon.specs.Calls.{Outcome, updateCall}
+use Rattle.univmon_merge.specs.Calls.{mergeCall}
 use Rattle.shared_streams.specs.Books.{Update, Book, Among}
 use Rattle.shared_streams.specs.Relays.{Relay, freshRelay, start, relayAt, Call, feed, join, live, names, updateBy, fed, joinedBy, retire, joinedTo, called, step, run, ifAccepted, updateOf, accepted}
 use Rattle.shared_streams.proofs.Calls.{LentBy, lent-fed, lent-joined, lent-fresh}

@@ -10,9 +10,10 @@ use Rattle.header.specs.declared.Shape.{Shape}
 use Rattle.header.specs.Shape.{shapeRefusal}
 use Rattle.header.specs.Header.{clash, zeroHeader}
 use Rattle.univmon.specs.Judged.{done}
-use Rattle.univmon.specs.Merges.{merged, merge}
 use Rattle.univmon.specs.Slices.{lent, lengthsOk, view, flat, freshLent}
-use Rattle.univmon.specs.Calls.{Outcome, Left, left, newCall, mergeCall}
+use Rattle.univmon.specs.Calls.{Outcome, Left, left, newCall}
+use Rattle.univmon_merge.specs.Merges.{merged, merge}
+use Rattle.univmon_merge.specs.Calls.{mergeCall}
 use Rattle.shared_streams.specs.Books.{Book, Among}
 use Rattle.shared_streams.specs.Relays.{Relay, start, relayAt, run, accepted}
 use Rattle.shared_streams.specs.SharedStreams.{Theorem, Corollary, TwoShares, Fresh, Claimed}

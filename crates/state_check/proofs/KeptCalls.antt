@@ -26,8 +26,9 @@ use Rattle.univmon.specs.Judged.{Out, refused, done}
 use Rattle.univmon.specs.Slices.{Lent, lent, lentOk, lengthsOk, view, flat, freshLent}
 use Rattle.univmon.specs.Updates.{update}
 use Rattle.univmon.specs.Deltas.{Arrival, applyDelta}
-use Rattle.univmon.specs.Merges.{merge}
-use Rattle.univmon.specs.Calls.{Outcome, outcomeOf, left, answered, newCall, updateCall, deltaCall, mergeCall, clearCall, weightCall, markCall, markLayerCall}
+use Rattle.univmon.specs.Calls.{Outcome, outcomeOf, left, answered, newCall, updateCall, deltaCall, clearCall, weightCall, markCall, markLayerCall}
+use Rattle.univmon_merge.specs.Merges.{merge}
+use Rattle.univmon_merge.specs.Calls.{mergeCall}
 use Rattle.shared_streams.proofs.Calls.{yes-inj, no-yes, gated, barred}
 use Rattle.shared_streams.proofs.Lists.{getD-all}
 use Rattle.state_check.specs.Check.{stateOk}

@@ -32,10 +32,10 @@ use Rattle.univmon.specs.Judged.{done}
 use Rattle.univmon.specs.Slices.{cellsIn, normsIn, candsIn, lengthsOk, lentOk, view, freshLent}
 use Rattle.univmon.specs.Updates.{bottomWord, bottomBy, itemAt, modeOf, firstSent, manySent, sentAll, updateTests, updated, update}
 use Rattle.univmon.specs.Deltas.{Arrival, deltaBy, deltaTests, arrived, applyDelta}
-use Rattle.univmon.specs.Merges.{sameShape, mergeTests, merged, merge}
 use Rattle.univmon.proofs.Judging.{layers-step}
-use Rattle.univmon.proofs.MergeCalls.{same-of}
 use Rattle.univmon.proofs.Offsets.{off-step}
+use Rattle.univmon_merge.specs.Merges.{sameShape, mergeTests, merged, merge}
+use Rattle.univmon_merge.proofs.MergeCalls.{same-of}
 use Rattle.shared_streams.specs.Books.{sent}
 use Rattle.shared_streams.proofs.BookLaws.{sent-room}
 use Rattle.shared_streams.proofs.Fresh.{new-by}

@@ -24,10 +24,11 @@ use Rattle.univmon.specs.Judged.{Out, refused, done, judge, unsound}
 use Rattle.univmon.specs.Slices.{Lent, view, freshLent}
 use Rattle.univmon.specs.Updates.{bottomWord, bottomBy, itemAt, firstSent, manySent, sentAll, updateTests, updated, update}
 use Rattle.univmon.specs.Deltas.{Arrival, deltaBy, outside, deltaTests, arrived, applyDelta}
-use Rattle.univmon.specs.Merges.{sameShape, mergeTests, merged, merge}
-use Rattle.univmon.specs.Calls.{Outcome, outcomeOf, updateCall, deltaCall, mergeCall, clearCall}
-use Rattle.univmon.proofs.MergeCalls.{same-of}
+use Rattle.univmon.specs.Calls.{Outcome, outcomeOf, updateCall, deltaCall, clearCall}
 use Rattle.univmon.proofs.Updating.{sound-of}
+use Rattle.univmon_merge.specs.Merges.{sameShape, mergeTests, merged, merge}
+use Rattle.univmon_merge.specs.Calls.{mergeCall}
+use Rattle.univmon_merge.proofs.MergeCalls.{same-of}
 use Rattle.sums.specs.declared.G.{G}
 use Rattle.estimates.specs.Norms.{isTerminal}
 use Rattle.estimates.specs.Sums.{layerReads, sumReads, headerAlone, sumRefusal}

@@ -9,6 +9,3 @@ pub mod Flatten
 pub mod Updating
 pub mod Arrivals
 pub mod Refusing
-pub mod Pairing
-pub mod Pairings
-pub mod MergeCalls

@@ -16,7 +16,6 @@ use Rattle.univmon.specs.declared.Kind.{Kind}
 use Rattle.univmon.specs.Judged.{Out, refused, done}
 use Rattle.univmon.specs.Updates.{update}
 use Rattle.univmon.specs.Deltas.{Arrival, applyDelta}
-use Rattle.univmon.specs.Merges.{merge}
 use Rattle.univmon.specs.Slices.{Lent, lent, lentOk, lengthsOk, view, flat, freshLent}
 
 -- ---- what a call on slices answers
@@ -60,9 +59,6 @@ lentUpdateCall k r words w = cond (eqb (length (r .head .lens)) maxLayers && eqb
 
 unfoldable pub deltaCall : Lent → List ℕ → Arrival → Outcome
 deltaCall r words a = cond (lentOk r) (outcomeOf (applyDelta (view r) words a)) (Outcome.no 9)
-
-unfoldable pub mergeCall : Lent → Lent → Outcome
-mergeCall r t = cond (not (lentOk r) || not (lentOk t)) (Outcome.no 9) (outcomeOf (merge (view r) (view t)))
 
 -- "`clear` zeroes every slice", and the header is a fresh one
 unfoldable pub clearCall : Lent → Outcome

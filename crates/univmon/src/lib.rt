@@ -1,12 +1,12 @@
-// UnivMon: the calls that change a state. A state is a `Header` by value and four slices that the
-// caller lends: counters, norms, entries and counts. For updates lengths and flags may be lent too.
+// UnivMon: the calls that change one state; the merge of two is in `univmon_merge`. A state is a
+// `Header` by value and four slices that the caller lends: counters, norms, entries and counts. For
+// updates lengths and flags may be lent too.
 mod calls;
 mod delta;
 mod fresh;
 mod judge;
 mod lent;
 mod marks;
-mod merging;
 pub mod sizes;
 mod update;
 
@@ -20,7 +20,6 @@ pub use lent::update_weighted_terminal_lent;
 pub use marks::mark_candidates_incomplete;
 pub use marks::mark_layer_candidates_incomplete;
 pub use marks::set_total_weight;
-pub use merging::merge;
 
 // How an update sends its key to layers.
 pub enum Kind {

@@ -12,7 +12,8 @@ ghost use Prim.Native.Nat.{ℕ};
 ghost use Rattle.header.specs.Shape.{shapeRefusal, bottomLayer};
 ghost use Rattle.univmon.specs.declared.Kind.the-variants as kind;
 ghost use Rattle.univmon.specs.Arriving.{arrival};
-ghost use Rattle.univmon.specs.Calls.{newCall, updateCall, deltaCall, mergeCall, clearCall, weightCall, markCall, markLayerCall};
+ghost use Rattle.univmon.specs.Calls.{newCall, updateCall, deltaCall, clearCall, weightCall, markCall, markLayerCall};
+ghost use Rattle.univmon_merge.specs.Calls.{mergeCall};
 ghost use Rattle.univmon_c.specs.Crossing.{isFidelity, fidelityOf, cBottom};
 ghost use Rattle.univmon_c.specs.Calls.{cLent, cLeft, crossed, changeBy, mergeBy, headBy};
 
@@ -215,7 +216,7 @@ pub extern "C" fn univmon_merge(
     }
     let h = header_of(header);
     let o = header_of(other);
-    c_answered(univmon::merge(
+    c_answered(univmon_merge::merge(
         h,
         counters,
         norms,

@@ -1,0 +1,64 @@
+-- `univmon_merge::layers::merge_layers` meets its contract.
+-- Written by tools/places.py from answers.txt; assumes nothing.
+use Prim.Native.Nat.{_-_}
+use mathlib.Core.Path.{sym, _∙_}
+use native.Mathlib.Omega.{arith}
+use denote.Ref.{now}
+use Rattle.univmon.specs.Slices.{lent, Lent}
+use Rattle.univmon_merge.proofs.Pairings.{Merging, merging-start, merging-ready, merging-on, merging-end}
+use Rattle.univmon_merge.proofs.layers.merge_layers.Statement.{statement}
+use Rattle.univmon_merge.proofs.layers.merge_layers.Tie as tie
+
+abbrev Inv-loop : tie.InvT-loop
+Inv-loop counters₀ norms₀ entries₀ counts₀ other other-counters other-norms other-entries other-counts many header₀ l₀ counters norms entries counts header l = Merging (lent header₀ counters₀ norms₀ entries₀ counts₀) (lent other other-counters other-norms other-entries other-counts) many (lent header counters norms entries counts) l
+
+abbrev μ-loop : tie.MeasureT-loop
+μ-loop counters₀ norms₀ entries₀ counts₀ other other-counters other-norms other-entries other-counts many header₀ l₀ counters norms entries counts header l = many - l
+
+-- the states that were lent, and the first in the loop
+abbrev lent-of : tie.Start Inv-loop μ-loop → Lent
+lent-of c = lent (c .args .h) (now (c .args .counters)) (now (c .args .norms)) (now (c .args .entries)) (now (c .args .counts))
+
+abbrev other-of : tie.Start Inv-loop μ-loop → Lent
+other-of c = lent (c .args .other) (now (c .args .other-counters)) (now (c .args .other-norms)) (now (c .args .other-entries)) (now (c .args .other-counts))
+
+abbrev lent-here : tie.At-loop Inv-loop μ-loop → Lent
+lent-here c = lent (c .loop .header) (c .loop .counters) (c .loop .norms) (c .loop .entries) (c .loop .counts)
+
+loop-holds : tie.Need-loop-holds Inv-loop μ-loop
+loop-holds c = merging-start (lent-of (c .before .before .before .before)) (other-of (c .before .before .before .before)) (c .before .before .before .before .args .many) (c .before .before .before .before .pre)
+
+merge-one-requires : tie.Need-merge-one-requires Inv-loop μ-loop
+merge-one-requires c κs = merging-ready (lent-of (c .before .before .before .before .before .before .before .before .before .before)) (other-of (c .before .before .before .before .before .before .before .before .before .before)) (c .before .before .before .before .before .before .before .before .before .before .args .many) (c .before .before .before .before .before .before .before .before .before .before .pre) (lent-here (c .before .before .before .before .before)) (c .before .before .before .before .before .loop .l) (c .before .before .before .before .before .loop .inv) (c .before .before .before .before .loop-test .taken)
+
+add-l : tie.Need-add-l Inv-loop μ-loop
+add-l c = let p = c .before .before .before .before .before .before .before .before .before .before .before .before .before .before .before .before .before .pre .ready .paired in record { fits = omega (arith, p .inside, p .standing .accepted .few, c .before .before .before .before .before .before .before .before .before .before .before .loop-test .taken) }
+
+loop-less : tie.Need-loop-less Inv-loop μ-loop
+loop-less c = omega (arith, c .before .before .before .before .before .before .before .before .before .before .before .loop-test .taken)
+
+loop-again : tie.Need-loop-again Inv-loop μ-loop
+loop-again c =
+    merging-on (lent-of (c .before .before .before .before .before .before .before .before .before .before .before .before .before .before .before .before .before)) (other-of (c .before .before .before .before .before .before .before .before .before .before .before .before .before .before .before .before .before)) (c .before .before .before .before .before .before .before .before .before .before .before .before .before .before .before .before .before .args .many) (c .before .before .before .before .before .before .before .before .before .before .before .before .before .before .before .before .before .pre) (lent-here (c .before .before .before .before .before .before .before .before .before .before .before .before)) (c .before .before .before .before .before .before .before .before .before .before .before .before .loop .l) (c .before .before .before .before .before .before .before .before .before .before .before .before .loop .inv) (c .before .before .before .before .before .before .before .before .before .before .before .loop-test .taken) _
+    (c .before .before .before .before .before .before .merge-one .ensures .0) (c .before .before .before .before .before .before .merge-one .ensures .1)
+
+same-length : tie.Need-same-length Inv-loop μ-loop
+same-length c = let v = c .before .loop .inv in v .standing .sizes .cells ∙ rw (v .shape) (sym (c .before .before .before .before .before .before .pre .ready .paired .standing .sizes .cells))
+
+same-length-2 : tie.Need-same-length-2 Inv-loop μ-loop
+same-length-2 c = let v = c .before .loop .inv in v .standing .sizes .norms ∙ rw (v .shape) (sym (c .before .before .before .before .before .before .pre .ready .paired .standing .sizes .norms))
+
+same-length-3 : tie.Need-same-length-3 Inv-loop μ-loop
+same-length-3 c = let v = c .before .loop .inv in v .standing .sizes .entries ∙ rw (v .shape) (sym (c .before .before .before .before .before .before .pre .ready .paired .standing .sizes .entries))
+
+same-length-4 : tie.Need-same-length-4 Inv-loop μ-loop
+same-length-4 c = let v = c .before .loop .inv in v .standing .sizes .counts ∙ rw (v .shape) (sym (c .before .before .before .before .before .before .pre .ready .paired .standing .sizes .counts))
+
+returns : tie.Need-returns Inv-loop μ-loop
+returns c = (
+  merging-end (lent-of (c .before .before .before .before .before .before)) (other-of (c .before .before .before .before .before .before)) (c .before .before .before .before .before .before .args .many) (lent-here (c .before)) (c .before .loop .l) (c .before .loop .inv) (c .loop-test .left),
+  c .before .loop .inv .standing,
+)
+
+pub merge-layers-spec : {M : Type 1} → statement M
+merge-layers-spec = tie.close (tie.spec Inv-loop μ-loop loop-holds merge-one-requires add-l loop-less loop-again same-length same-length-2 same-length-3 same-length-4 returns)

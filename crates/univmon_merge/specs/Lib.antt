@@ -1,0 +1,3 @@
+pub mod Merges
+pub mod Pairs
+pub mod Calls

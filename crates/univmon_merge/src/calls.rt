@@ -1,0 +1,66 @@
+// A second state merged into a first: everything is judged before anything is written.
+use crate::judge::merge_refusal;
+use crate::layers::merge_layers;
+use header::Answered;
+use header::Header;
+ghost use mathlib.Core.Path.{_≡_};
+ghost use Rattle.univmon.specs.Slices.{lent};
+ghost use Rattle.univmon.specs.Calls.{left, leftBy};
+ghost use Rattle.univmon_merge.specs.Calls.{mergeCall};
+
+// A second state merged into a first: 9, 10, 6, 7, 9, 11.
+pub fn merge(
+    header: Header,
+    counters: &mut [i64],
+    norms: &mut [u64],
+    entries: &mut [u64],
+    counts: &mut [i64],
+    other: Header,
+    other_counters: &[i64],
+    other_norms: &[u64],
+    other_entries: &[u64],
+    other_counts: &[i64],
+) -> Answered
+    ensures { λ r. ⌜ left (r .refusal) (lent (r .header) (now (counters .exit)) (now (norms .exit)) (now (entries .exit)) (now (counts .exit)))
+        ≡ leftBy (lent header (now (counters .entry)) (now (norms .entry)) (now (entries .entry)) (now (counts .entry)))
+        (mergeCall (lent header (now (counters .entry)) (now (norms .entry)) (now (entries .entry)) (now (counts .entry))) (lent other (now («other_counters» .entry)) (now («other_norms» .entry)) (now («other_entries» .entry)) (now («other_counts» .entry)))) ⌝ }
+{
+    let refusal = merge_refusal(
+        header,
+        &*counters,
+        &*norms,
+        &*entries,
+        &*counts,
+        other,
+        other_counters,
+        other_norms,
+        other_entries,
+        other_counts,
+    );
+    if refusal != 0 {
+        return Answered { refusal, header };
+    }
+    let had = header.mode;
+    let came = other.mode;
+    let layers = header.shape.layers;
+    let weight = header.weight + other.weight;
+    let begun = header
+        .with_weight(weight)
+        .with_mode(header::join(had, came));
+    Answered {
+        refusal: 0,
+        header: merge_layers(
+            begun,
+            counters,
+            norms,
+            entries,
+            counts,
+            other,
+            other_counters,
+            other_norms,
+            other_entries,
+            other_counts,
+            layers,
+        ),
+    }
+}

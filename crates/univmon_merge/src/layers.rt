@@ -1,0 +1,115 @@
+// The layers of a second state merged into those of a first, once everything is judged. Both states are
+// lent whole, so that a contract can name them; no norm of the second is read.
+use header::Header;
+use univmon::sizes::dims;
+use univmon::sizes::span_of;
+ghost use mathlib.Core.Path.{_≡_};
+ghost use mathlib.Core.Bool.{Bool, true, _&&_};
+ghost use lib.Dec.{leb};
+ghost use Rattle.univmon.specs.State.{layerAt, putLayer, overLayers};
+ghost use Rattle.univmon.specs.Slices.{lent, view};
+ghost use Rattle.univmon.specs.Needs.{Standing};
+ghost use Rattle.univmon_merge.specs.Pairs.{MergeReady, MergesReady, mergesWith};
+
+// Whether no key was lost: the other layer's flag, and a seat for every distinct key.
+fn seated(flag: bool, keys: usize, size: usize) -> bool
+    ensures { λ r. ⌜ r ≡ flag && leb keys size ⌝ }
+{
+    if !flag {
+        return false;
+    }
+    keys <= size
+}
+
+// Merges one layer.
+fn merge_one(
+    h: Header,
+    counters: &mut [i64],
+    norms: &mut [u64],
+    entries: &mut [u64],
+    counts: &mut [i64],
+    other: Header,
+    other_counters: &[i64],
+    other_norms: &[u64],
+    other_entries: &[u64],
+    other_counts: &[i64],
+    l: usize,
+) -> Header
+    requires { ⌜ MergeReady (lent h (now counters) (now norms) (now entries) (now counts)) (lent other (now «other_counters») (now «other_norms») (now «other_entries») (now «other_counts»)) l ⌝ }
+    ensures { λ r. ⌜ view (lent r (now (counters .exit)) (now (norms .exit)) (now (entries .exit)) (now (counts .exit)))
+        ≡ putLayer (view (lent h (now (counters .entry)) (now (norms .entry)) (now (entries .entry)) (now (counts .entry)))) l
+        (mergesWith (h .shape) (view (lent other (now («other_counters» .entry)) (now («other_norms» .entry)) (now («other_entries» .entry)) (now («other_counts» .entry)))) l
+        (layerAt (view (lent h (now (counters .entry)) (now (norms .entry)) (now (entries .entry)) (now (counts .entry)))) l)) ⌝ }
+    ensures { λ r. ⌜ Standing (lent r (now (counters .exit)) (now (norms .exit)) (now (entries .exit)) (now (counts .exit))) ⌝ }
+{
+    let shape = h.shape;
+    let s = span_of(shape, l);
+    let d = dims(shape, l);
+    let lens = h.lens;
+    let len = lens[l];
+    let other_lens = other.lens;
+    let other_len = other_lens[l];
+    let ca = s.cells;
+    let ce = s.cells_end;
+    let na = s.norms;
+    let ne = s.norms_end;
+    let ea = s.words;
+    let ee = s.words_end;
+    let ta = s.seats;
+    let te = s.seats_end;
+    let m = layer::merge(
+        &mut counters[ca..ce],
+        &mut norms[na..ne],
+        &mut entries[ea..ee],
+        &mut counts[ta..te],
+        d,
+        len,
+        &other_counters[ca..ce],
+        &other_entries[ea..ee],
+        other_len,
+    );
+    let flags = other.flags;
+    let whole = seated(flags[l], m.keys, shape.heap_size);
+    h.touched(l, m.len, whole)
+}
+
+// Merges many layers from the first on.
+pub fn merge_layers(
+    h: Header,
+    counters: &mut [i64],
+    norms: &mut [u64],
+    entries: &mut [u64],
+    counts: &mut [i64],
+    other: Header,
+    other_counters: &[i64],
+    other_norms: &[u64],
+    other_entries: &[u64],
+    other_counts: &[i64],
+    many: usize,
+) -> Header
+    requires { ⌜ MergesReady (lent h (now counters) (now norms) (now entries) (now counts)) (lent other (now «other_counters») (now «other_norms») (now «other_entries») (now «other_counts»)) many ⌝ }
+    ensures { λ r. ⌜ view (lent r (now (counters .exit)) (now (norms .exit)) (now (entries .exit)) (now (counts .exit)))
+        ≡ overLayers (mergesWith (h .shape) (view (lent other (now («other_counters» .entry)) (now («other_norms» .entry)) (now («other_entries» .entry)) (now («other_counts» .entry))))) many 0
+        (view (lent h (now (counters .entry)) (now (norms .entry)) (now (entries .entry)) (now (counts .entry)))) ⌝ }
+    ensures { λ r. ⌜ Standing (lent r (now (counters .exit)) (now (norms .exit)) (now (entries .exit)) (now (counts .exit))) ⌝ }
+{
+    let mut header = h;
+    let mut l = 0;
+    while l < many {
+        header = merge_one(
+            header,
+            counters,
+            norms,
+            entries,
+            counts,
+            other,
+            other_counters,
+            other_norms,
+            other_entries,
+            other_counts,
+            l,
+        );
+        l += 1;
+    }
+    header
+}
