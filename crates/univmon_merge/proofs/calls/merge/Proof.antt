@@ -4,8 +4,8 @@ use mathlib.Core.Path.{_≡_, sym, ap, _∙_}
 use native.Mathlib.Omega.{arith}
 use borrow.Author.Needs.{needs}
 use denote.Ref.{now}
-use Rattle.header.specs.Header.{begun}
 use Rattle.univmon.specs.Slices.{lent, view, Lent}
+use Rattle.header.specs.Header.{begun}
 use Rattle.univmon.specs.Calls.{left}
 use Rattle.univmon_merge.specs.Merges.{merged}
 use Rattle.univmon_merge.specs.Pairs.{mergeNumber}

@@ -8,10 +8,10 @@ use lib.Dec.{leb}
 use native.Mathlib.Omega.{arith}
 use borrow.Author.Needs.{needs}
 use denote.Ref.{now}
-use Rattle.header.specs.Header.{withLayer}
 use Rattle.univmon.specs.Slices.{lent, view, Lent}
 use Rattle.univmon.proofs.Offsets.{cand-off, seats-few}
 use Rattle.words.specs.Parts.{part}
+use Rattle.header.specs.Header.{withLayer}
 use Rattle.layer.specs.Layer.{Layer, layerOf}
 use Rattle.layer.specs.Merge.{mergeLayer}
 use Rattle.layer.proofs.Merges.{merge-few}
