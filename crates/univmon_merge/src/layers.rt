@@ -4,7 +4,7 @@ use header::Header;
 use univmon::sizes::dims;
 use univmon::sizes::span_of;
 ghost use mathlib.Core.Path.{_≡_};
-ghost use mathlib.Core.Bool.{Bool, true, _&&_};
+ghost use mathlib.Core.Bool.{_&&_};
 ghost use lib.Dec.{leb};
 ghost use Rattle.univmon.specs.State.{layerAt, putLayer, overLayers};
 ghost use Rattle.univmon.specs.Slices.{lent, view};
