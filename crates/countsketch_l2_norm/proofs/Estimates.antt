@@ -54,10 +54,10 @@ pub sorted-float : (rows cols h : ℕ) (xs buf : List ℤ) → take rows buf ≡
 unfolding estimateF
 sorted-float rows cols h xs buf e i = ap (λ (l : List ℤ). middleF (map (ofInt binary64) l)) e ∙ sym (median-ints (estimates cols h xs rows 0) (all-estimates cols h xs rows 0 i))
 
--- the same, of a buffer in the rows' order
-pub counted-in : (rows cols h : ℕ) (xs buf : List ℤ) → take rows buf ≡ estimates cols h xs rows 0 → cellsIn cols h xs rows 0 ≡ true → allIn (take rows buf) ≡ true
-counted-in rows cols h xs buf e i = rw e (all-estimates cols h xs rows 0 i)
+-- the same, in the rows' order
+pub counted-in : (rows cols h : ℕ) (xs es : List ℤ) → es ≡ estimates cols h xs rows 0 → cellsIn cols h xs rows 0 ≡ true → allIn es ≡ true
+counted-in rows cols h xs es e i = rw e (all-estimates cols h xs rows 0 i)
 
-pub counted : (rows cols h : ℕ) (xs buf : List ℤ) → take rows buf ≡ estimates cols h xs rows 0 → middle (sortZ (take rows buf)) ≡ estimateOf rows cols h xs
+pub counted : (rows cols h : ℕ) (xs es : List ℤ) → es ≡ estimates cols h xs rows 0 → middle (sortZ es) ≡ estimateOf rows cols h xs
 unfolding estimateOf
-counted rows cols h xs buf e = ap (λ (l : List ℤ). middle (sortZ l)) e
+counted rows cols h xs es e = ap (λ (l : List ℤ). middle (sortZ l)) e

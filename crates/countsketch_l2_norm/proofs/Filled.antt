@@ -1,5 +1,5 @@
 -- An update with the rows' estimates beside it, row by row: what a row stores leaves the estimates of the rows before it. Assumes nothing.
-use mathlib.Core.Path.{_≡_, refl, sym, ap, ap₂, _∙_}
+use mathlib.Core.Path.{_≡_, refl, sym, ap, ap₂, subst, _∙_}
 use Prim.Native.Nat.{ℕ, zero, suc, _+_, _-_, _*_, _≤_, _<_}
 use native.Mathlib.Omega.{arith}
 use native.Mathlib.Numerals.{add-one}
@@ -7,14 +7,14 @@ use mathlib.Core.List.{List, [], _∷_, _++_}
 use lib.ListN.{length, set, take, length-set}
 use lib.Seq.{getD-set-other, take-suc-set}
 use lib.IntN.{ℤ, pos, _+ℤ_}
-use Rattle.words.specs.Num.{capped}
-use Rattle.matrix_storage.specs.Bits.{signed}
+use Rattle.words.specs.Num.{top}
+use Rattle.matrix_storage.specs.Bits.{maxRows, maxCols, maskBits, signed}
 use Rattle.countsketch_l2_norm.specs.Norms.{normAt, setNorm}
 use Rattle.countsketch_l2_norm.specs.Sketch.{cellOf, cellAt}
 use Rattle.countsketch_l2_norm.specs.Estimate.{estimates}
-use Rattle.countsketch_l2_norm.specs.Needs.{Ready}
-use Rattle.countsketch_l2_norm.proofs.Places.{cell-before}
-use Rattle.countsketch_l2_norm.proofs.Rows.{Going, start-rows, row-step}
+use Rattle.countsketch_l2_norm.specs.Needs.{Ready, CellReady, RowAdded}
+use Rattle.countsketch_l2_norm.proofs.Places.{cell-before, place-asks}
+use Rattle.countsketch_l2_norm.proofs.Rows.{Going, start-rows, ready-row, row-step}
 use Rattle.countsketch_l2_norm.proofs.Estimates.{estimates-none}
 
 -- a store at row n or later leaves the estimates of rows before it
@@ -33,37 +33,69 @@ estimates-snoc cols h xs zero q i e =
     ap (λ (j : ℕ). signed h j (cellAt xs (cellOf cols h j)) ∷ []) z
 estimates-snoc cols h xs (suc k) q i e = ap (λ (s : List ℤ). signed h q (cellAt xs (cellOf cols h q)) ∷ s) (estimates-snoc cols h xs k (suc q) i (omega arith))
 
--- r rows have gone, and their estimates stand in the buffer
-pub record Filled (rows cols h w : ℕ) (xs₀ : List ℤ) (ws₀ : List ℕ) (buf xs : List ℤ) (ws : List ℕ) (r : ℕ) : Type 0 where
+-- r rows have gone, and es are their estimates
+pub record Counted (rows cols h w : ℕ) (xs₀ : List ℤ) (ws₀ : List ℕ) (es xs : List ℤ) (ws : List ℕ) (r : ℕ) : Type 0 where
   pub going : Going rows cols h w xs₀ ws₀ xs ws r
-  pub len : length buf ≡ 20
-  pub known : take r buf ≡ estimates cols h xs r 0
+  pub known : es ≡ estimates cols h xs r 0
 
-pub fill-start : (rows cols h w : ℕ) (buf xs : List ℤ) (ws : List ℕ) → Ready rows cols h w xs ws → length buf ≡ 20 → Filled rows cols h w xs ws buf xs ws 0
-fill-start rows cols h w buf xs ws d l = record { going = start-rows rows cols h w xs ws d; len = l; known = sym (estimates-none cols h xs 0) }
+pub count-start : (rows cols h w : ℕ) (xs : List ℤ) (ws : List ℕ) → Ready rows cols h w xs ws → Counted rows cols h w xs ws [] xs ws 0
+count-start rows cols h w xs ws d = record { going = start-rows rows cols h w xs ws d; known = sym (estimates-none cols h xs 0) }
 
-pub fill-on : (rows cols h w : ℕ) (xs₀ : List ℤ) (ws₀ : List ℕ) (buf xs : List ℤ) (ws : List ℕ) (r : ℕ) (ys : List ℤ) (vs : List ℕ) (v : ℤ)
-    → Ready rows cols h w xs₀ ws₀ → Filled rows cols h w xs₀ ws₀ buf xs ws r → r < rows
-    → ys ≡ set xs (cellOf cols h r) (cellAt xs (cellOf cols h r) +ℤ signed h r (pos w))
-    → vs ≡ setNorm ws r (normAt ws r - capped (cellAt xs (cellOf cols h r)) + capped (cellAt xs (cellOf cols h r) +ℤ signed h r (pos w)))
-    → v ≡ signed h r (cellAt ys (cellOf cols h r))
-    → Filled rows cols h w xs₀ ws₀ (set buf r v) ys vs (r + 1)
-fill-on rows cols h w xs₀ ws₀ buf xs ws r ys vs v d f l ey ev is =
-    record { going = row-step rows cols h w xs₀ ws₀ xs ws r ys vs d (f .going) l ey ev; len = length-set buf r v ∙ f .len; known = rw add-one (take-suc-set buf r v in-buf ∙ both ∙ sym (estimates-snoc cols h ys r 0 r (omega arith))) }
+pub count-on : (rows cols h w : ℕ) (xs₀ : List ℤ) (ws₀ : List ℕ) (es xs : List ℤ) (ws : List ℕ) (r : ℕ) (ys : List ℤ) (vs : List ℕ) (v : ℤ)
+    → Ready rows cols h w xs₀ ws₀ → Counted rows cols h w xs₀ ws₀ es xs ws r → r < rows → RowAdded cols h w r xs ws ys vs v
+    → Counted rows cols h w xs₀ ws₀ (es ++ (v ∷ [])) ys vs (r + 1)
+count-on rows cols h w xs₀ ws₀ es xs ws r ys vs v d f l a =
+    record {
+      going = row-step rows cols h w xs₀ ws₀ xs ws r ys vs d (f .going) l (a .cells) (a .norms);
+      known = rw add-one (ap₂ (λ (s : List ℤ) (z : ℤ). s ++ (z ∷ [])) before (a .estimate) ∙ sym (estimates-snoc cols h ys r 0 r (omega arith)));
+    }
   where
-    in-buf : r < length buf
-    in-buf = omega (arith, f .len, d .shaped .few)
-
-    before : take r buf ≡ estimates cols h ys r 0
+    before : es ≡ estimates cols h ys r 0
     before =
         f .known ∙ sym (estimates-kept cols h r xs (cellOf cols h r) (cellAt xs (cellOf cols h r) +ℤ signed h r (pos w)) r 0 (d .shaped .some) (omega arith) (omega arith))
-        ∙ ap (λ (s : List ℤ). estimates cols h s r 0) (sym ey)
+        ∙ ap (λ (s : List ℤ). estimates cols h s r 0) (sym (a .cells))
 
-    both : take r buf ++ (v ∷ []) ≡ estimates cols h ys r 0 ++ (signed h r (cellAt ys (cellOf cols h r)) ∷ [])
-    both = ap₂ (λ (s : List ℤ) (z : ℤ). s ++ (z ∷ [])) before is
+-- what `update_row` asks for
+abbrev pub RowAsks : (cols bits h w r : ℕ) (xs : List ℤ) (ws : List ℕ) → Type 0
+RowAsks cols bits h w r xs ws =
+    ((1 ≤ cols) × ((cols ≤ maxCols) × (bits ≡ maskBits cols)))
+    × (((r < maxRows) × (r * maskBits cols < 128)) × ((w ≤ top) × CellReady (cellOf cols h r) r (signed h r (pos w)) xs ws))
+
+pub row-asks : (rows cols bits h w : ℕ) (xs₀ : List ℤ) (ws₀ : List ℕ) (xs : List ℤ) (ws : List ℕ) (r : ℕ) → Ready rows cols h w xs₀ ws₀ → bits ≡ maskBits cols → Going rows cols h w xs₀ ws₀ xs ws r → r < rows
+    → RowAsks cols bits h w r xs ws
+row-asks rows cols bits h w xs₀ ws₀ xs ws r d e g l =
+    let p = place-asks rows cols r bits (d .shaped) l e in
+    (p .0, (p .1, (d .light, ready-row rows cols h w xs₀ ws₀ xs ws r d g l)))
+
+-- the estimate read back from its bits
+pub added-bits : {cols h w r : ℕ} {xs : List ℤ} {ws : List ℕ} {ys : List ℤ} {vs : List ℕ} {v z : ℤ} → z ≡ v → RowAdded cols h w r xs ws ys vs v → RowAdded cols h w r xs ws ys vs z
+added-bits e a = record { cells = a .cells; norms = a .norms; estimate = e ∙ a .estimate }
 
 -- all rows have gone
+pub count-end : (rows cols h w : ℕ) (xs₀ : List ℤ) (ws₀ : List ℕ) (es xs : List ℤ) (ws : List ℕ) (r : ℕ) → Counted rows cols h w xs₀ ws₀ es xs ws r → rows ≤ r → es ≡ estimates cols h xs rows 0
+count-end rows cols h w xs₀ ws₀ es xs ws r f l =
+    let e : r ≡ rows = omega (arith, f .going .all) in
+    f .known ∙ ap (λ (n : ℕ). estimates cols h xs n 0) e
+
+-- ---- in a buffer: its first r places
+
+pub record Filled (rows cols h w : ℕ) (xs₀ : List ℤ) (ws₀ : List ℕ) (buf xs : List ℤ) (ws : List ℕ) (r : ℕ) : Type 0 where
+  pub counted : Counted rows cols h w xs₀ ws₀ (take r buf) xs ws r
+  pub len : length buf ≡ 20
+
+pub fill-start : (rows cols h w : ℕ) (buf xs : List ℤ) (ws : List ℕ) → Ready rows cols h w xs ws → length buf ≡ 20 → Filled rows cols h w xs ws buf xs ws 0
+fill-start rows cols h w buf xs ws d l = record { counted = count-start rows cols h w xs ws d; len = l }
+
+pub fill-on : (rows cols h w : ℕ) (xs₀ : List ℤ) (ws₀ : List ℕ) (buf xs : List ℤ) (ws : List ℕ) (r : ℕ) (ys : List ℤ) (vs : List ℕ) (v : ℤ)
+    → Ready rows cols h w xs₀ ws₀ → Filled rows cols h w xs₀ ws₀ buf xs ws r → r < rows → RowAdded cols h w r xs ws ys vs v
+    → Filled rows cols h w xs₀ ws₀ (set buf r v) ys vs (r + 1)
+fill-on rows cols h w xs₀ ws₀ buf xs ws r ys vs v d f l a =
+    record {
+      counted = subst (λ (s : List ℤ). Counted rows cols h w xs₀ ws₀ s ys vs (r + 1)) (sym (rw add-one (take-suc-set buf r v (omega (arith, f .len, d .shaped .few))))) (count-on rows cols h w xs₀ ws₀ (take r buf) xs ws r ys vs v d (f .counted) l a);
+      len = length-set buf r v ∙ f .len;
+    }
+
 pub fill-end : (rows cols h w : ℕ) (xs₀ : List ℤ) (ws₀ : List ℕ) (buf xs : List ℤ) (ws : List ℕ) (r : ℕ) → Filled rows cols h w xs₀ ws₀ buf xs ws r → rows ≤ r → take rows buf ≡ estimates cols h xs rows 0
 fill-end rows cols h w xs₀ ws₀ buf xs ws r f l =
-    let e : r ≡ rows = omega (arith, f .going .all) in
-    sym (ap (λ (n : ℕ). take n buf) e) ∙ f .known ∙ ap (λ (n : ℕ). estimates cols h xs n 0) e
+    let e : r ≡ rows = omega (arith, f .counted .going .all) in
+    sym (ap (λ (n : ℕ). take n buf) e) ∙ count-end rows cols h w xs₀ ws₀ (take r buf) xs ws r (f .counted) l

@@ -1,14 +1,14 @@
 -- What the stores of an update need, by name.
-use Prim.Native.Nat.{ℕ, _+_, _*_, _≤_, _<_}
+use Prim.Native.Nat.{ℕ, _+_, _-_, _*_, _≤_, _<_}
 use mathlib.Core.Path.{_≡_}
 use mathlib.Core.Bool.{true}
 use mathlib.Core.List.{List}
-use lib.ListN.{length}
-use lib.IntN.{ℤ, natAbs, _+ℤ_}
+use lib.ListN.{length, set}
+use lib.IntN.{ℤ, pos, natAbs, _+ℤ_}
 use Rattle.words.specs.Num.{top, squareCap, capped}
-use Rattle.matrix_storage.specs.Bits.{Shaped, maxRows, maxCols}
-use Rattle.countsketch_l2_norm.specs.Norms.{normAt}
-use Rattle.countsketch_l2_norm.specs.Sketch.{sketchOf, cellAt, cellRead, cellFits, rowsRead, rowsFit}
+use Rattle.matrix_storage.specs.Bits.{Shaped, maxRows, maxCols, signed}
+use Rattle.countsketch_l2_norm.specs.Norms.{normAt, setNorm}
+use Rattle.countsketch_l2_norm.specs.Sketch.{sketchOf, cellOf, cellAt, cellRead, cellFits, rowsRead, rowsFit}
 
 pub record Ready (rows cols h w : ℕ) (xs : List ℤ) (ws : List ℕ) : Type 0 where
   pub shaped : Shaped rows cols
@@ -28,6 +28,12 @@ pub record CellReady (at r : ℕ) (d : ℤ) (xs : List ℤ) (ws : List ℕ) : Ty
   pub sumIn : natAbs (cellAt xs at +ℤ d) ≤ top
   pub holds : capped (cellAt xs at) ≤ normAt ws r
   pub normIn : normAt ws r ≤ maxCols * squareCap
+
+-- what row r of an update leaves of counters and norms, and its estimate v after it
+pub record RowAdded (cols h w r : ℕ) (xs : List ℤ) (ws : List ℕ) (ys : List ℤ) (vs : List ℕ) (v : ℤ) : Type 0 where
+  pub cells : ys ≡ set xs (cellOf cols h r) (cellAt xs (cellOf cols h r) +ℤ signed h r (pos w))
+  pub norms : vs ≡ setNorm ws r (normAt ws r - capped (cellAt xs (cellOf cols h r)) + capped (cellAt xs (cellOf cols h r) +ℤ signed h r (pos w)))
+  pub estimate : v ≡ signed h r (cellAt ys (cellOf cols h r))
 
 -- a row and a column within the counters
 pub record Placed (rows cols row col : ℕ) (xs : List ℤ) : Type 0 where

@@ -6,6 +6,7 @@ ghost use Prim.Native.Nat.{ℕ, _+_, _*_, _<_, _≤_};
 ghost use lib.ListN.{length};
 ghost use lib.IntN.{ℤ, natAbs, _+ℤ_};
 ghost use Rattle.words.specs.Num.{top, allIn};
+ghost use Rattle.words.specs.Raised.{raisedTop};
 ghost use Rattle.words.specs.Wide.{valueOf};
 ghost use Rattle.matrix_storage.specs.Bits.{maxRows, maxCols, Shaped};
 ghost use Rattle.countsketch_l2_norm.specs.Norms.{normsOf};
@@ -20,14 +21,7 @@ use words::Wide;
 pub fn all_in(cells: &[i64]) -> bool
     ensures { λ b. ⌜ b ≡ allIn (now (cells .entry)) ⌝ }
 {
-    let mut i = 0;
-    while i < cells.len() {
-        if !words::in_range(cells[i]) {
-            return false;
-        }
-        i += 1;
-    }
-    true
+    words::first_in_range(cells, cells.len())
 }
 
 fn sum_of(x: i64, y: i64) -> i64
@@ -37,12 +31,33 @@ fn sum_of(x: i64, y: i64) -> i64
     x + y
 }
 
+// The bits that the sums of two lists of counters have, raised: `words::raised` says what a word below
+// 2^53 shows. Without a jump on what is read.
+fn sums_joined(xs: &[i64], ys: &[i64]) -> u64
+    requires { ⌜ length (now xs) ≡ length (now ys) ⌝ }
+    requires { ⌜ (allIn (now xs) ≡ true) × (allIn (now ys) ≡ true) ⌝ }
+    ensures { λ r. ⌜ (r < raisedTop → allIn (sums (now (xs .entry)) (now (ys .entry))) ≡ true) ⌝ }
+{
+    let mut all: u64 = 0;
+    let mut i = 0;
+    while i < xs.len() {
+        let one = words::raised(sum_of(xs[i], ys[i]));
+        all = all | one;
+        i += 1;
+    }
+    all
+}
+
 // Whether every sum of two counters is in range, of counters that are in range.
 pub fn sums_fit(xs: &[i64], ys: &[i64]) -> bool
     requires { ⌜ length (now xs) ≡ length (now ys) ⌝ }
     requires { ⌜ (allIn (now xs) ≡ true) × (allIn (now ys) ≡ true) ⌝ }
     ensures { λ b. ⌜ b ≡ allIn (sums (now (xs .entry)) (now (ys .entry))) ⌝ }
 {
+    if sums_joined(xs, ys) < words::RAISED_TOP {
+        return true;
+    }
+    // the greatest number of the range, or one out of it
     let mut i = 0;
     while i < xs.len() {
         let z = sum_of(xs[i], ys[i]);

@@ -1,7 +1,5 @@
 pub mod Matches
 pub mod Steps
-pub mod Scans
 pub mod Cases
 pub mod Sounds
 pub mod Effects
-pub mod Raises

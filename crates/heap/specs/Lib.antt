@@ -3,4 +3,3 @@ pub mod Slices
 pub mod Keys
 pub mod Sound
 pub mod Fours
-pub mod Raised

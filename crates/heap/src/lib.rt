@@ -1,6 +1,5 @@
 // One layer's candidates (the Rust's `TopKHeap`): the first `len` of `size` places are used.
 mod blocks;
-mod ranges;
 
 ghost use mathlib.Core.Path.{_≡_};
 ghost use Prim.Native.Nat.{ℕ, _≤_, _<_, _*_};
@@ -14,9 +13,6 @@ ghost use Rattle.heap_moves.specs.Post.{Two};
 ghost use Rattle.heap.specs.Offer;
 ghost use Rattle.heap.specs.Offer.{mostCands, keptBy, lenBy};
 ghost use Rattle.heap.specs.Slices.{Room, tableOf, offeredOf, offered};
-
-// 2^53: below it are the counts of the range, raised, but the greatest.
-const RAISED_TOP: u64 = 9007199254740992;
 
 // What an offered candidate did: got a new count, was seated, displaced a key, or was turned away.
 pub enum Answer {
@@ -133,21 +129,10 @@ pub fn kept(a: Answer) -> bool
     }
 }
 
-// Whether each of the first n counts lies within ±2^52.
+// Whether the counts of the first n candidates lie within ±2^52.
 pub fn counts_in_range(counts: &[i64], n: usize) -> bool
     requires { ⌜ n ≤ length (now counts) ⌝ }
     ensures { λ r. ⌜ r ≡ allIn (take n (now (counts .entry))) ⌝ }
 {
-    if ranges::joined(counts, n) < RAISED_TOP {
-        return true;
-    }
-    // the greatest count of the range, or one out of it
-    let mut i = 0;
-    while i < n {
-        if !words::in_range(counts[i]) {
-            return false;
-        }
-        i += 1;
-    }
-    true
+    words::first_in_range(counts, n)
 }
