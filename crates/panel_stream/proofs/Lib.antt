@@ -1,0 +1,4 @@
+pub mod Backs
+pub mod Adds
+pub mod Shows
+pub mod PanelStream
