@@ -41,7 +41,10 @@ Off (t ∷ ts) = (t .0 ≡ false) × Off ts
 done-inj : (s t : State) → done s ≡ done t → s ≡ t
 done-inj s t e = cc
 
-refused-done : (n : ℕ) (t : State) → refused n ≡ done t → ⊥
+pub refused-inj : (n m : ℕ) → refused n ≡ refused m → n ≡ m
+refused-inj n m e = cc
+
+pub refused-done : (n : ℕ) (t : State) → refused n ≡ done t → ⊥
 refused-done n t e = let z : _≡_ {A = ℕ} 0 1 = cc in omega arith
 
 pub judged : (ts : List (Bool × ℕ)) (s t : State) → judge ts s ≡ done t → (t ≡ s) × Off ts

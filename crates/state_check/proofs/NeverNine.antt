@@ -34,6 +34,7 @@ use Rattle.estimates.specs.Sums.{layerReads, sumReads, headerAlone, sumRefusal}
 use Rattle.estimates.specs.Calls.{normState, normsReadAt, allNormsRead, l2Reads, l1Call, l2Call, sumCall, panelCall}
 use Rattle.shared_streams.proofs.BookLaws.{sent-room}
 use Rattle.shared_streams.proofs.Relays.{wide}
+use Rattle.shared_streams.proofs.Refusals.{refused-inj, refused-done}
 use Rattle.shared_streams.proofs.States.{all-layers}
 use Rattle.state_check.specs.Check.{stateOk}
 use Rattle.state_check.proofs.Passed.{neither}
@@ -102,18 +103,12 @@ abbrev Clear : ℕ → List (Bool × ℕ) → Type 0
 Clear n [] = Unit {0}
 Clear n (t ∷ ts) = (t .1 ≡ n → t .0 ≡ false) × (t .0 ≡ false → Clear n ts)
 
-same-number : (m n : ℕ) → refused m ≡ refused n → m ≡ n
-same-number m n e = cc
-
-done-refused : (s : State) (n : ℕ) → done s ≡ refused n → ⊥
-done-refused s n e = let z : _≡_ {A = ℕ} 0 1 = cc in omega arith
-
 clear-judge : (n : ℕ) (ts : List (Bool × ℕ)) (s : State) → Clear n ts → judge ts s ≡ refused n → ⊥
-clear-judge n [] s c q = done-refused s n q
+clear-judge n [] s c q = refused-done n s (sym q)
 clear-judge n (t ∷ ts) s c q = go (clear-judge n ts s) (t .0) refl q
   where
     go : (Clear n ts → judge ts s ≡ refused n → ⊥) → (b : Bool) → t .0 ≡ b → cond b (refused (t .1)) (judge ts s) ≡ refused n → ⊥
-    go ih true z q = never (sym (c .0 (same-number (t .1) n q)) ∙ z)
+    go ih true z q = never (sym (c .0 (refused-inj (t .1) n q)) ∙ z)
     go ih false z q = ih (c .1 z) q
 
 said-no : (n : ℕ) (o : Out) → outcomeOf o ≡ Outcome.no n → o ≡ refused n
