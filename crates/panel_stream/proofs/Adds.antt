@@ -1,5 +1,5 @@
 -- What a standard update on a relay that is as its book says can be refused with. Assumes nothing.
-use mathlib.Core.Path.{_≡_, refl, sym, ap, ap₂, _∙_, subst}
+use mathlib.Core.Path.{_≡_, refl, sym, ap, _∙_, subst}
 use Prim.Native.Nat.{ℕ, _+_, _≤_}
 use native.Mathlib.Omega.{arith}
 use mathlib.Core.Bool.{Bool, true, false, cond, not}
@@ -20,24 +20,18 @@ use Rattle.univmon.specs.declared.Kind.the-variants as kind
 use Rattle.univmon.specs.State.{State}
 use Rattle.univmon.specs.Judged.{Out, refused, done}
 use Rattle.univmon.specs.Updates.{recordLength, updateTests, updated, update}
-use Rattle.univmon.specs.Slices.{Lent, lentOk, view}
+use Rattle.univmon.specs.Slices.{Lent, view}
 use Rattle.univmon.specs.Calls.{Outcome, outcomeOf, updateCall}
 use Rattle.shared_streams.specs.Books.{Book}
 use Rattle.shared_streams.proofs.Lists.{All}
 use Rattle.shared_streams.proofs.BookLaws.{bookMode, OfMode, no-clash}
 use Rattle.shared_streams.proofs.Relays.{RelayBy}
-use Rattle.shared_streams.proofs.Refusals.{sound, update-accepted}
+use Rattle.shared_streams.proofs.Refusals.{refused-inj, refused-done, sound, update-accepted}
 use Rattle.shared_streams.proofs.Calls.{LentBy, lent-view, lent-lengths}
 
 -- a book of standard updates
 abbrev pub Standards : Book → Type 0
 Standards b = All (OfMode mode.Standard) b
-
-refused-inj : (n m : ℕ) → refused n ≡ refused m → n ≡ m
-refused-inj n m e = cc
-
-refused-done : (n : ℕ) (t : State) → done t ≡ refused n → ⊥
-refused-done n t e = let z : _≡_ {A = ℕ} 0 1 = cc in omega arith
 
 no-inj : (n m : ℕ) → Outcome.no n ≡ Outcome.no m → n ≡ m
 no-inj n m e = cc
@@ -71,7 +65,7 @@ module _ (s : State) (b : Book) (v : shapeRefusal (s .head .shape) ≡ 0) (r : R
       go (eqb (length words) (recordLength (s .head .shape .layers))) refl (nonNeg w) refl (leb (s .head .weight + natAbs w) top) refl _ (rw (sound s b v r, clear) at e)
     where
       none : (w : ℤ) → length words ≡ recordLength (s .head .shape .layers) → nonNeg w ≡ true → s .head .weight + natAbs w ≤ top → update kind.Standard s words w ≡ refused n → ⊥
-      none (pos m) long q light f = refused-done n (updated kind.Standard s words (pos m)) (sym (update-accepted kind.Standard s b words m v r long clear light) ∙ f)
+      none (pos m) long q light f = refused-done n (updated kind.Standard s words (pos m)) (sym f ∙ update-accepted kind.Standard s b words m v r long clear light)
       none (negsuc m) long q light f = never q
 
       go : (c : Bool) → eqb (length words) (recordLength (s .head .shape .layers)) ≡ c → (d : Bool) → nonNeg w ≡ d → (f : Bool) → leb (s .head .weight + natAbs w) top ≡ f → (o : Out)

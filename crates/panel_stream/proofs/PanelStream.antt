@@ -4,7 +4,7 @@ use Prim.Native.Nat.{ℕ, _+_, _*_, _≤_}
 use native.Mathlib.Omega.{arith}
 use mathlib.Core.Bool.{Bool, true, false, cond, not, _||_}
 use mathlib.Core.List.{List, [], _∷_, _++_, List·Memᴰ, List·Memᴰ·head, List·Memᴰ·tail}
-use lib.ListN.{length, take}
+use lib.ListN.{length}
 use lib.IntN.{ℤ}
 use lib.Dec.{eqb, ltb}
 use borrow.Author.Tests.{eqb-true, ne-eqb}
@@ -18,9 +18,7 @@ use Rattle.header.specs.Header.{zeroHeader}
 use Rattle.univmon.specs.declared.Kind.the-variants as kind
 use Rattle.univmon.specs.Slices.{Lent, cellsIn, candsIn, flat, freshLent}
 use Rattle.univmon.specs.Calls.{Outcome, Left, left, leftBy, updateCall}
-use Rattle.estimates.specs.declared.PanelAnswer.{PanelAnswer}
-use Rattle.estimates.specs.Calls.{panelCall}
-use Rattle.shared_streams.specs.Books.{Update, Book, weightOf}
+use Rattle.shared_streams.specs.Books.{Update, Book}
 use Rattle.shared_streams.specs.Relays.{updateBy}
 use Rattle.shared_streams.proofs.Lists.{all-append, all-at}
 use Rattle.shared_streams.proofs.BookLaws.{OfMode}
@@ -30,12 +28,11 @@ use Rattle.panel_lines.specs.declared.line.Request.{Request}
 use Rattle.panel_lines.specs.declared.line.Request.the-variants as ask
 use Rattle.panel_lines.specs.Line.{readOf}
 use Rattle.panel_lines.specs.Split.{lines, wholeOf}
-use Rattle.panel_lines.specs.Answers.{showText}
 use Rattle.panel_step.specs.declared.extent.Extent.{Extent}
 use Rattle.panel_step.specs.Panel.{extentOf, inUse, putBack, maxCounters, maxCandidates, roomy, panelRefusal, refusalIn, shapeCall, started, backBy, addCall, panelText, showLine, Answer, answerTo, answerLine, answersOf}
 use Rattle.panel_step.proofs.Rooms.{fit-of}
 use Rattle.panel_step.proofs.Runs.{run-whole}
-use Rattle.panel_stream.specs.PanelStream.{shapeBy, bookAfter, bookOf, relayIn, bits, whole, Shown, Told, Theorem, Corollary}
+use Rattle.panel_stream.specs.PanelStream.{shapeBy, bookAfter, bookOf, relayIn, Shown, Told, Theorem, Corollary}
 use Rattle.panel_stream.proofs.Backs.{back-in}
 use Rattle.panel_stream.proofs.Adds.{Standards, Numbers, add-refused}
 use Rattle.panel_stream.proofs.Shows.{panel-is, panel-keys}

@@ -2,12 +2,8 @@
 use mathlib.Core.Path.{_≡_, refl, sym, ap, _∙_, subst}
 use Prim.Native.Nat.{ℕ, _*_, _≤_}
 use native.Mathlib.Omega.{arith}
-use mathlib.Core.Bool.{Bool, true, false, not, cond, _&&_}
-use mathlib.Core.List.{List}
-use lib.ListN.{length, take}
-use lib.IntN.{pos}
-use lib.Dec.{eqb}
-use lib.Ieee.{Float, binary64, ofInt}
+use mathlib.Core.Bool.{true, false, _&&_}
+use lib.ListN.{length}
 use borrow.Author.Tests.{eq-eqb, not-false}
 use Rattle.words.proofs.Bools.{and-left, and-right, never}
 use Rattle.countsketch_l2_norm.specs.L2 as norm
@@ -19,9 +15,7 @@ use Rattle.header.specs.Header.{headerOk}
 use Rattle.header.specs.Accepted.{Accepted}
 use Rattle.header.proofs.Refusals.{accepted-of}
 use Rattle.univmon.specs.State.{State, dimsAt, layerAt, sizesOk}
-use Rattle.univmon.specs.Judged.{unsound}
-use Rattle.univmon.specs.Slices.{Lent, normsIn, lentOk, view}
-use Rattle.estimates.specs.Norms.{l1Of}
+use Rattle.univmon.specs.Slices.{Lent, normsIn, view}
 use Rattle.estimates.specs.Sums.{layerReads, whosRead}
 use Rattle.estimates.specs.declared.Answer.{Answer}
 use Rattle.estimates.specs.declared.PanelAnswer.{PanelAnswer}
