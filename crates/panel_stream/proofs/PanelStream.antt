@@ -32,7 +32,7 @@ use Rattle.panel_step.specs.declared.extent.Extent.{Extent}
 use Rattle.panel_step.specs.Panel.{extentOf, inUse, putBack, maxCounters, maxCandidates, roomy, panelRefusal, refusalIn, shapeCall, started, backBy, addCall, panelText, showLine, Answer, answerTo, answerLine, answersOf}
 use Rattle.panel_step.proofs.Rooms.{fit-of}
 use Rattle.panel_step.proofs.Runs.{run-whole}
-use Rattle.panel_stream.specs.PanelStream.{shapeBy, bookAfter, bookOf, relayIn, Shown, Told, Theorem, Corollary}
+use Rattle.panel_stream.specs.PanelStream.{shapeBy, bookShaped, bookAdded, bookAfter, bookOf, relayIn, Shown, Told, Theorem, Corollary}
 use Rattle.panel_stream.proofs.Backs.{back-in}
 use Rattle.panel_stream.proofs.Adds.{Standards, Numbers, add-refused}
 use Rattle.panel_stream.proofs.Shows.{panel-is, panel-keys}
@@ -62,18 +62,36 @@ back-fed e r t sh b y a =
     shape : t .head .shape ≡ sh
     shape = ap (λ (z : Lent). z .head .shape) (y .is) ∙ y .by .shape
 
+-- ---- the book
+
+shaped-no : (n : ℕ) (b : Book) → eqb n 0 ≡ false → bookShaped n b ≡ b
+unfolding bookShaped
+shaped-no n b e = rw e
+
+shaped-ok : (b : Book) → bookShaped 0 b ≡ []
+unfolding bookShaped
+shaped-ok b = refl
+
+added-no : (n : ℕ) (b : Book) (e : Update) → (n ≡ 0 → ⊥) → bookAdded n b e ≡ b
+unfolding bookAdded
+added-no n b e k = rw (ne-eqb n 0 k)
+
+added-ok : (b : Book) (e : Update) → bookAdded 0 b e ≡ b ++ (e ∷ [])
+unfolding bookAdded
+added-ok b e = refl
+
 -- ---- one line
 
-shape-kept : (r : Lent) (b : Book) (sh : Shape) → Kept r b → Kept (shapeCall r sh .lends) (cond (eqb (shapeCall r sh .refusal) 0) [] b)
+shape-kept : (r : Lent) (b : Book) (sh : Shape) → Kept r b → Kept (shapeCall r sh .lends) (bookShaped (shapeCall r sh .refusal) b)
 unfolding shapeCall
 shape-kept r b sh k = go (eqb (refusalIn r sh) 0) refl
   where
     after : Bool → Left
     after t = cond t (left 0 (putBack (extentOf sh) r (freshLent sh))) (left (refusalIn r sh) r)
 
-    go : (t : Bool) → eqb (refusalIn r sh) 0 ≡ t → Kept (after t .lends) (cond (eqb (after t .refusal) 0) [] b)
-    go true e = λ z. back-fed (extentOf sh) r (freshLent sh) sh [] (lent-fresh sh (own r sh e)) tt
-    go false e = rw e k
+    go : (t : Bool) → eqb (refusalIn r sh) 0 ≡ t → Kept (after t .lends) (bookShaped (after t .refusal) b)
+    go true e = λ z. rw (shaped-ok b) (back-fed (extentOf sh) r (freshLent sh) sh [] (lent-fresh sh (own r sh e)) tt)
+    go false e = rw (shaped-no (refusalIn r sh) b e) k
 
 -- a refusal's number is not 0
 some-number : (n : ℕ) → List·Memᴰ n Numbers → n ≡ 0 → ⊥
@@ -89,22 +107,22 @@ module _ (r : Lent) (b : Book) (k : Kept r b) (words : List ℕ) (w : ℤ) where
   refused-by : (e : started r ≡ true) (n : ℕ) → updateCall kind.Standard (inUse r) words w ≡ Outcome.no n → List·Memᴰ n Numbers
   refused-by e n q = add-refused (r .head .shape) (own r (r .head .shape) e) b (inUse r) (k e .by) (k e .kinds) words w n q
 
-  add-kept : Kept (addCall r words w .lends) (cond (eqb (addCall r words w .refusal) 0) (b ++ (updateBy kind.Standard words w ∷ [])) b)
+  add-kept : Kept (addCall r words w .lends) (bookAdded (addCall r words w .refusal) b (updateBy kind.Standard words w))
   unfolding addCall
   add-kept = go (started r) refl
     where
       after : Bool → Left
       after t = cond t (leftBy r (backBy r outcome)) (left 13 r)
 
-      two : started r ≡ true → (o : Outcome) → updateCall kind.Standard (inUse r) words w ≡ o → Kept (leftBy r (backBy r o) .lends) (cond (eqb (leftBy r (backBy r o) .refusal) 0) (b ++ (entry ∷ [])) b)
-      two e (Outcome.no n) q = rw (ne-eqb n 0 (some-number n (refused-by e n q))) k
+      two : started r ≡ true → (o : Outcome) → updateCall kind.Standard (inUse r) words w ≡ o → Kept (leftBy r (backBy r o) .lends) (bookAdded (leftBy r (backBy r o) .refusal) b entry)
+      two e (Outcome.no n) q = rw (added-no n b entry (some-number n (refused-by e n q))) k
       two e (Outcome.yes t) q =
-          λ z. back-fed (extentOf (r .head .shape)) r t (r .head .shape) (b ++ (entry ∷ []))
-          (lent-fed (r .head .shape) (own r (r .head .shape) e) kind.Standard b (inUse r) t words w (k e .by) q) (all-append (OfMode mode.Standard) b (entry ∷ []) (k e .kinds) (refl, tt))
+          λ z. rw (added-ok b entry) (back-fed (extentOf (r .head .shape)) r t (r .head .shape) (b ++ (entry ∷ []))
+          (lent-fed (r .head .shape) (own r (r .head .shape) e) kind.Standard b (inUse r) t words w (k e .by) q) (all-append (OfMode mode.Standard) b (entry ∷ []) (k e .kinds) (refl, tt)))
 
-      go : (t : Bool) → started r ≡ t → Kept (after t .lends) (cond (eqb (after t .refusal) 0) (b ++ (entry ∷ [])) b)
+      go : (t : Bool) → started r ≡ t → Kept (after t .lends) (bookAdded (after t .refusal) b entry)
       go true e = two e outcome refl
-      go false e = k
+      go false e = rw (added-no 13 b entry (λ z. omega (arith, z))) k
 
   add-told : started r ≡ true → List·Memᴰ (addCall r words w .refusal) (0 ∷ Numbers)
   unfolding addCall

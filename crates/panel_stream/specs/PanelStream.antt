@@ -17,7 +17,7 @@ use Rattle.header.specs.Header.{zeroHeader}
 use Rattle.univmon.specs.declared.Kind.the-variants as kind
 use Rattle.univmon.specs.Slices.{Lent}
 use Rattle.estimates.specs.Calls.{panelCall}
-use Rattle.shared_streams.specs.Books.{Book, bookKeys, weightOf, distinct, OneRecord}
+use Rattle.shared_streams.specs.Books.{Update, Book, bookKeys, weightOf, distinct, OneRecord}
 use Rattle.shared_streams.specs.Relays.{Relay, updateBy}
 use Rattle.shared_streams.specs.SharedStreams.{Claimed}
 use Rattle.panel_lines.specs.declared.line.Request.{Request}
@@ -32,10 +32,18 @@ use Rattle.panel_step.specs.Panel.{inUse, started, shapeCall, addCall, showLine
 abbrev pub shapeBy : ℕ → ℕ → ℕ → ℕ → Shape
 shapeBy heap rows cols layers = record { «heap_size» = heap; rows = rows; cols = cols; layers = layers }
 
--- "an accepted one starts afresh, a refused one changes nothing"; "Add is a standard update"
+-- a shape that was answered with the number n: "an accepted one starts afresh, a refused one changes nothing"
+unfoldable pub bookShaped : ℕ → Book → Book
+bookShaped n b = cond (eqb n 0) [] b
+
+-- an add that was
+unfoldable pub bookAdded : ℕ → Book → Update → Book
+bookAdded n b e = cond (eqb n 0) (b ++ (e ∷ [])) b
+
+-- "Add is a standard update"
 abbrev pub bookAfter : Lent → Book → Request → List ℕ → Book
-bookAfter r b (ask.Shape heap rows cols layers) words = cond (eqb (shapeCall r (shapeBy heap rows cols layers) .refusal) 0) [] b
-bookAfter r b (ask.Add w n) words = cond (eqb (addCall r words w .refusal) 0) (b ++ (updateBy kind.Standard words w ∷ [])) b
+bookAfter r b (ask.Shape heap rows cols layers) words = bookShaped (shapeCall r (shapeBy heap rows cols layers) .refusal) b
+bookAfter r b (ask.Add w n) words = bookAdded (addCall r words w .refusal) b (updateBy kind.Standard words w)
 bookAfter r b ask.Show words = b
 bookAfter r b ask.Unreadable words = b
 
