@@ -9,7 +9,6 @@ use lib.Seq.{getD-set-other, take-suc-set}
 use lib.IntN.{ℤ, pos, _+ℤ_}
 use Rattle.words.specs.Num.{top}
 use Rattle.matrix_storage.specs.Bits.{maxRows, maxCols, maskBits, signed}
-use Rattle.countsketch_l2_norm.specs.Norms.{normAt, setNorm}
 use Rattle.countsketch_l2_norm.specs.Sketch.{cellOf, cellAt}
 use Rattle.countsketch_l2_norm.specs.Estimate.{estimates}
 use Rattle.countsketch_l2_norm.specs.Needs.{Ready, CellReady, RowAdded}

@@ -2,14 +2,13 @@
 ghost use mathlib.Core.Path.{_≡_};
 ghost use mathlib.Core.Bool.{true, _&&_};
 ghost use Prim.Native.Nat.{ℕ, _+_, _-_, _*_, _<_, _≤_};
-ghost use lib.ListN.{length, set, take};
+ghost use lib.ListN.{length, take};
 ghost use lib.IntN.{ℤ, pos, _+ℤ_};
 ghost use lib.Dec.{leb};
-ghost use Rattle.words.specs.Num.{top, squareCap, inRange, capped};
+ghost use Rattle.words.specs.Num.{top, squareCap, inRange};
 ghost use Rattle.words.specs.Wide.{valueOf};
 ghost use Rattle.matrix_storage.specs.Bits.{maxRows, maxCols, maskBits, signed, hashOf, Shaped};
-ghost use Rattle.countsketch_l2_norm.specs.Norms.{normAt, setNorm};
-ghost use Rattle.countsketch_l2_norm.specs.Sketch.{sketchOf, cellOf, cellAt, addRows, rowRead, rowsRead, rowsFit, rowsReady};
+ghost use Rattle.countsketch_l2_norm.specs.Sketch.{sketchOf, cellOf, addRows, rowRead, rowsRead, rowsFit, rowsReady};
 ghost use Rattle.countsketch_l2_norm.specs.Estimate.{estimates, estimateOf, cellsIn};
 ghost use Rattle.countsketch_l2_norm.specs.Needs.{Ready, CellReady, RowAdded};
 use crate::cells::add_cell;
