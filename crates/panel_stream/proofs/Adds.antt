@@ -23,7 +23,7 @@ use Rattle.univmon.specs.Updates.{recordLength, updateTests, updated, update}
 use Rattle.univmon.specs.Slices.{Lent, view}
 use Rattle.univmon.specs.Calls.{Outcome, outcomeOf, updateCall}
 use Rattle.shared_streams.specs.Books.{Book}
-use Rattle.shared_streams.proofs.Lists.{All}
+use Rattle.words.proofs.Lists.{All}
 use Rattle.shared_streams.proofs.BookLaws.{bookMode, OfMode, no-clash}
 use Rattle.shared_streams.proofs.Relays.{RelayBy}
 use Rattle.shared_streams.proofs.Refusals.{refused-inj, refused-done, sound, update-accepted}

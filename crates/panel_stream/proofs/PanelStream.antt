@@ -20,7 +20,7 @@ use Rattle.univmon.specs.Slices.{Lent, cellsIn, candsIn, flat, freshLent}
 use Rattle.univmon.specs.Calls.{Outcome, Left, left, leftBy, updateCall}
 use Rattle.shared_streams.specs.Books.{Update, Book}
 use Rattle.shared_streams.specs.Relays.{updateBy}
-use Rattle.shared_streams.proofs.Lists.{all-append, all-at}
+use Rattle.words.proofs.Lists.{all-append, all-at}
 use Rattle.shared_streams.proofs.BookLaws.{OfMode}
 use Rattle.shared_streams.proofs.Calls.{LentBy, lent-lengths, lent-fed, lent-fresh}
 use Rattle.shared_streams.proofs.Claims.{claimed}

@@ -41,7 +41,7 @@ use Rattle.shared_streams.proofs.Takes.{takes-all}
 use Rattle.shared_streams.proofs.Sent.{Hashed, hashed, botBy, sent-times}
 use Rattle.shared_streams.proofs.Standard.{standard-counts}
 use Rattle.shared_streams.proofs.Terminal.{terminal-counts}
-use Rattle.shared_streams.proofs.Lists.{all-at, All, all-map}
+use Rattle.words.proofs.Lists.{all-at, All, all-map}
 
 -- ---- kinds and modes
 

@@ -27,7 +27,7 @@ use Rattle.layer.specs.declared.Dims.{Dims}
 use Rattle.layer.specs.Layer.{Layer, Item, hashBy, countOf, offerTo, addSketch, addLayer, addFits, noTable}
 use Rattle.layer.specs.Delta.{Delta, placeBy, deltaLayer, deltaFits}
 use Rattle.layer.specs.Merge.{bothWhos, offerAll, mergeLayer, mergeFits}
-use Rattle.shared_streams.proofs.Lists.{getD-all}
+use Rattle.words.proofs.Lists.{getD-all}
 use Rattle.shared_streams.proofs.Tables.{InR, offer-each}
 use Rattle.shared_streams.proofs.Ranges.{count-in}
 use Rattle.state_check.proofs.Whole.{Whole}

@@ -39,7 +39,7 @@ use Rattle.univmon_merge.proofs.MergeCalls.{same-of}
 use Rattle.shared_streams.specs.Books.{sent}
 use Rattle.shared_streams.proofs.BookLaws.{sent-room}
 use Rattle.shared_streams.proofs.Fresh.{new-by}
-use Rattle.shared_streams.proofs.Lists.{getD-all, part-all}
+use Rattle.words.proofs.Lists.{getD-all, part-all}
 use Rattle.shared_streams.proofs.Ranges.{weights, cells-in}
 use Rattle.shared_streams.proofs.Refusals.{Off, judged}
 use Rattle.shared_streams.proofs.Relays.{wide, RelayBy, by-fits}
