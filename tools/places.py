@@ -5,7 +5,8 @@ A proof file names a fact by its position (`c .before .before .args`), so one mo
 lines far below. Here a function's answers stand in crates/NAME/proofs/FN/answers.txt, with places
 by name (`@Start .args`), and its Proof.antt is written from them.
 
-    tools/places.py new    NAME [FN ..]   answers.txt, with every need open, for functions that have none
+    tools/places.py new    NAME [FN ..]   answers.txt, with every need open, for functions that have none (one that
+                                          needs no file has to be named)
     tools/places.py write  NAME [FN ..]   Proof.antt from answers.txt
     tools/places.py check  [NAME ..]      whether each Proof.antt is what its answers give (exit 1 if not)
     tools/places.py places NAME FN ..     the places before each need
@@ -151,6 +152,13 @@ def places(folder, crate):
     return found
 
 
+def made(folder, crate, skel):
+    """the proofs that the check makes by itself, for a function that gets a file though it needs none"""
+    top = f"{folder}/Rattle.{crate}.proofs/proofs/"
+    found = {os.path.dirname(f)[len(top):]: joined(read(f)) for f in glob.glob(f"{top}**/Proof.antt", recursive=True)}
+    return {fn: text for fn, text in found.items() if fn not in skel}
+
+
 def facts(crate):
     """skeletons and places of a crate, made in a copy of the repository and kept until its code changes"""
     kept = f"{WORK}/kept/{crate}-{sources(crate)}.json"
@@ -173,7 +181,7 @@ def facts(crate):
         if not new:
             break
     sh(f"cd {WORK}; rm -rf gen; RT_CUT=0 rt dev {crate} --generated {WORK}/gen")
-    both = {"skeletons": skel, "places": places(f"{WORK}/gen", crate)}
+    both = {"skeletons": skel, "made": made(f"{WORK}/gen", crate, skel), "places": places(f"{WORK}/gen", crate)}
     json.dump(both, open(kept, "w"))
     return both
 
@@ -284,8 +292,9 @@ def merged(uses, body):
 
 def proof(crate, fn, known):
     """the text of Proof.antt, before it is laid out"""
-    if fn not in known["skeletons"]:
-        print(f"{crate}::{fn}: the check prints no skeleton (it needs no file, or its callee has none)")
+    skeleton = known["skeletons"].get(fn) or known["made"].get(fn)
+    if not skeleton:
+        print(f"{crate}::{fn}: the check prints no skeleton (there is no such function, or its callee has none)")
         return None
     info = known["places"].get(fn, {"before": {}, "needs": {}})
     head, uses, given = blocks(read(f"{REPO}/crates/{crate}/proofs/{fn}/answers.txt"))
@@ -301,7 +310,7 @@ def proof(crate, fn, known):
                 answers[n] = (above, text)
     body, spec, shared = [], False, f"{REPO}/crates/{crate}/proofs/imports.txt"
     # the printed lines are laid out: one line for each declaration again
-    lines = re.sub(r"(?<=\S)\n +(?=\S)", " ", known["skeletons"][fn]).split("\n")
+    lines = re.sub(r"(?<=\S)\n +(?=\S)", " ", skeleton).split("\n")
     for line in lines:
         if line.startswith("use ") or line.startswith("-- src/"):
             continue
@@ -364,9 +373,10 @@ def start(crate, fns):
     known = facts(crate)
     for fn in fns or sorted(known["skeletons"]):
         path = f"{REPO}/crates/{crate}/proofs/{fn}/answers.txt"
-        if os.path.exists(path) or fn not in known["skeletons"]:
+        skeleton = known["skeletons"].get(fn) or known["made"].get(fn, "").replace(" search needs", " ?")
+        if os.path.exists(path) or not skeleton:
             continue
-        joined = re.sub(r"(?<=\S)\n +(?=\S)", " ", known["skeletons"][fn])
+        joined = re.sub(r"(?<=\S)\n +(?=\S)", " ", skeleton)
         needs = re.findall(r"^([^\s:]+)(?: \S+)* = \?$", joined, re.M)
         put(path, f"-- `{crate}::{fn.replace('/', '::')}` meets its contract.\n\n" + "\n\n".join(n + " = ?" for n in needs) + "\n")
         print("new", path)
