@@ -28,6 +28,9 @@ answers.txt is blocks with an empty line between them:
 In a term `@Start`, `@In-loop`, `@Else1`, `@place` (after the call of `place`) stand for the path from
 the need, or from the place that the block's `(c : tie.PLACE ..)` names. A need without an answer is
 `search needs`. The work is done in a copy of the repository under /tmp.
+
+`check` compares what is declared. It leaves out line breaks, since `rt fmt` keeps those that it finds, and imports:
+whether a file has those that it needs is seen by `rt check`.
 """
 import glob
 import hashlib
@@ -161,10 +164,10 @@ def made(folder, crate, skel):
 
 def facts(crate):
     """skeletons and places of a crate, made in a copy of the repository and kept until its code changes"""
-    kept = f"{WORK}/kept/{crate}-{sources(crate)}.json"
+    kept = f"{WORK}/facts/{crate}-{sources(crate)}.json"
     if os.path.exists(kept):
         return json.load(open(kept))
-    os.makedirs(WORK + "/kept", exist_ok=True)
+    os.makedirs(WORK + "/facts", exist_ok=True)
     sh(f"cd {WORK}; rm -rf crates target/rlib target/stamp; mkdir -p target; cp -a {REPO}/crates {REPO}/crates.txt .; cp -a {REPO}/target/rlib {REPO}/target/stamp target/")
     for f in glob.glob(f"{WORK}/crates/{crate}/proofs/**/Proof.antt", recursive=True):
         os.remove(f)
@@ -343,6 +346,11 @@ def proof(crate, fn, known):
     return "\n".join(head + merged([l for l in common + uses + own if l.startswith("use ")], body) + [g for g in goals if g not in body] + ["", body])
 
 
+def plain(text):
+    """a proof file without its imports and line breaks"""
+    return " ".join(" ".join(l for l in joined(text).split("\n") if not l.startswith("use ")).split())
+
+
 def write(crate, fns, dry=False):
     """writes the proof files, laid out by rt fmt; answers the functions whose file was not current"""
     known, changed = facts(crate), []
@@ -360,9 +368,10 @@ def write(crate, fns, dry=False):
     o = sh(f"cd {WORK}/fmt; rt fmt")
     if o.returncode:
         print(o.stdout[-2000:] + o.stderr[-2000:])
+    same = plain if dry else str
     for fn in done:
         new, path = read(f"{WORK}/fmt/crates/{crate}/proofs/{fn}/Proof.antt"), f"{REPO}/crates/{crate}/proofs/{fn}/Proof.antt"
-        if not os.path.exists(path) or read(path) != new:
+        if not os.path.exists(path) or same(read(path)) != same(new):
             changed.append(fn)
             if not dry:
                 put(path, new)
