@@ -5,7 +5,8 @@ A proof file names a fact by its position (`c .before .before .args`), so one mo
 lines far below. Here a function's answers stand in crates/NAME/proofs/FN/answers.txt, with places
 by name (`@Start .args`), and its Proof.antt is written from them.
 
-    tools/places.py new    NAME [FN ..]   answers.txt, with every need open, for functions that have none
+    tools/places.py new    NAME [FN ..]   answers.txt, with every need open, for functions that have none (one that
+                                          needs no file has to be named)
     tools/places.py write  NAME [FN ..]   Proof.antt from answers.txt
     tools/places.py check  [NAME ..]      whether each Proof.antt is what its answers give (exit 1 if not)
     tools/places.py places NAME FN ..     the places before each need
@@ -27,6 +28,9 @@ answers.txt is blocks with an empty line between them:
 In a term `@Start`, `@In-loop`, `@Else1`, `@place` (after the call of `place`) stand for the path from
 the need, or from the place that the block's `(c : tie.PLACE ..)` names. A need without an answer is
 `search needs`. The work is done in a copy of the repository under /tmp.
+
+`check` compares what is declared. It leaves out line breaks, since `rt fmt` keeps those that it finds, and imports:
+whether a file has those that it needs is seen by `rt check`.
 """
 import glob
 import hashlib
@@ -151,12 +155,19 @@ def places(folder, crate):
     return found
 
 
+def made(folder, crate, skel):
+    """the proofs that the check makes by itself, for a function that gets a file though it needs none"""
+    top = f"{folder}/Rattle.{crate}.proofs/proofs/"
+    found = {os.path.dirname(f)[len(top):]: joined(read(f)) for f in glob.glob(f"{top}**/Proof.antt", recursive=True)}
+    return {fn: text for fn, text in found.items() if fn not in skel}
+
+
 def facts(crate):
     """skeletons and places of a crate, made in a copy of the repository and kept until its code changes"""
-    kept = f"{WORK}/kept/{crate}-{sources(crate)}.json"
+    kept = f"{WORK}/facts/{crate}-{sources(crate)}.json"
     if os.path.exists(kept):
         return json.load(open(kept))
-    os.makedirs(WORK + "/kept", exist_ok=True)
+    os.makedirs(WORK + "/facts", exist_ok=True)
     sh(f"cd {WORK}; rm -rf crates target/rlib target/stamp; mkdir -p target; cp -a {REPO}/crates {REPO}/crates.txt .; cp -a {REPO}/target/rlib {REPO}/target/stamp target/")
     for f in glob.glob(f"{WORK}/crates/{crate}/proofs/**/Proof.antt", recursive=True):
         os.remove(f)
@@ -173,7 +184,7 @@ def facts(crate):
         if not new:
             break
     sh(f"cd {WORK}; rm -rf gen; RT_CUT=0 rt dev {crate} --generated {WORK}/gen")
-    both = {"skeletons": skel, "places": places(f"{WORK}/gen", crate)}
+    both = {"skeletons": skel, "made": made(f"{WORK}/gen", crate, skel), "places": places(f"{WORK}/gen", crate)}
     json.dump(both, open(kept, "w"))
     return both
 
@@ -284,8 +295,9 @@ def merged(uses, body):
 
 def proof(crate, fn, known):
     """the text of Proof.antt, before it is laid out"""
-    if fn not in known["skeletons"]:
-        print(f"{crate}::{fn}: the check prints no skeleton (it needs no file, or its callee has none)")
+    skeleton = known["skeletons"].get(fn) or known["made"].get(fn)
+    if not skeleton:
+        print(f"{crate}::{fn}: the check prints no skeleton (there is no such function, or its callee has none)")
         return None
     info = known["places"].get(fn, {"before": {}, "needs": {}})
     head, uses, given = blocks(read(f"{REPO}/crates/{crate}/proofs/{fn}/answers.txt"))
@@ -301,7 +313,7 @@ def proof(crate, fn, known):
                 answers[n] = (above, text)
     body, spec, shared = [], False, f"{REPO}/crates/{crate}/proofs/imports.txt"
     # the printed lines are laid out: one line for each declaration again
-    lines = re.sub(r"(?<=\S)\n +(?=\S)", " ", known["skeletons"][fn]).split("\n")
+    lines = re.sub(r"(?<=\S)\n +(?=\S)", " ", skeleton).split("\n")
     for line in lines:
         if line.startswith("use ") or line.startswith("-- src/"):
             continue
@@ -334,6 +346,11 @@ def proof(crate, fn, known):
     return "\n".join(head + merged([l for l in common + uses + own if l.startswith("use ")], body) + [g for g in goals if g not in body] + ["", body])
 
 
+def plain(text):
+    """a proof file without its imports and line breaks"""
+    return " ".join(" ".join(l for l in joined(text).split("\n") if not l.startswith("use ")).split())
+
+
 def write(crate, fns, dry=False):
     """writes the proof files, laid out by rt fmt; answers the functions whose file was not current"""
     known, changed = facts(crate), []
@@ -351,9 +368,10 @@ def write(crate, fns, dry=False):
     o = sh(f"cd {WORK}/fmt; rt fmt")
     if o.returncode:
         print(o.stdout[-2000:] + o.stderr[-2000:])
+    same = plain if dry else str
     for fn in done:
         new, path = read(f"{WORK}/fmt/crates/{crate}/proofs/{fn}/Proof.antt"), f"{REPO}/crates/{crate}/proofs/{fn}/Proof.antt"
-        if not os.path.exists(path) or read(path) != new:
+        if not os.path.exists(path) or same(read(path)) != same(new):
             changed.append(fn)
             if not dry:
                 put(path, new)
@@ -364,9 +382,10 @@ def start(crate, fns):
     known = facts(crate)
     for fn in fns or sorted(known["skeletons"]):
         path = f"{REPO}/crates/{crate}/proofs/{fn}/answers.txt"
-        if os.path.exists(path) or fn not in known["skeletons"]:
+        skeleton = known["skeletons"].get(fn) or known["made"].get(fn, "").replace(" search needs", " ?")
+        if os.path.exists(path) or not skeleton:
             continue
-        joined = re.sub(r"(?<=\S)\n +(?=\S)", " ", known["skeletons"][fn])
+        joined = re.sub(r"(?<=\S)\n +(?=\S)", " ", skeleton)
         needs = re.findall(r"^([^\s:]+)(?: \S+)* = \?$", joined, re.M)
         put(path, f"-- `{crate}::{fn.replace('/', '::')}` meets its contract.\n\n" + "\n\n".join(n + " = ?" for n in needs) + "\n")
         print("new", path)

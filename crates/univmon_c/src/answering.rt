@@ -2,6 +2,7 @@
 use crate::CAnswer;
 use crate::CHeader;
 use crate::CPanel;
+use crate::crossing::LAST_MODE;
 use crate::crossing::c_answer;
 use crate::crossing::c_panel;
 use crate::crossing::g_of;
@@ -16,9 +17,7 @@ ghost use Rattle.state_check.specs.Check.{stateOk};
 ghost use Rattle.univmon_c.specs.Crossing.{isG, gOf, headerOf};
 ghost use Rattle.univmon_c.specs.Calls.{cLent, lentOf, answerBy, panelBy, checkBy};
 
-// The greatest number that is a mode, and the greatest that is a choice of g.
-const LAST_MODE: u64 = 2;
-
+// The greatest number that is a choice of g.
 const LAST_G: u64 = 2;
 
 // L1: the exact weight.

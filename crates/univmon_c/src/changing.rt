@@ -2,6 +2,7 @@
 use crate::CAnswered;
 use crate::CBottom;
 use crate::CHeader;
+use crate::crossing::LAST_MODE;
 use crate::crossing::c_answered;
 use crate::crossing::c_bottom;
 use crate::crossing::fidelity_of;
@@ -17,9 +18,7 @@ ghost use Rattle.univmon_merge.specs.Calls.{mergeCall};
 ghost use Rattle.univmon_c.specs.Crossing.{isFidelity, fidelityOf, cBottom};
 ghost use Rattle.univmon_c.specs.Calls.{cLent, cLeft, crossed, changeBy, mergeBy, headBy};
 
-// The greatest number that is a mode, and the greatest that is a fidelity.
-const LAST_MODE: u64 = 2;
-
+// The greatest number that is a fidelity.
 const LAST_FIDELITY: u64 = 1;
 
 // ---- shapes

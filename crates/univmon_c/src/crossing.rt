@@ -38,6 +38,9 @@ ghost use Rattle.univmon_c.specs.Crossing.{
 
 // ---- numbers for enums
 
+// The greatest number that is a mode.
+pub const LAST_MODE: u64 = 2;
+
 fn mode_of(n: u64) -> Mode
     ensures { λ r. ⌜ r ≡ modeOf n ⌝ }
 {

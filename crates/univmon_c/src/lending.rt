@@ -2,6 +2,7 @@
 // mode come back as numbers.
 use crate::CShape;
 use crate::CStep;
+use crate::crossing::LAST_MODE;
 use crate::crossing::c_step;
 use crate::crossing::fixed_of;
 ghost use mathlib.Core.Path.{_≡_};
@@ -11,9 +12,6 @@ ghost use Rattle.univmon.specs.declared.Kind.the-variants as kind;
 ghost use Rattle.univmon.specs.Calls.{lentUpdateCall};
 ghost use Rattle.univmon_c.specs.Crossing.{cHead};
 ghost use Rattle.univmon_c.specs.Calls.{cLent, cLeft, changeBy};
-
-// The greatest number that is a mode.
-const LAST_MODE: u64 = 2;
 
 // The key goes to layers 0 to its bottom layer.
 #[no_mangle]
