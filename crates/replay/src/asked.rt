@@ -1,8 +1,22 @@
 // What changes nothing: answers, and whether two relays hold the same.
 use crate::Call;
-use crate::Relay;
 use crate::digest::say;
-use crate::heads::bit_of;
+use crate::heads::header_of;
+use crate::shelf::CELLS;
+use crate::shelf::COUNTERS;
+use crate::shelf::COUNTS;
+use crate::shelf::ENTRIES;
+use crate::shelf::ENTRY_WORDS;
+use crate::shelf::NORM_WORDS;
+use crate::shelf::NORMS;
+use crate::shelf::SEATS;
+use crate::shelf::SECOND;
+use crate::shelf::SECOND_COUNTERS;
+use crate::shelf::SECOND_NORMS;
+use crate::shelf::get;
+use crate::shelf::lent;
+use crate::shelf::take;
+use crate::shelf::take_signed;
 use estimates::Answer;
 use header::BottomLayer;
 use header::Header;
@@ -13,21 +27,36 @@ fn print_answer(a: Answer) {
     vectors::print(float64::to_bits(a.value));
 }
 
-// The sum of g, with and without every key.
-fn sum_of(h: Header, counters: &[i64], norms: &[u64], entries: &[u64], counts: &[i64], g: G) {
-    print_answer(estimates::estimate_g_sum(h, counters, norms, entries, counts, g, false));
-    print_answer(estimates::estimate_g_sum(h, counters, norms, entries, counts, g, true));
+// The k-th g, each twice: of the keys whose count is above the threshold, and of every key.
+fn g_of(k: u64) -> G {
+    if k < 2 {
+        return G::One;
+    }
+    if k < 4 {
+        return G::Value;
+    }
+    G::Square
 }
 
 // 11: L1, L2, cardinality, the six sums, and the panel's answer.
-pub fn answers(r: Relay, counters: &[i64], norms: &[u64], entries: &[u64], counts: &[i64]) {
-    let h = r.header;
+fn answers(h: Header, counters: &[i64], norms: &[u64], entries: &[u64], counts: &[i64]) {
     print_answer(estimates::estimate_l1(h));
     print_answer(estimates::estimate_l2(h, norms));
     print_answer(estimates::estimate_cardinality(h, counters, norms, entries, counts));
-    sum_of(h, counters, norms, entries, counts, G::One);
-    sum_of(h, counters, norms, entries, counts, G::Value);
-    sum_of(h, counters, norms, entries, counts, G::Square);
+    let mut k = 0;
+    while k < 6 {
+        let every = k % 2 == 1;
+        print_answer(estimates::estimate_g_sum(
+            h,
+            counters,
+            norms,
+            entries,
+            counts,
+            g_of(k),
+            every,
+        ));
+        k += 1;
+    }
     let p = estimates::panel_answer(h, counters, norms, entries, counts);
     vectors::print(p.refusal);
     vectors::print(float64::to_bits(p.l1));
@@ -35,19 +64,37 @@ pub fn answers(r: Relay, counters: &[i64], norms: &[u64], entries: &[u64], count
     vectors::print(float64::to_bits(p.cardinality));
 }
 
-// 18: whether it passes the state check.
-pub fn check(r: Relay, counters: &[i64], norms: &[u64], entries: &[u64], counts: &[i64]) {
-    let h = r.header;
-    vectors::print(bit_of(state_check::check_state(h, counters, norms, entries, counts)));
-}
-
-fn same_words(xs: &[u64], ys: &[u64]) -> bool {
-    if xs.len() != ys.len() {
+// Whether the relay at work passes the state check; 11 prints its answers too.
+pub fn passes(op: u64, shelf: &[u64]) -> bool {
+    let c = lent(shelf, 0, 44, CELLS);
+    let w = lent(shelf, 0, 45, NORM_WORDS);
+    let e = lent(shelf, 0, 46, ENTRY_WORDS);
+    let k = lent(shelf, 0, 47, SEATS);
+    let mut counters = [0i64; CELLS];
+    let mut norms = [0u64; NORM_WORDS];
+    let mut entries = [0u64; ENTRY_WORDS];
+    let mut counts = [0i64; SEATS];
+    take_signed(shelf, COUNTERS, &mut counters);
+    take(shelf, NORMS, &mut norms);
+    take(shelf, ENTRIES, &mut entries);
+    take_signed(shelf, COUNTS, &mut counts);
+    let h = header_of(shelf, 0);
+    let cs = &counters[..c];
+    let ws = &norms[..w];
+    let es = &entries[..e];
+    let ks = &counts[..k];
+    if op == 11 {
+        answers(h, cs, ws, es, ks);
         return false;
     }
+    state_check::check_state(h, cs, ws, es, ks)
+}
+
+// Whether n words from one on are those from another on.
+fn alike(shelf: &[u64], a: usize, b: usize, n: usize) -> bool {
     let mut i = 0;
-    while i < xs.len() {
-        if xs[i] != ys[i] {
+    while i < n {
+        if get(shelf, a, i) != get(shelf, b, i) {
             return false;
         }
         i += 1;
@@ -55,64 +102,18 @@ fn same_words(xs: &[u64], ys: &[u64]) -> bool {
     true
 }
 
-fn same_signed(xs: &[i64], ys: &[i64]) -> bool {
-    if xs.len() != ys.len() {
+// 12: whether both relays agree in shape, weight, mode, flags, counters and norms.
+pub fn same(shelf: &[u64]) -> bool {
+    if !alike(shelf, 0, SECOND, 25) {
         return false;
     }
-    let mut i = 0;
-    while i < xs.len() {
-        if xs[i] != ys[i] {
-            return false;
-        }
-        i += 1;
-    }
-    true
-}
-
-// Shape, weight, mode and flags.
-fn same_heads(a: Header, b: Header) -> bool {
-    let mut k = 0;
-    while k < 25 {
-        if crate::heads::word(a, k) != crate::heads::word(b, k) {
-            return false;
-        }
-        k += 1;
-    }
-    true
-}
-
-// Whether both relays agree in shape, weight, mode, flags, counters and norms.
-fn same(
-    a: Relay,
-    counters: &[i64],
-    norms: &[u64],
-    b: Relay,
-    other_counters: &[i64],
-    other_norms: &[u64],
-) -> bool {
-    if !same_heads(a.header, b.header) {
+    if !alike(shelf, 44, SECOND + 44, 2) {
         return false;
     }
-    if !same_signed(counters, other_counters) {
+    if !alike(shelf, COUNTERS, SECOND_COUNTERS, get(shelf, 44, 0) as usize) {
         return false;
     }
-    same_words(norms, other_norms)
-}
-
-// 12: prints it.
-pub fn print_same(
-    a: Relay,
-    counters: &[i64],
-    norms: &[u64],
-    b: Relay,
-    other_counters: &[i64],
-    other_norms: &[u64],
-) {
-    if same(a, counters, norms, b, other_counters, other_norms) {
-        vectors::print(1);
-        return;
-    }
-    vectors::print(0);
+    alike(shelf, NORMS, SECOND_NORMS, get(shelf, 44, 1) as usize)
 }
 
 // 16: the refusal of a shape. 17: a bottom layer, or its refusal.

@@ -1,102 +1,34 @@
 // The calls that change a relay. Each says the refusal's number, whether what is left passes the state check,
 // and a digest of it all.
 use crate::Call;
-use crate::Lens;
-use crate::Relay;
+use crate::asked::passes;
 use crate::digest::say;
 use crate::digest::whole;
+use crate::heads::header_of;
+use crate::heads::words_of;
+use crate::shelf::CELLS;
+use crate::shelf::COUNTERS;
+use crate::shelf::COUNTS;
+use crate::shelf::ENTRIES;
+use crate::shelf::ENTRY_WORDS;
+use crate::shelf::NORM_WORDS;
+use crate::shelf::NORMS;
+use crate::shelf::RECORDS;
+use crate::shelf::SEATS;
+use crate::shelf::SECOND;
+use crate::shelf::SECOND_COUNTERS;
+use crate::shelf::SECOND_COUNTS;
+use crate::shelf::SECOND_ENTRIES;
+use crate::shelf::SECOND_NORMS;
+use crate::shelf::WORDS;
+use crate::shelf::lent;
+use crate::shelf::put;
+use crate::shelf::put_signed;
+use crate::shelf::take;
+use crate::shelf::take_signed;
 use header::Answered;
 use header::Header;
 use univmon::Fidelity;
-ghost use mathlib.Core.Path.{_≡_};
-ghost use mathlib.Core.Bool.{true};
-ghost use Prim.Native.Nat.{_≤_};
-
-// Whether slices of these lengths can lend so much.
-pub fn held(n: Lens, counters: usize, norms: usize, entries: usize, counts: usize) -> bool
-    ensures { λ b. ⌜ (b ≡ true → (n .counters ≤ counters) × ((n .norms ≤ norms) × ((n .entries ≤ entries) × (n .counts ≤ counts)))) ⌝ }
-{
-    if counters < n.counters {
-        return false;
-    }
-    if norms < n.norms {
-        return false;
-    }
-    if entries < n.entries {
-        return false;
-    }
-    n.counts <= counts
-}
-
-// What a call on the lent parts answered, and what is left of them.
-fn told(
-    r: Relay,
-    out: Answered,
-    counters: &[i64],
-    norms: &[u64],
-    entries: &[u64],
-    counts: &[i64],
-) -> Relay {
-    let header = out.header;
-    let lens = r.lens;
-    let left = Relay { header, lens };
-    let sound = state_check::check_state(header, counters, norms, entries, counts);
-    say(
-        out.refusal,
-        sound,
-        whole(left, counters, norms, entries, counts),
-    );
-    left
-}
-
-// 1: a fresh relay. 8: nothing counted any more.
-fn afresh(
-    call: Call,
-    h: Header,
-    counters: &mut [i64],
-    norms: &mut [u64],
-    entries: &mut [u64],
-    counts: &mut [i64],
-) -> Answered {
-    if call.op == 8 {
-        return univmon::clear(h, counters, norms, entries, counts);
-    }
-    univmon::new(
-        call.a as usize,
-        call.b as usize,
-        call.c as usize,
-        call.d as usize,
-        counters,
-        norms,
-        entries,
-        counts,
-    )
-}
-
-// 2 and 3: a standard and a terminal update with the record that is lent.
-fn update(
-    call: Call,
-    h: Header,
-    counters: &mut [i64],
-    norms: &mut [u64],
-    entries: &mut [u64],
-    counts: &mut [i64],
-    words: &[u64],
-) -> Answered {
-    let weight = vectors::signed(call.c);
-    if call.op == 3 {
-        return univmon::update_weighted_terminal(
-            h,
-            counters,
-            norms,
-            entries,
-            counts,
-            words,
-            weight,
-        );
-    }
-    univmon::update_weighted(h, counters, norms, entries, counts, words, weight)
-}
 
 fn fidelity(n: u64) -> Fidelity {
     if n == 0 {
@@ -114,32 +46,57 @@ fn count_of(n: u64) -> i32 {
     -1 - (0xffff_ffff - low) as i32
 }
 
-// 4: a delta.
-fn delta(
+// Where a record starts.
+pub fn record_at(a: u64) -> usize {
+    (a % 256) as usize * 40 + RECORDS
+}
+
+// 2, 3: a standard and a terminal update. 4: a delta. The record is that of a place, as many words of it as
+// the call says.
+fn recorded(
     call: Call,
     h: Header,
     counters: &mut [i64],
     norms: &mut [u64],
     entries: &mut [u64],
     counts: &mut [i64],
-    words: &[u64],
+    shelf: &[u64],
 ) -> Answered {
-    univmon::apply_delta(
-        h,
-        counters,
-        norms,
-        entries,
-        counts,
-        words,
-        call.c as usize,
-        call.d as usize,
-        call.e as usize,
-        count_of(call.f),
-        fidelity(call.g),
-    )
+    let mut record = [0u64; 80];
+    take(shelf, record_at(call.a), &mut record);
+    let n = lent(shelf, WORDS, 1, 80);
+    let words = &record[..n];
+    if call.op == 4 {
+        return univmon::apply_delta(
+            h,
+            counters,
+            norms,
+            entries,
+            counts,
+            words,
+            call.c as usize,
+            call.d as usize,
+            call.e as usize,
+            count_of(call.f),
+            fidelity(call.g),
+        );
+    }
+    let weight = vectors::signed(call.c);
+    if call.op == 3 {
+        return univmon::update_weighted_terminal(
+            h,
+            counters,
+            norms,
+            entries,
+            counts,
+            words,
+            weight,
+        );
+    }
+    univmon::update_weighted(h, counters, norms, entries, counts, words, weight)
 }
 
-// 5, 6, 7: the calls on a header alone.
+// 5, 6, 7: the calls on a header alone. No other changes anything.
 fn headed(call: Call, h: Header) -> Answered {
     if call.op == 5 {
         return univmon::set_total_weight(h, call.a);
@@ -147,108 +104,106 @@ fn headed(call: Call, h: Header) -> Answered {
     if call.op == 6 {
         return univmon::mark_layer_candidates_incomplete(h, call.a as usize);
     }
-    univmon::mark_candidates_incomplete(h)
+    if call.op == 7 {
+        return univmon::mark_candidates_incomplete(h);
+    }
+    Answered {
+        refusal: 0,
+        header: h,
+    }
 }
 
-// The calls on one relay, by their numbers.
-fn one(
-    call: Call,
+// 9: the second relay comes into the one at work.
+fn merge(
     h: Header,
     counters: &mut [i64],
     norms: &mut [u64],
     entries: &mut [u64],
     counts: &mut [i64],
-    words: &[u64],
+    shelf: &[u64],
 ) -> Answered {
-    let op = call.op;
-    if op == 1 {
-        return afresh(call, h, counters, norms, entries, counts);
-    }
-    if op < 4 {
-        return update(call, h, counters, norms, entries, counts, words);
-    }
-    if op == 4 {
-        return delta(call, h, counters, norms, entries, counts, words);
-    }
-    if op < 8 {
-        return headed(call, h);
-    }
-    afresh(call, h, counters, norms, entries, counts)
-}
-
-// The same, and what it answers and leaves.
-fn on_lent(
-    call: Call,
-    r: Relay,
-    counters: &mut [i64],
-    norms: &mut [u64],
-    entries: &mut [u64],
-    counts: &mut [i64],
-    words: &[u64],
-) -> Relay {
-    let out = one(call, r.header, counters, norms, entries, counts, words);
-    told(r, out, &*counters, &*norms, &*entries, &*counts)
-}
-
-// Whether a call takes a record.
-fn takes_record(op: u64) -> bool {
-    if op < 2 {
-        return false;
-    }
-    op < 5
-}
-
-// A call on the relay at work. The record is that of a place, as many words of it as the call says.
-pub fn change(
-    call: Call,
-    r: Relay,
-    counters: &mut [i64],
-    norms: &mut [u64],
-    entries: &mut [u64],
-    counts: &mut [i64],
-    records: &[u64],
-) -> Relay {
-    if !takes_record(call.op) {
-        return on_lent(call, r, counters, norms, entries, counts, &records[..0]);
-    }
-    if 255 < call.a {
-        return r;
-    }
-    if 80 < call.b {
-        return r;
-    }
-    let a = 40 * call.a as usize;
-    let b = a + call.b as usize;
-    if records.len() < b {
-        return r;
-    }
-    on_lent(call, r, counters, norms, entries, counts, &records[a..b])
-}
-
-// 9: the second relay comes into the one at work.
-pub fn merge(
-    r: Relay,
-    counters: &mut [i64],
-    norms: &mut [u64],
-    entries: &mut [u64],
-    counts: &mut [i64],
-    other: Relay,
-    other_counters: &[i64],
-    other_norms: &[u64],
-    other_entries: &[u64],
-    other_counts: &[i64],
-) -> Relay {
-    let out = univmon_merge::merge(
-        r.header,
+    let c = lent(shelf, SECOND, 44, CELLS);
+    let w = lent(shelf, SECOND, 45, NORM_WORDS);
+    let e = lent(shelf, SECOND, 46, ENTRY_WORDS);
+    let k = lent(shelf, SECOND, 47, SEATS);
+    let mut other_counters = [0i64; CELLS];
+    let mut other_norms = [0u64; NORM_WORDS];
+    let mut other_entries = [0u64; ENTRY_WORDS];
+    let mut other_counts = [0i64; SEATS];
+    take_signed(shelf, SECOND_COUNTERS, &mut other_counters);
+    take(shelf, SECOND_NORMS, &mut other_norms);
+    take(shelf, SECOND_ENTRIES, &mut other_entries);
+    take_signed(shelf, SECOND_COUNTS, &mut other_counts);
+    univmon_merge::merge(
+        h,
         counters,
         norms,
         entries,
         counts,
-        other.header,
-        other_counters,
-        other_norms,
-        other_entries,
-        other_counts,
+        header_of(shelf, SECOND),
+        &other_counters[..c],
+        &other_norms[..w],
+        &other_entries[..e],
+        &other_counts[..k],
+    )
+}
+
+// A call on the slices that are lent. 1: a fresh relay. 8: nothing counted any more.
+fn one(
+    call: Call,
+    counters: &mut [i64],
+    norms: &mut [u64],
+    entries: &mut [u64],
+    counts: &mut [i64],
+    shelf: &[u64],
+) -> Answered {
+    take_signed(shelf, COUNTERS, counters);
+    take(shelf, NORMS, norms);
+    take(shelf, ENTRIES, entries);
+    take_signed(shelf, COUNTS, counts);
+    let h = header_of(shelf, 0);
+    let op = call.op;
+    match op {
+        1 => univmon::new(
+            call.a as usize,
+            call.b as usize,
+            call.c as usize,
+            call.d as usize,
+            counters,
+            norms,
+            entries,
+            counts,
+        ),
+        2..=4 => recorded(call, h, counters, norms, entries, counts, shelf),
+        8 => univmon::clear(h, counters, norms, entries, counts),
+        9 => merge(h, counters, norms, entries, counts, shelf),
+        _ => headed(call, h),
+    }
+}
+
+// Runs a call on the relay at work: its slices are taken off the shelf, lent, and put back.
+pub fn run(call: Call, shelf: &mut [u64]) {
+    let c = lent(&*shelf, 0, 44, CELLS);
+    let w = lent(&*shelf, 0, 45, NORM_WORDS);
+    let e = lent(&*shelf, 0, 46, ENTRY_WORDS);
+    let k = lent(&*shelf, 0, 47, SEATS);
+    let mut counters = [0i64; CELLS];
+    let mut norms = [0u64; NORM_WORDS];
+    let mut entries = [0u64; ENTRY_WORDS];
+    let mut counts = [0i64; SEATS];
+    let out = one(
+        call,
+        &mut counters[..c],
+        &mut norms[..w],
+        &mut entries[..e],
+        &mut counts[..k],
+        &*shelf,
     );
-    told(r, out, &*counters, &*norms, &*entries, &*counts)
+    put_signed(shelf, COUNTERS, &counters, c);
+    put(shelf, NORMS, &norms, w);
+    put(shelf, ENTRIES, &entries, e);
+    put_signed(shelf, COUNTS, &counts, k);
+    let words = words_of(out.header);
+    put(shelf, 0, &words, 44);
+    say(out.refusal, passes(call.op, &*shelf), whole(&*shelf));
 }

@@ -1,52 +1,30 @@
 // A whole state as one number: the polynomial of its words at 65,599, modulo the greatest prime below 2^32.
-use crate::Relay;
 use crate::heads::bit_of;
-use crate::heads::word;
-use header::Header;
+use crate::shelf::COUNTERS;
+use crate::shelf::COUNTS;
+use crate::shelf::ENTRIES;
+use crate::shelf::NORMS;
+use crate::shelf::get;
 
 const PRIME: u64 = 4294967291;
 
-fn mixed(d: u64, n: u64) -> u64 {
-    (d % PRIME * 65599 + n % PRIME) % PRIME
-}
-
-fn of_header(h: Header) -> u64 {
-    let mut d = 0;
-    let mut k = 0;
-    while k < 44 {
-        d = mixed(d, word(h, k));
-        k += 1;
-    }
-    d
-}
-
-fn of_words(start: u64, xs: &[u64]) -> u64 {
+fn of_words(start: u64, shelf: &[u64], at: usize, n: usize) -> u64 {
     let mut d = start;
     let mut i = 0;
-    while i < xs.len() {
-        d = mixed(d, xs[i]);
+    while i < n {
+        d = (d % PRIME * 65599 + get(shelf, at, i) % PRIME) % PRIME;
         i += 1;
     }
     d
 }
 
-fn of_signed(start: u64, xs: &[i64]) -> u64 {
-    let mut d = start;
-    let mut i = 0;
-    while i < xs.len() {
-        d = mixed(d, vectors::unsigned(xs[i]));
-        i += 1;
-    }
-    d
-}
-
-// Header, counters, norms, entries and counts, as they are lent.
-pub fn whole(r: Relay, counters: &[i64], norms: &[u64], entries: &[u64], counts: &[i64]) -> u64 {
-    let a = of_header(r.header);
-    let b = of_signed(a, counters);
-    let c = of_words(b, norms);
-    let d = of_words(c, entries);
-    of_signed(d, counts)
+// Header, counters, norms, entries and counts of the relay at work, as they are lent.
+pub fn whole(shelf: &[u64]) -> u64 {
+    let a = of_words(0, shelf, 0, 44);
+    let b = of_words(a, shelf, COUNTERS, get(shelf, 44, 0) as usize);
+    let c = of_words(b, shelf, NORMS, get(shelf, 44, 1) as usize);
+    let d = of_words(c, shelf, ENTRIES, get(shelf, 44, 2) as usize);
+    of_words(d, shelf, COUNTS, get(shelf, 44, 3) as usize)
 }
 
 // A refusal's number in the top byte, 1 below it where the state passes the check, and a digest.

@@ -1,105 +1,120 @@
-// The shelf: relays that are not at work. Slices and headers are cut into equal places.
-use crate::Lens;
-use crate::Relay;
-use crate::heads::poke;
-use crate::heads::word;
-use header::Header;
+// The shelf: all that the program holds, as words of one slice, since each slice that a function passes on
+// makes its proof longer. It has eight places for a relay: in the first stands the one at work, in the last
+// the second one, which a merge reads. Behind them are the records, and the words of the call.
+ghost use Prim.Native.Nat.{_≤_};
 
-pub fn set(xs: &mut [u64], i: usize, x: u64) {
-    if i < xs.len() {
-        xs[i] = x;
+// The greatest state that is run: counters, counts, norm words and entry words.
+pub const CELLS: usize = 12288;
+
+pub const SEATS: usize = 2048;
+
+pub const NORM_WORDS: usize = 760;
+
+pub const ENTRY_WORDS: usize = 8192;
+
+// A place has the header's 44 words, how much of each slice is lent, and the slices.
+pub const COUNTERS: usize = 48;
+
+pub const COUNTS: usize = COUNTERS + CELLS;
+
+pub const NORMS: usize = COUNTS + SEATS;
+
+pub const ENTRIES: usize = NORMS + NORM_WORDS;
+
+pub const PLACE: usize = ENTRIES + ENTRY_WORDS;
+
+pub const SECOND: usize = 7 * PLACE;
+
+pub const SECOND_COUNTERS: usize = SECOND + COUNTERS;
+
+pub const SECOND_COUNTS: usize = SECOND + COUNTS;
+
+pub const SECOND_NORMS: usize = SECOND + NORMS;
+
+pub const SECOND_ENTRIES: usize = SECOND + ENTRIES;
+
+// 256 records of 40 words, and the 48 words of a call.
+pub const RECORDS: usize = 8 * PLACE;
+
+pub const WORDS: usize = RECORDS + 10240;
+
+pub const ALL: usize = WORDS + 48;
+
+// The i-th word from one on; behind the end there are zeros.
+pub fn get(xs: &[u64], at: usize, i: usize) -> u64 {
+    if xs.len() <= at {
+        return 0;
     }
+    if xs.len() - at <= i {
+        return 0;
+    }
+    xs[at + i]
 }
 
-fn get(xs: &[u64], i: usize) -> u64 {
-    if i < xs.len() {
-        return xs[i];
+pub fn set(xs: &mut [u64], at: usize, i: usize, x: u64) {
+    if xs.len() <= at {
+        return;
     }
-    0
+    if xs.len() - at <= i {
+        return;
+    }
+    xs[at + i] = x;
 }
 
-pub fn set_signed(xs: &mut [i64], i: usize, x: i64) {
-    if i < xs.len() {
-        xs[i] = x;
+// How much of a slice is lent: the i-th word from one on, but at most so much.
+pub fn lent(xs: &[u64], at: usize, i: usize, most: usize) -> usize
+    ensures { λ r. ⌜ r ≤ most ⌝ }
+{
+    let n = get(xs, at, i) as usize;
+    if n < most {
+        return n;
     }
+    most
 }
 
-fn get_signed(xs: &[i64], i: usize) -> i64 {
-    if i < xs.len() {
-        return xs[i];
-    }
-    0
-}
-
-// n words of a slice, from a on, put from b on.
-pub fn shift(xs: &mut [u64], a: u32, b: u32, n: u32) {
-    let mut i = 0u32;
+// n words from one on, put from another on.
+pub fn shift(xs: &mut [u64], from: usize, to: usize, n: usize) {
+    let mut i = 0;
     while i < n {
-        let x = get(&*xs, a as usize + i as usize);
-        set(xs, b as usize + i as usize, x);
+        let x = get(&*xs, from, i);
+        set(xs, to, i, x);
         i += 1;
     }
 }
 
-pub fn shift_signed(xs: &mut [i64], a: u32, b: u32, n: u32) {
-    let mut i = 0u32;
-    while i < n {
-        let x = get_signed(&*xs, a as usize + i as usize);
-        set_signed(xs, b as usize + i as usize, x);
+// The words from one on, as many as a slice has room for.
+pub fn take(xs: &[u64], at: usize, to: &mut [u64]) {
+    let mut i = 0;
+    while i < to.len() {
+        to[i] = get(xs, at, i);
         i += 1;
     }
 }
 
-// The words from a on, put into another slice.
-pub fn copy(xs: &[u64], a: u32, to: &mut [u64], n: u32) {
-    let mut i = 0u32;
-    while i < n {
-        let x = get(xs, a as usize + i as usize);
-        set(to, i as usize, x);
+pub fn take_signed(xs: &[u64], at: usize, to: &mut [i64]) {
+    let mut i = 0;
+    while i < to.len() {
+        to[i] = vectors::signed(get(xs, at, i));
         i += 1;
     }
 }
 
-pub fn copy_signed(xs: &[i64], a: u32, to: &mut [i64], n: u32) {
-    let mut i = 0u32;
+// n words of a slice, put from one on.
+pub fn put(xs: &mut [u64], at: usize, from: &[u64], n: usize) {
+    let mut i = 0;
     while i < n {
-        let x = get_signed(xs, a as usize + i as usize);
-        set_signed(to, i as usize, x);
+        set(xs, at, i, get(from, 0, i));
         i += 1;
     }
 }
 
-// The header and the lengths of the relay at work, put back.
-pub fn put_head(heads: &mut [u64], r: Relay) {
-    let h = r.header;
-    let mut k = 0;
-    while k < 44 {
-        set(heads, k, word(h, k));
-        k += 1;
-    }
-}
-
-fn head(heads: &[u64], a: u32) -> Header {
-    let mut h = Header::zero();
-    let mut k = 0;
-    while k < 44 {
-        h = poke(h, k, get(heads, a as usize + k));
-        k += 1;
-    }
-    h
-}
-
-// The header and the lengths from word a on.
-pub fn take_head(heads: &[u64], a: u32) -> Relay {
-    let at = a as usize;
-    let lens = Lens {
-        counters: get(heads, at + 44) as usize,
-        norms: get(heads, at + 45) as usize,
-        entries: get(heads, at + 46) as usize,
-        counts: get(heads, at + 47) as usize,
-    };
-    Relay {
-        header: head(heads, a),
-        lens,
+pub fn put_signed(xs: &mut [u64], at: usize, from: &[i64], n: usize) {
+    let mut i = 0;
+    while i < n {
+        if from.len() <= i {
+            return;
+        }
+        set(xs, at, i, vectors::unsigned(from[i]));
+        i += 1;
     }
 }

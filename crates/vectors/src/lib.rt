@@ -70,6 +70,28 @@ pub fn read(text: &mut [u8], n: usize) -> bool {
     got == bytes
 }
 
+// The head of a line: its operation, and how many words it has. Operation 0 is the end of the input.
+pub struct Line {
+    pub op: u64,
+    pub many: usize,
+}
+
+// Reads a line, its words to the front of a text; one that does not come whole is the end of the input.
+pub fn next(text: &mut [u8]) -> Line {
+    let mut head = [0u8; 34];
+    if !read(&mut head, 2) {
+        return Line { op: 0, many: 0 };
+    }
+    let many = word(&head, 1) as usize;
+    if !read(text, many) {
+        return Line { op: 0, many: 0 };
+    }
+    Line {
+        op: word(&head, 0),
+        many,
+    }
+}
+
 // Writes a word and a newline.
 pub fn print(n: u64) {
     io::print_hex(1, n, 16);

@@ -1,28 +1,27 @@
 -- `replay::digest::of_words` meets its contract.
 -- Written by tools/places.py from answers.txt; assumes nothing.
 use Prim.Native.Nat.{_-_, _≤_}
-use lib.ListN.{length}
 use borrow.Author.Needs.{needs}
 use Rattle.replay.proofs.digest.of_words.Statement.{statement}
 use Rattle.replay.proofs.digest.of_words.Tie as tie
 
 abbrev Inv-loop : tie.InvT-loop
-Inv-loop start xs d₀ i₀ d i = i ≤ length xs
+Inv-loop start shelf at n d₀ i₀ d i = i ≤ n
 
 abbrev μ-loop : tie.MeasureT-loop
-μ-loop start xs d₀ i₀ d i = length xs - i
+μ-loop start shelf at n d₀ i₀ d i = n - i
 
 loop-holds : tie.Need-loop-holds Inv-loop μ-loop
 loop-holds c = search needs
 
-mul-mixed : tie.Need-mul-mixed Inv-loop μ-loop
-mul-mixed c = search needs
+mul-d : tie.Need-mul-d Inv-loop μ-loop
+mul-d c = search needs
 
-shared-slice-read-mixed : tie.Need-shared-slice-read-mixed Inv-loop μ-loop
-shared-slice-read-mixed c = search needs
+get-requires : tie.Need-get-requires Inv-loop μ-loop
+get-requires c κs = search needs
 
-mixed-requires : tie.Need-mixed-requires Inv-loop μ-loop
-mixed-requires c κs = search needs
+add-d : tie.Need-add-d Inv-loop μ-loop
+add-d c = search needs
 
 add-i : tie.Need-add-i Inv-loop μ-loop
 add-i c = search needs
@@ -37,4 +36,4 @@ returns : tie.Need-returns Inv-loop μ-loop
 returns c = search needs
 
 pub of-words-spec : {M : Type 1} → statement M
-of-words-spec = tie.close (tie.spec Inv-loop μ-loop loop-holds mul-mixed shared-slice-read-mixed mixed-requires add-i loop-less loop-again returns)
+of-words-spec = tie.close (tie.spec Inv-loop μ-loop loop-holds mul-d get-requires add-d add-i loop-less loop-again returns)

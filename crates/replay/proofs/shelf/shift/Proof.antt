@@ -9,28 +9,16 @@ use Rattle.replay.proofs.shelf.shift.Statement.{statement}
 use Rattle.replay.proofs.shelf.shift.Tie as tie
 
 abbrev Inv-loop : tie.InvT-loop
-Inv-loop xs₀ a b n i₀ xs i = (i ≤ n) × (length xs ≡ length xs₀)
+Inv-loop xs₀ from to n i₀ xs i = (i ≤ n) × (length xs ≡ length xs₀)
 
 abbrev μ-loop : tie.MeasureT-loop
-μ-loop xs₀ a b n i₀ xs i = n - i
+μ-loop xs₀ from to n i₀ xs i = n - i
 
 loop-holds : tie.Need-loop-holds Inv-loop μ-loop
 loop-holds c = (omega arith, refl)
 
-cast-get : tie.Need-cast-get Inv-loop μ-loop
-cast-get c = search needs
-
-add-get : tie.Need-add-get Inv-loop μ-loop
-add-get c = search needs
-
 get-requires : tie.Need-get-requires Inv-loop μ-loop
 get-requires c κs = search needs
-
-cast-set : tie.Need-cast-set Inv-loop μ-loop
-cast-set c = search needs
-
-add-set : tie.Need-add-set Inv-loop μ-loop
-add-set c = search needs
 
 set-requires : tie.Need-set-requires Inv-loop μ-loop
 set-requires c κs = search needs
@@ -51,4 +39,4 @@ returns : tie.Need-returns Inv-loop μ-loop
 returns c = search needs
 
 pub shift-spec : {M : Type 1} → statement M
-shift-spec = tie.close (tie.spec Inv-loop μ-loop loop-holds cast-get add-get get-requires cast-set add-set set-requires add-i loop-less loop-again same-length returns)
+shift-spec = tie.close (tie.spec Inv-loop μ-loop loop-holds get-requires set-requires add-i loop-less loop-again same-length returns)

@@ -1,0 +1,42 @@
+-- `replay::shelf::put` meets its contract.
+-- Written by tools/places.py from answers.txt; assumes nothing.
+use Prim.Native.Nat.{_-_, _≤_}
+use mathlib.Core.Path.{_≡_, refl, _∙_}
+use lib.ListN.{length, set}
+use native.Mathlib.Omega.{arith}
+use borrow.Author.Needs.{needs}
+use Rattle.replay.proofs.shelf.put.Statement.{statement}
+use Rattle.replay.proofs.shelf.put.Tie as tie
+
+abbrev Inv-loop : tie.InvT-loop
+Inv-loop xs₀ at from n i₀ xs i = (i ≤ n) × (length xs ≡ length xs₀)
+
+abbrev μ-loop : tie.MeasureT-loop
+μ-loop xs₀ at from n i₀ xs i = n - i
+
+loop-holds : tie.Need-loop-holds Inv-loop μ-loop
+loop-holds c = (omega arith, refl)
+
+get-requires : tie.Need-get-requires Inv-loop μ-loop
+get-requires c κs = search needs
+
+set-requires : tie.Need-set-requires Inv-loop μ-loop
+set-requires c κs = search needs
+
+add-i : tie.Need-add-i Inv-loop μ-loop
+add-i c = search needs
+
+loop-less : tie.Need-loop-less Inv-loop μ-loop
+loop-less c = search needs
+
+loop-again : tie.Need-loop-again Inv-loop μ-loop
+loop-again c = (omega arith, c .before .before .set .kept .0 ∙ c .before .before .before .before .before .before .loop .inv .1)
+
+same-length : tie.Need-same-length Inv-loop μ-loop
+same-length c = c .before .loop .inv .1
+
+returns : tie.Need-returns Inv-loop μ-loop
+returns c = search needs
+
+pub put-spec : {M : Type 1} → statement M
+put-spec = tie.close (tie.spec Inv-loop μ-loop loop-holds get-requires set-requires add-i loop-less loop-again same-length returns)
