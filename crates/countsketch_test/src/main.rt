@@ -8,13 +8,6 @@ ghost use Rattle.matrix_storage.specs.Bits.{Shaped};
 // The greatest layer that is run: 9 rows of 4,096.
 const CELLS: usize = 36864;
 
-// A refusal is printed as its number in the top byte.
-fn refused(n: u64) {
-    if n < 256 {
-        vectors::print(n * 0x100_0000_0000_0000);
-    }
-}
-
 // Whether slices of these lengths hold a layer of these rows and columns.
 fn held(rows: usize, cols: usize, cells: usize, words: usize) -> bool
     ensures { λ b. ⌜ (b ≡ true → Shaped rows cols × ((rows * cols ≤ cells) × (2 * rows ≤ words))) ⌝ }
@@ -51,7 +44,7 @@ fn estimate(counters: &[i64], rows: usize, cols: usize, high: u64, low: u64) {
         return;
     }
     if !countsketch_l2_norm::cells_in(counters, rows, cols, high, low) {
-        refused(9);
+        vectors::print_refusal(9);
         return;
     }
     let x = countsketch_l2_norm::estimate_with_hash(counters, rows, cols, high, low);
@@ -75,7 +68,7 @@ fn add(
         return;
     }
     if 4503599627370496 < weight {
-        refused(7);
+        vectors::print_refusal(7);
         return;
     }
     if countsketch_l2_norm::rows_ready(&*counters, &*norms, rows, cols, high, low, weight) {
@@ -92,11 +85,11 @@ fn add(
         return;
     }
     if !countsketch_l2_norm::rows_read(&*counters, &*norms, rows, cols, high, low) {
-        refused(9);
+        vectors::print_refusal(9);
         return;
     }
     if !countsketch_l2_norm::rows_fit(&*counters, rows, cols, high, low, weight) {
-        refused(11);
+        vectors::print_refusal(11);
     }
 }
 
@@ -114,22 +107,22 @@ fn delta(
         return;
     }
     if rows <= row {
-        refused(8);
+        vectors::print_refusal(8);
         return;
     }
     if cols <= col {
-        refused(8);
+        vectors::print_refusal(8);
         return;
     }
     if !words::in_range(count) {
         return;
     }
     if !countsketch_l2_norm::cell_read(&*counters, &*norms, rows, cols, row, col) {
-        refused(9);
+        vectors::print_refusal(9);
         return;
     }
     if !countsketch_l2_norm::cell_fits(&*counters, rows, cols, row, col, count) {
-        refused(11);
+        vectors::print_refusal(11);
         return;
     }
     countsketch_l2_norm::apply_delta(counters, norms, rows, cols, row, col, count);
@@ -141,15 +134,14 @@ fn l2(norms: &[u64], rows: usize, cols: usize) {
         return;
     }
     if !countsketch_l2_norm::norms_in(norms, rows, cols) {
-        refused(9);
+        vectors::print_refusal(9);
         return;
     }
     vectors::print(float64::to_bits(countsketch_l2_norm::l2_squared(norms, rows)));
     vectors::print(float64::to_bits(countsketch_l2_norm::l2(norms, rows)));
 }
 
-// A digest of the first n counters: the polynomial of their words at 65,599, modulo the greatest
-// prime below 2^32.
+// A digest of the first n counters.
 fn digest(counters: &[i64], n: usize) -> u64 {
     let mut d: u64 = 0;
     let mut i = 0;
@@ -157,7 +149,7 @@ fn digest(counters: &[i64], n: usize) -> u64 {
         if counters.len() <= i {
             return d;
         }
-        d = (d * 65599 + vectors::unsigned(counters[i]) % 4294967291) % 4294967291;
+        d = vectors::mixed(d, vectors::unsigned(counters[i]));
         i += 1;
     }
     d
@@ -202,15 +194,15 @@ fn merge(counters: &mut [i64], norms: &mut [u64], other: &[i64], rows: usize, co
         return;
     }
     if !countsketch_l2_norm::all_in(&*counters) {
-        refused(9);
+        vectors::print_refusal(9);
         return;
     }
     if !countsketch_l2_norm::all_in(other) {
-        refused(9);
+        vectors::print_refusal(9);
         return;
     }
     if !countsketch_l2_norm::sums_fit(&*counters, other) {
-        refused(11);
+        vectors::print_refusal(11);
         return;
     }
     countsketch_l2_norm::merge(counters, norms, other, rows, cols);
@@ -238,21 +230,10 @@ struct Call {
 }
 
 fn next() -> Call {
-    let mut head = [0u8; 34];
-    if !vectors::read(&mut head, 2) {
-        return Call {
-            op: 0,
-            a: 0,
-            b: 0,
-            c: 0,
-        };
-    }
-    let op = vectors::word(&head, 0);
-    let many = vectors::word(&head, 1) as usize;
     let mut text = [0u8; 51];
-    let got = vectors::read(&mut text, many);
+    let line = vectors::next(&mut text);
     Call {
-        op: if got { op } else { 0 },
+        op: line.op,
         a: vectors::word(&text, 0),
         b: vectors::word(&text, 1),
         c: vectors::word(&text, 2),

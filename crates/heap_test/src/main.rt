@@ -25,14 +25,6 @@ fn print_two(a: u64, b: u64) {
     vectors::print(b);
 }
 
-fn print_flag(b: bool) {
-    if b {
-        vectors::print(1);
-        return;
-    }
-    vectors::print(0);
-}
-
 // 1: a new heap.
 fn new(entries: &mut [u64; 64], counts: &mut [i64; 16], size: usize) -> Lone {
     *entries = [0u64; 64];
@@ -91,7 +83,7 @@ fn offer(entries: &mut [u64], counts: &mut [i64], h: Lone, w: Who, v: i64) -> Lo
 
 // What an offer answered, the length, and the root.
 fn report(a: Answer, len: usize, key: u64, count: i64) {
-    print_flag(heap::kept(a));
+    vectors::print_flag(heap::kept(a));
     print_answer(a);
     vectors::print(len as u64);
     print_two(key, vectors::unsigned(count));
@@ -132,7 +124,7 @@ fn show_entry(w: Who, n: i64) {
 fn in_range(counts: &[i64; 16], h: Lone) {
     let len = h.len;
     if len <= 16 {
-        print_flag(heap::counts_in_range(counts, len));
+        vectors::print_flag(heap::counts_in_range(counts, len));
     }
 }
 
@@ -178,17 +170,12 @@ fn step(entries: &mut [u64; 64], counts: &mut [i64; 16], h: Lone) -> Lone {
         len: h.len,
         more: false,
     };
-    let mut head = [0u8; 34];
-    if !vectors::read(&mut head, 2) {
-        return end;
-    }
-    let op = vectors::word(&head, 0);
-    let many = vectors::word(&head, 1) as usize;
     let mut text = [0u8; 85];
-    if !vectors::read(&mut text, many) {
+    let line = vectors::next(&mut text);
+    if line.op == 0 {
         return end;
     }
-    run(entries, counts, h, op, &text)
+    run(entries, counts, h, line.op, &text)
 }
 
 fn main() {

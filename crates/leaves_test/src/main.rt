@@ -13,14 +13,7 @@ fn mask_bits(cols: usize) {
     let m = matrix_storage::cols_mask_bits(cols);
     match m {
         MaskBits::Bits(bits) => vectors::print(bits as u64),
-        MaskBits::Refused(n) => refused(n),
-    }
-}
-
-// A refusal is printed as its number in the top byte, which no answer here has.
-fn refused(n: u64) {
-    if n < 256 {
-        vectors::print(n * 0x100_0000_0000_0000);
+        MaskBits::Refused(n) => vectors::print_refusal(n),
     }
 }
 
@@ -32,7 +25,7 @@ fn cell(high: u64, low: u64, row: usize, rows: usize, cols: usize) {
             vectors::print(column as u64);
             vectors::print(vectors::unsigned(sign));
         }
-        Cell::Refused(n) => refused(n),
+        Cell::Refused(n) => vectors::print_refusal(n),
     }
 }
 
@@ -104,17 +97,12 @@ fn run(op: u64, many: usize, text: &[u8]) {
 
 // One line: false at the end of the input.
 fn step() -> bool {
-    let mut head = [0u8; 34];
-    if !vectors::read(&mut head, 2) {
-        return false;
-    }
-    let op = vectors::word(&head, 0);
-    let many = vectors::word(&head, 1) as usize;
     let mut text = [0u8; 340];
-    if !vectors::read(&mut text, many) {
+    let line = vectors::next(&mut text);
+    if line.op == 0 {
         return false;
     }
-    run(op, many, &text);
+    run(line.op, line.many, &text);
     true
 }
 

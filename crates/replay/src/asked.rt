@@ -1,4 +1,4 @@
-// What changes nothing: answers, and whether two relays hold the same.
+// What changes nothing: answers, the state check, and whether two relays hold the same.
 use crate::Call;
 use crate::digest::say;
 use crate::heads::header_of;
@@ -13,9 +13,9 @@ use crate::shelf::SEATS;
 use crate::shelf::SECOND;
 use crate::shelf::SECOND_COUNTERS;
 use crate::shelf::SECOND_NORMS;
+use crate::shelf::copy;
 use crate::shelf::get;
 use crate::shelf::lent;
-use crate::shelf::take;
 use crate::shelf::take_signed;
 use estimates::Answer;
 use header::BottomLayer;
@@ -27,7 +27,7 @@ fn print_answer(a: Answer) {
     vectors::print(float64::to_bits(a.value));
 }
 
-// The k-th g, each twice: of the keys whose count is above the threshold, and of every key.
+// The g of the k-th sum: each is summed twice, without and with every key.
 fn g_of(k: u64) -> G {
     if k < 2 {
         return G::One;
@@ -64,8 +64,8 @@ fn answers(h: Header, counters: &[i64], norms: &[u64], entries: &[u64], counts: 
     vectors::print(float64::to_bits(p.cardinality));
 }
 
-// Whether the relay at work passes the state check; 11 prints its answers too.
-pub fn passes(op: u64, shelf: &[u64]) -> bool {
+// 11 prints the answers of the relay at work. Any other operation asks whether it passes the state check.
+pub fn ask(op: u64, shelf: &[u64]) -> bool {
     let c = lent(shelf, 0, 44, CELLS);
     let w = lent(shelf, 0, 45, NORM_WORDS);
     let e = lent(shelf, 0, 46, ENTRY_WORDS);
@@ -75,8 +75,8 @@ pub fn passes(op: u64, shelf: &[u64]) -> bool {
     let mut entries = [0u64; ENTRY_WORDS];
     let mut counts = [0i64; SEATS];
     take_signed(shelf, COUNTERS, &mut counters);
-    take(shelf, NORMS, &mut norms);
-    take(shelf, ENTRIES, &mut entries);
+    copy(shelf, NORMS, &mut norms, 0, w);
+    copy(shelf, ENTRIES, &mut entries, 0, e);
     take_signed(shelf, COUNTS, &mut counts);
     let h = header_of(shelf, 0);
     let cs = &counters[..c];
@@ -110,24 +110,25 @@ pub fn same(shelf: &[u64]) -> bool {
     if !alike(shelf, 44, SECOND + 44, 2) {
         return false;
     }
-    if !alike(shelf, COUNTERS, SECOND_COUNTERS, get(shelf, 44, 0) as usize) {
+    if !alike(shelf, COUNTERS, SECOND_COUNTERS, get(shelf, 0, 44) as usize) {
         return false;
     }
-    alike(shelf, NORMS, SECOND_NORMS, get(shelf, 44, 1) as usize)
+    alike(shelf, NORMS, SECOND_NORMS, get(shelf, 0, 45) as usize)
 }
 
-// 16: the refusal of a shape. 17: a bottom layer, or its refusal.
-pub fn bare(call: Call) {
-    if call.op == 16 {
-        let n = header::check_shape(
-            call.a as usize,
-            call.b as usize,
-            call.c as usize,
-            call.d as usize,
-        );
-        say(n, false, 0);
-        return;
-    }
+// 16: the refusal of a shape.
+pub fn shape(call: Call) {
+    let n = header::check_shape(
+        call.a as usize,
+        call.b as usize,
+        call.c as usize,
+        call.d as usize,
+    );
+    say(n, false, 0);
+}
+
+// 17: a bottom layer, or its refusal.
+pub fn bottom(call: Call) {
     let b = header::bottom_layer_for_hash(call.a, call.b as usize);
     match b {
         BottomLayer::At(l) => say(0, false, l as u64),

@@ -1,7 +1,7 @@
 // The calls that change a relay. Each says the refusal's number, whether what is left passes the state check,
 // and a digest of it all.
 use crate::Call;
-use crate::asked::passes;
+use crate::asked::ask;
 use crate::digest::say;
 use crate::digest::whole;
 use crate::heads::header_of;
@@ -21,10 +21,9 @@ use crate::shelf::SECOND_COUNTS;
 use crate::shelf::SECOND_ENTRIES;
 use crate::shelf::SECOND_NORMS;
 use crate::shelf::WORDS;
+use crate::shelf::copy;
 use crate::shelf::lent;
-use crate::shelf::put;
 use crate::shelf::put_signed;
-use crate::shelf::take;
 use crate::shelf::take_signed;
 use header::Answered;
 use header::Header;
@@ -46,7 +45,7 @@ fn count_of(n: u64) -> i32 {
     -1 - (0xffff_ffff - low) as i32
 }
 
-// Where a record starts.
+// Where the record of a place starts.
 pub fn record_at(a: u64) -> usize {
     (a % 256) as usize * 40 + RECORDS
 }
@@ -63,7 +62,7 @@ fn recorded(
     shelf: &[u64],
 ) -> Answered {
     let mut record = [0u64; 80];
-    take(shelf, record_at(call.a), &mut record);
+    copy(shelf, record_at(call.a), &mut record, 0, 80);
     let n = lent(shelf, WORDS, 1, 80);
     let words = &record[..n];
     if call.op == 4 {
@@ -96,23 +95,6 @@ fn recorded(
     univmon::update_weighted(h, counters, norms, entries, counts, words, weight)
 }
 
-// 5, 6, 7: the calls on a header alone. No other changes anything.
-fn headed(call: Call, h: Header) -> Answered {
-    if call.op == 5 {
-        return univmon::set_total_weight(h, call.a);
-    }
-    if call.op == 6 {
-        return univmon::mark_layer_candidates_incomplete(h, call.a as usize);
-    }
-    if call.op == 7 {
-        return univmon::mark_candidates_incomplete(h);
-    }
-    Answered {
-        refusal: 0,
-        header: h,
-    }
-}
-
 // 9: the second relay comes into the one at work.
 fn merge(
     h: Header,
@@ -131,8 +113,8 @@ fn merge(
     let mut other_entries = [0u64; ENTRY_WORDS];
     let mut other_counts = [0i64; SEATS];
     take_signed(shelf, SECOND_COUNTERS, &mut other_counters);
-    take(shelf, SECOND_NORMS, &mut other_norms);
-    take(shelf, SECOND_ENTRIES, &mut other_entries);
+    copy(shelf, SECOND_NORMS, &mut other_norms, 0, w);
+    copy(shelf, SECOND_ENTRIES, &mut other_entries, 0, e);
     take_signed(shelf, SECOND_COUNTS, &mut other_counts);
     univmon_merge::merge(
         h,
@@ -148,8 +130,9 @@ fn merge(
     )
 }
 
-// A call on the slices that are lent. 1: a fresh relay. 8: nothing counted any more.
-fn one(
+// A call on the slices that are lent, which are filled from the shelf. 1: a fresh relay. 5, 6, 7: the calls on
+// a header alone. 8: nothing counted any more.
+fn on_lent(
     call: Call,
     counters: &mut [i64],
     norms: &mut [u64],
@@ -158,8 +141,8 @@ fn one(
     shelf: &[u64],
 ) -> Answered {
     take_signed(shelf, COUNTERS, counters);
-    take(shelf, NORMS, norms);
-    take(shelf, ENTRIES, entries);
+    copy(shelf, NORMS, norms, 0, NORM_WORDS);
+    copy(shelf, ENTRIES, entries, 0, ENTRY_WORDS);
     take_signed(shelf, COUNTS, counts);
     let h = header_of(shelf, 0);
     let op = call.op;
@@ -174,10 +157,12 @@ fn one(
             entries,
             counts,
         ),
-        2..=4 => recorded(call, h, counters, norms, entries, counts, shelf),
+        5 => univmon::set_total_weight(h, call.a),
+        6 => univmon::mark_layer_candidates_incomplete(h, call.a as usize),
+        7 => univmon::mark_candidates_incomplete(h),
         8 => univmon::clear(h, counters, norms, entries, counts),
         9 => merge(h, counters, norms, entries, counts, shelf),
-        _ => headed(call, h),
+        _ => recorded(call, h, counters, norms, entries, counts, shelf),
     }
 }
 
@@ -191,7 +176,7 @@ pub fn run(call: Call, shelf: &mut [u64]) {
     let mut norms = [0u64; NORM_WORDS];
     let mut entries = [0u64; ENTRY_WORDS];
     let mut counts = [0i64; SEATS];
-    let out = one(
+    let out = on_lent(
         call,
         &mut counters[..c],
         &mut norms[..w],
@@ -199,11 +184,11 @@ pub fn run(call: Call, shelf: &mut [u64]) {
         &mut counts[..k],
         &*shelf,
     );
-    put_signed(shelf, COUNTERS, &counters, c);
-    put(shelf, NORMS, &norms, w);
-    put(shelf, ENTRIES, &entries, e);
-    put_signed(shelf, COUNTS, &counts, k);
+    put_signed(&counters, shelf, COUNTERS, c);
+    copy(&norms, 0, shelf, NORMS, w);
+    copy(&entries, 0, shelf, ENTRIES, e);
+    put_signed(&counts, shelf, COUNTS, k);
     let words = words_of(out.header);
-    put(shelf, 0, &words, 44);
-    say(out.refusal, passes(call.op, &*shelf), whole(&*shelf));
+    copy(&words, 0, shelf, 0, 44);
+    say(out.refusal, ask(call.op, &*shelf), whole(&*shelf));
 }

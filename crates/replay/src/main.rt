@@ -1,6 +1,6 @@
 // Runs stored calls on whole states and prints what they answer and leave: `stdout` holds what the oracle
 // and, where it cannot be asked, the definitions of oracle/model.py say. A line of `stdin` is an operation,
-// the number of its words, and the words.
+// the number of its words, and the words. Operations 1 to 9 change the relay at work.
 mod asked;
 mod changes;
 mod digest;
@@ -8,7 +8,6 @@ mod heads;
 mod shelf;
 
 use crate::changes::record_at;
-use crate::heads::bit_of;
 use crate::shelf::ALL;
 use crate::shelf::COUNTERS;
 use crate::shelf::COUNTS;
@@ -21,7 +20,7 @@ use crate::shelf::get;
 use crate::shelf::set;
 use crate::shelf::shift;
 
-// An operation and its first words; operation 0 is the end of the input.
+// An operation and its first seven words; operation 0 is the end of the input.
 pub struct Call {
     pub op: u64,
     pub a: u64,
@@ -59,7 +58,7 @@ fn call_of(op: u64, shelf: &[u64]) -> Call {
 }
 
 // Where a slice of the relay at work starts: 0 is the header and the lengths.
-fn slice(n: u64) -> usize {
+fn slice_at(n: u64) -> usize {
     match n {
         0 => 0,
         1 => COUNTERS,
@@ -70,25 +69,27 @@ fn slice(n: u64) -> usize {
 }
 
 // Where the n-th place starts.
-fn place(n: u64) -> usize {
+fn place_at(n: u64) -> usize {
     (n % 8) as usize * PLACE
 }
 
 // One operation. 10: a word of the relay at work is set by hand. 12: whether it holds what the second one holds.
-// 13: the relay of a place stands in another too; 15: in the last. 14: a record of b words for place a.
+// 13: the relay of a place stands in another too. 14: a record of b words for place a. 15: the relay of a place
+// is the second one now. 18: the state check.
 fn turn(call: Call, shelf: &mut [u64]) {
     let op = call.op;
     match op {
-        10 => set(shelf, slice(call.a), call.b as usize, call.c),
-        12 => vectors::print(bit_of(asked::same(&*shelf))),
-        13 => shift(shelf, place(call.a), place(call.b), PLACE),
-        14 => shift(shelf, WORDS + 2, record_at(call.a), call.b as usize),
-        15 => shift(shelf, place(call.a), SECOND, PLACE),
+        10 => set(shelf, slice_at(call.a), call.b as usize, call.c),
         11 => {
-            asked::passes(op, &*shelf);
+            asked::ask(op, &*shelf);
         }
-        16 | 17 => asked::bare(call),
-        18 => vectors::print(bit_of(asked::passes(op, &*shelf))),
+        12 => vectors::print_flag(asked::same(&*shelf)),
+        13 => shift(shelf, place_at(call.a), place_at(call.b), PLACE),
+        14 => shift(shelf, WORDS + 2, record_at(call.a), call.b as usize),
+        15 => shift(shelf, place_at(call.a), SECOND, PLACE),
+        16 => asked::shape(call),
+        17 => asked::bottom(call),
+        18 => vectors::print_flag(asked::ask(op, &*shelf)),
         _ => changes::run(call, shelf),
     }
 }

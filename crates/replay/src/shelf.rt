@@ -82,39 +82,32 @@ pub fn shift(xs: &mut [u64], from: usize, to: usize, n: usize) {
     }
 }
 
-// The words from one on, as many as a slice has room for.
-pub fn take(xs: &[u64], at: usize, to: &mut [u64]) {
-    let mut i = 0;
-    while i < to.len() {
-        to[i] = get(xs, at, i);
-        i += 1;
-    }
-}
-
-pub fn take_signed(xs: &[u64], at: usize, to: &mut [i64]) {
-    let mut i = 0;
-    while i < to.len() {
-        to[i] = vectors::signed(get(xs, at, i));
-        i += 1;
-    }
-}
-
-// n words of a slice, put from one on.
-pub fn put(xs: &mut [u64], at: usize, from: &[u64], n: usize) {
+// The same from one slice to another.
+pub fn copy(xs: &[u64], from: usize, ys: &mut [u64], to: usize, n: usize) {
     let mut i = 0;
     while i < n {
-        set(xs, at, i, get(from, 0, i));
+        set(ys, to, i, get(xs, from, i));
         i += 1;
     }
 }
 
-pub fn put_signed(xs: &mut [u64], at: usize, from: &[i64], n: usize) {
+// The words from one on as signed numbers, as many as a slice has room for.
+pub fn take_signed(xs: &[u64], from: usize, ys: &mut [i64]) {
+    let mut i = 0;
+    while i < ys.len() {
+        ys[i] = vectors::signed(get(xs, from, i));
+        i += 1;
+    }
+}
+
+// n signed numbers, put as words from one on.
+pub fn put_signed(xs: &[i64], ys: &mut [u64], to: usize, n: usize) {
     let mut i = 0;
     while i < n {
-        if from.len() <= i {
+        if xs.len() <= i {
             return;
         }
-        set(xs, at, i, vectors::unsigned(from[i]));
+        set(ys, to, i, vectors::unsigned(xs[i]));
         i += 1;
     }
 }

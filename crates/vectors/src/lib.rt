@@ -1,6 +1,8 @@
 // What the test programs read and write: words of 16 hexadecimal digits, with one byte after each.
 ghost use Prim.Native.Nat.{_<_};
 
+pub const PRIME: u64 = 4294967291;
+
 // The value of a hexadecimal digit (capital letters); 0 for any other byte.
 fn digit(b: u8) -> u64
     ensures { λ r. ⌜ r < 16 ⌝ }
@@ -96,4 +98,26 @@ pub fn next(text: &mut [u8]) -> Line {
 pub fn print(n: u64) {
     io::print_hex(1, n, 16);
     io::write_all(1, b"\n");
+}
+
+// Writes 1 for true, 0 for false.
+pub fn print_flag(b: bool) {
+    if b {
+        print(1);
+        return;
+    }
+    print(0);
+}
+
+// Writes a refusal: its number in the top byte of a word.
+pub fn print_refusal(n: u64) {
+    if n < 256 {
+        print(n * 0x100_0000_0000_0000);
+    }
+}
+
+// The digest of some words, from that of all but the last: the value of their polynomial at 65,599, modulo
+// the greatest prime below 2^32.
+pub fn mixed(d: u64, last: u64) -> u64 {
+    (d % PRIME * 65599 + last % PRIME) % PRIME
 }

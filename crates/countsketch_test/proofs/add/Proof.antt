@@ -20,8 +20,8 @@ held-requires c κs = search needs
 returns : tie.Need-returns
 returns c = search needs
 
-refused-requires : tie.Need-refused-requires
-refused-requires c κs = search needs
+print-refusal-requires : tie.Need-print-refusal-requires
+print-refusal-requires c κs = search needs
 
 returns-2 : tie.Need-returns-2
 returns-2 c = search needs
@@ -64,8 +64,8 @@ returns-3 c = search needs
 rows-read-requires : tie.Need-rows-read-requires
 rows-read-requires c κs = let l = lent (c .before .before .before .before .before .before .before) in (l .0, (l .1 .0, l .1 .1))
 
-refused-requires-2 : tie.Need-refused-requires-2
-refused-requires-2 c κs = search needs
+print-refusal-requires-2 : tie.Need-print-refusal-requires-2
+print-refusal-requires-2 c κs = search needs
 
 same-length-3 : tie.Need-same-length-3
 same-length-3 c = search needs
@@ -82,8 +82,8 @@ rows-fit-requires c κs =
     let l = lent (c .before .before .before .before .before .before .before .before .before .before) in
     (l .0, ((l .1 .0, c .before .before .before .before .before .before .before .before .before .if2 .left), read-cells (a .cols) (hash (c .before .before .before .before .before .before .before .before .before .before .before .before .before)) (sketch (c .before .before .before .before .before .before .before .before .before .before .before .before .before)) (a .rows) 0 (sym (c .before .before .rows-read .ensures) ∙ not-false _ (c .before .if4 .left))))
 
-refused-requires-3 : tie.Need-refused-requires-3
-refused-requires-3 c κs = search needs
+print-refusal-requires-3 : tie.Need-print-refusal-requires-3
+print-refusal-requires-3 c κs = search needs
 
 same-length-5 : tie.Need-same-length-5
 same-length-5 c = search needs
@@ -104,29 +104,4 @@ returns-6 : tie.Need-returns-6
 returns-6 c = search needs
 
 pub add-spec : {M : Type 1} → statement M
-add-spec =
-    tie.close
-    (tie.spec
-    held-requires
-    returns
-    refused-requires
-    returns-2
-    rows-ready-requires
-    update-weighted-with-hash-requires
-    estimate-requires
-    same-length
-    same-length-2
-    returns-3
-    rows-read-requires
-    refused-requires-2
-    same-length-3
-    same-length-4
-    returns-4
-    rows-fit-requires
-    refused-requires-3
-    same-length-5
-    same-length-6
-    returns-5
-    same-length-7
-    same-length-8
-    returns-6)
+add-spec = tie.close (tie.spec held-requires returns print-refusal-requires returns-2 rows-ready-requires update-weighted-with-hash-requires estimate-requires same-length same-length-2 returns-3 rows-read-requires print-refusal-requires-2 same-length-3 same-length-4 returns-4 rows-fit-requires print-refusal-requires-3 same-length-5 same-length-6 returns-5 same-length-7 same-length-8 returns-6)

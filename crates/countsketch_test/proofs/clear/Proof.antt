@@ -39,16 +39,4 @@ returns : tie.Need-returns Inv-loop μ-loop
 returns c = tt
 
 pub clear-spec : {M : Type 1} → statement M
-clear-spec =
-    tie.close
-    (tie.spec
-    Inv-loop
-    μ-loop
-    loop-holds
-    mul-counters
-    slice-set-of-counters
-    add-i
-    loop-less
-    loop-again
-    same-length
-    returns)
+clear-spec = tie.close (tie.spec Inv-loop μ-loop loop-holds mul-counters slice-set-of-counters add-i loop-less loop-again same-length returns)

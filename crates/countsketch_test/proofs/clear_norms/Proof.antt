@@ -39,16 +39,4 @@ returns : tie.Need-returns Inv-loop μ-loop
 returns c = tt
 
 pub clear-norms-spec : {M : Type 1} → statement M
-clear-norms-spec =
-    tie.close
-    (tie.spec
-    Inv-loop
-    μ-loop
-    loop-holds
-    mul-norms
-    slice-write-norms
-    add-i
-    loop-less
-    loop-again
-    same-length
-    returns)
+clear-norms-spec = tie.close (tie.spec Inv-loop μ-loop loop-holds mul-norms slice-write-norms add-i loop-less loop-again same-length returns)

@@ -24,14 +24,14 @@ held-requires c κs = search needs
 returns : tie.Need-returns
 returns c = search needs
 
-refused-requires : tie.Need-refused-requires
-refused-requires c κs = search needs
+print-refusal-requires : tie.Need-print-refusal-requires
+print-refusal-requires c κs = search needs
 
 returns-2 : tie.Need-returns-2
 returns-2 c = search needs
 
-refused-requires-2 : tie.Need-refused-requires-2
-refused-requires-2 c κs = search needs
+print-refusal-requires-2 : tie.Need-print-refusal-requires-2
+print-refusal-requires-2 c κs = search needs
 
 returns-3 : tie.Need-returns-3
 returns-3 c = search needs
@@ -57,8 +57,8 @@ read c = sym (c .before .cell-read .ensures) ∙ not-false _ (c .if5 .left)
 cell-read-requires : tie.Need-cell-read-requires
 cell-read-requires c κs = let l = lent (c .before .before .before .before .before .before) in (placed (c .before .before .before .before), l .1 .1)
 
-refused-requires-3 : tie.Need-refused-requires-3
-refused-requires-3 c κs = search needs
+print-refusal-requires-3 : tie.Need-print-refusal-requires-3
+print-refusal-requires-3 c κs = search needs
 
 same-length : tie.Need-same-length
 same-length c = search needs
@@ -74,8 +74,8 @@ cell-fits-requires c κs =
     let a = c .before .before .before .before .before .before .before .before .before .before .before .before .args in
     rw (toZ-ofZ (c .before .before .before .before .before .before .before .before .before .before .before .before .fits .count)) (placed (c .before .before .before .before .before .before .before), (small (c .before .before .before .before .before), read-cell (a .cols) (a .row * a .cols + a .col) (a .row) (sketchOf (now (a .counters)) (now (a .norms)) (a .rows)) (read (c .before))))
 
-refused-requires-4 : tie.Need-refused-requires-4
-refused-requires-4 c κs = search needs
+print-refusal-requires-4 : tie.Need-print-refusal-requires-4
+print-refusal-requires-4 c κs = search needs
 
 same-length-3 : tie.Need-same-length-3
 same-length-3 c = search needs
@@ -101,28 +101,4 @@ returns-7 : tie.Need-returns-7
 returns-7 c = search needs
 
 pub delta-spec : {M : Type 1} → statement M
-delta-spec =
-    tie.close
-    (tie.spec
-    held-requires
-    returns
-    refused-requires
-    returns-2
-    refused-requires-2
-    returns-3
-    in-range-requires
-    returns-4
-    cell-read-requires
-    refused-requires-3
-    same-length
-    same-length-2
-    returns-5
-    cell-fits-requires
-    refused-requires-4
-    same-length-3
-    same-length-4
-    returns-6
-    apply-delta-requires
-    same-length-5
-    same-length-6
-    returns-7)
+delta-spec = tie.close (tie.spec held-requires returns print-refusal-requires returns-2 print-refusal-requires-2 returns-3 in-range-requires returns-4 cell-read-requires print-refusal-requires-3 same-length same-length-2 returns-5 cell-fits-requires print-refusal-requires-4 same-length-3 same-length-4 returns-6 apply-delta-requires same-length-5 same-length-6 returns-7)

@@ -1,13 +1,13 @@
 -- `countsketch_test::digest` meets its contract.
 -- Written by tools/places.py from answers.txt; assumes nothing.
-use Prim.Native.Nat.{_-_, _<_}
+use Prim.Native.Nat.{_-_, _≤_}
 use native.Mathlib.Omega.{arith}
 use borrow.Author.Needs.{needs}
 use Rattle.countsketch_test.proofs.digest.Statement.{statement}
 use Rattle.countsketch_test.proofs.digest.Tie as tie
 
 abbrev Inv-loop : tie.InvT-loop
-Inv-loop counters n d₀ i₀ d i = d < 4294967291
+Inv-loop counters n d₀ i₀ d i = i ≤ n
 
 abbrev μ-loop : tie.MeasureT-loop
 μ-loop counters n d₀ i₀ d i = n - i
@@ -18,9 +18,6 @@ loop-holds c = omega arith
 returns : tie.Need-returns Inv-loop μ-loop
 returns c = tt
 
-mul-d : tie.Need-mul-d Inv-loop μ-loop
-mul-d c = omega arith
-
 mul-unsigned : tie.Need-mul-unsigned Inv-loop μ-loop
 mul-unsigned c = search needs
 
@@ -30,8 +27,8 @@ shared-slice-copy-out-unsigned c = search needs
 unsigned-requires : tie.Need-unsigned-requires Inv-loop μ-loop
 unsigned-requires c κs = search needs
 
-add-d : tie.Need-add-d Inv-loop μ-loop
-add-d c = omega arith
+mixed-requires : tie.Need-mixed-requires Inv-loop μ-loop
+mixed-requires c κs = search needs
 
 add-i : tie.Need-add-i Inv-loop μ-loop
 add-i c = omega arith
@@ -46,19 +43,4 @@ returns-2 : tie.Need-returns-2 Inv-loop μ-loop
 returns-2 c = tt
 
 pub digest-spec : {M : Type 1} → statement M
-digest-spec =
-    tie.close
-    (tie.spec
-    Inv-loop
-    μ-loop
-    loop-holds
-    returns
-    mul-d
-    mul-unsigned
-    shared-slice-copy-out-unsigned
-    unsigned-requires
-    add-d
-    add-i
-    loop-less
-    loop-again
-    returns-2)
+digest-spec = tie.close (tie.spec Inv-loop μ-loop loop-holds returns mul-unsigned shared-slice-copy-out-unsigned unsigned-requires mixed-requires add-i loop-less loop-again returns-2)

@@ -27,8 +27,8 @@ inside c = sym (c .before .cells-in .ensures) ∙ not-false _ (c .if2 .left)
 cells-in-requires : tie.Need-cells-in-requires
 cells-in-requires c κs = let l = lent c in (l .0, l .1 .0)
 
-refused-requires : tie.Need-refused-requires
-refused-requires c κs = search needs
+print-refusal-requires : tie.Need-print-refusal-requires
+print-refusal-requires c κs = search needs
 
 returns-2 : tie.Need-returns-2
 returns-2 c = search needs
@@ -55,18 +55,4 @@ returns-3 : tie.Need-returns-3
 returns-3 c = search needs
 
 pub estimate-spec : {M : Type 1} → statement M
-estimate-spec =
-    tie.close
-    (tie.spec
-    held-requires
-    returns
-    cells-in-requires
-    refused-requires
-    returns-2
-    estimate-with-hash-requires
-    to-bits-requires
-    print-requires
-    count-with-hash-requires
-    unsigned-requires
-    print-requires-2
-    returns-3)
+estimate-spec = tie.close (tie.spec held-requires returns cells-in-requires print-refusal-requires returns-2 estimate-with-hash-requires to-bits-requires print-requires count-with-hash-requires unsigned-requires print-requires-2 returns-3)

@@ -37,5 +37,4 @@ returns-3 : tie.Need-returns-3
 returns-3 c = λ e. (shaped (c .before), (c .if2 .left, leb-true _ _ e))
 
 pub held-spec : {M : Type 1} → statement M
-held-spec =
-    tie.close (tie.spec check-hash-bits-requires returns mul-if2 returns-2 mul-result returns-3)
+held-spec = tie.close (tie.spec check-hash-bits-requires returns mul-if2 returns-2 mul-result returns-3)

@@ -54,21 +54,4 @@ returns-3 : tie.Need-returns-3 Inv-loop μ-loop
 returns-3 c = tt
 
 pub keep-spec : {M : Type 1} → statement M
-keep-spec =
-    tie.close
-    (tie.spec
-    Inv-loop
-    μ-loop
-    returns
-    loop-holds
-    same-length
-    returns-2
-    mul-x
-    shared-slice-copy-out-x
-    mul-x-2
-    slice-set-from-x
-    add-i
-    loop-less
-    loop-again
-    same-length-2
-    returns-3)
+keep-spec = tie.close (tie.spec Inv-loop μ-loop returns loop-holds same-length returns-2 mul-x shared-slice-copy-out-x mul-x-2 slice-set-from-x add-i loop-less loop-again same-length-2 returns-3)

@@ -21,8 +21,8 @@ lent c = c .before .held .ensures (not-false _ (c .if1 .left))
 norms-in-requires : tie.Need-norms-in-requires
 norms-in-requires c κs = let l = lent c in (l .0 .few, l .1 .1)
 
-refused-requires : tie.Need-refused-requires
-refused-requires c κs = search needs
+print-refusal-requires : tie.Need-print-refusal-requires
+print-refusal-requires c κs = search needs
 
 returns-2 : tie.Need-returns-2
 returns-2 c = search needs
@@ -49,18 +49,4 @@ returns-3 : tie.Need-returns-3
 returns-3 c = search needs
 
 pub l2-spec : {M : Type 1} → statement M
-l2-spec =
-    tie.close
-    (tie.spec
-    held-requires
-    returns
-    norms-in-requires
-    refused-requires
-    returns-2
-    l2-squared-requires
-    to-bits-requires
-    print-requires
-    l2-requires
-    to-bits-requires-2
-    print-requires-2
-    returns-3)
+l2-spec = tie.close (tie.spec held-requires returns norms-in-requires print-refusal-requires returns-2 l2-squared-requires to-bits-requires print-requires l2-requires to-bits-requires-2 print-requires-2 returns-3)

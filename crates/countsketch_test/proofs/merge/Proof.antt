@@ -24,8 +24,8 @@ returns-2 c = search needs
 all-in-requires : tie.Need-all-in-requires
 all-in-requires c κs = search needs
 
-refused-requires : tie.Need-refused-requires
-refused-requires c κs = search needs
+print-refusal-requires : tie.Need-print-refusal-requires
+print-refusal-requires c κs = search needs
 
 same-length : tie.Need-same-length
 same-length c = search needs
@@ -36,8 +36,8 @@ returns-3 c = search needs
 all-in-requires-2 : tie.Need-all-in-requires-2
 all-in-requires-2 c κs = search needs
 
-refused-requires-2 : tie.Need-refused-requires-2
-refused-requires-2 c κs = search needs
+print-refusal-requires-2 : tie.Need-print-refusal-requires-2
+print-refusal-requires-2 c κs = search needs
 
 same-length-2 : tie.Need-same-length-2
 same-length-2 c = search needs
@@ -57,8 +57,8 @@ theirs c = sym (c .before .all-in2 .ensures) ∙ not-false _ (c .if4 .left)
 sums-fit-requires : tie.Need-sums-fit-requires
 sums-fit-requires c κs = (c .before .before .before .before .before .before .if2 .left, (mine (c .before .before .before), theirs (c .before)))
 
-refused-requires-3 : tie.Need-refused-requires-3
-refused-requires-3 c κs = search needs
+print-refusal-requires-3 : tie.Need-print-refusal-requires-3
+print-refusal-requires-3 c κs = search needs
 
 same-length-3 : tie.Need-same-length-3
 same-length-3 c = search needs
@@ -79,25 +79,4 @@ returns-6 : tie.Need-returns-6
 returns-6 c = search needs
 
 pub merge-spec : {M : Type 1} → statement M
-merge-spec =
-    tie.close
-    (tie.spec
-    held-requires
-    returns
-    returns-2
-    all-in-requires
-    refused-requires
-    same-length
-    returns-3
-    all-in-requires-2
-    refused-requires-2
-    same-length-2
-    returns-4
-    sums-fit-requires
-    refused-requires-3
-    same-length-3
-    returns-5
-    merge-requires
-    same-length-4
-    same-length-5
-    returns-6)
+merge-spec = tie.close (tie.spec held-requires returns returns-2 all-in-requires print-refusal-requires same-length returns-3 all-in-requires-2 print-refusal-requires-2 same-length-2 returns-4 sums-fit-requires print-refusal-requires-3 same-length-3 returns-5 merge-requires same-length-4 same-length-5 returns-6)

@@ -65,25 +65,4 @@ returns-2 : tie.Need-returns-2 Inv-loop μ-loop
 returns-2 c = tt
 
 pub serve-spec : {M : Type 1} → statement M
-serve-spec =
-    tie.close
-    (tie.spec
-    Inv-loop
-    μ-loop
-    loop-holds
-    next-requires
-    same-length
-    same-length-2
-    same-length-3
-    returns
-    keep-requires
-    ask-requires
-    set-requires
-    change-requires
-    sub-turns
-    loop-less
-    loop-again
-    same-length-4
-    same-length-5
-    same-length-6
-    returns-2)
+serve-spec = tie.close (tie.spec Inv-loop μ-loop loop-holds next-requires same-length same-length-2 same-length-3 returns keep-requires ask-requires set-requires change-requires sub-turns loop-less loop-again same-length-4 same-length-5 same-length-6 returns-2)

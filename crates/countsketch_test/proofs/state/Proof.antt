@@ -63,22 +63,4 @@ returns-2 : tie.Need-returns-2 Inv-loop μ-loop
 returns-2 c = tt
 
 pub state-spec : {M : Type 1} → statement M
-state-spec =
-    tie.close
-    (tie.spec
-    Inv-loop
-    μ-loop
-    held-requires
-    returns
-    mul-n
-    digest-requires
-    print-requires
-    loop-holds
-    mul-loop
-    mul-print
-    shared-slice-read-print
-    print-requires-2
-    add-i
-    loop-less
-    loop-again
-    returns-2)
+state-spec = tie.close (tie.spec Inv-loop μ-loop held-requires returns mul-n digest-requires print-requires loop-holds mul-loop mul-print shared-slice-read-print print-requires-2 add-i loop-less loop-again returns-2)

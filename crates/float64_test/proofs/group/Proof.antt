@@ -54,22 +54,4 @@ returns-3 : tie.Need-returns-3 Inv-loop μ-loop
 returns-3 c = search needs
 
 pub group-spec : {M : Type 1} → statement M
-group-spec =
-    tie.close
-    (tie.spec
-    Inv-loop
-    μ-loop
-    slice-aggregate-read
-    read-requires
-    returns
-    slice-aggregate-word
-    word-requires
-    slice-aggregate-word-2
-    word-requires-2
-    loop-holds
-    sub-left
-    case-requires
-    returns-2
-    loop-less
-    loop-again
-    returns-3)
+group-spec = tie.close (tie.spec Inv-loop μ-loop slice-aggregate-read read-requires returns slice-aggregate-word word-requires slice-aggregate-word-2 word-requires-2 loop-holds sub-left case-requires returns-2 loop-less loop-again returns-3)

@@ -33,15 +33,4 @@ returns-2 : tie.Need-returns-2 Inv-loop μ-loop
 returns-2 c = search needs
 
 pub main-spec : {M : Type 1} → statement M
-main-spec =
-    tie.close
-    (tie.spec
-    Inv-loop
-    μ-loop
-    loop-holds
-    step-requires
-    returns
-    sub-turns
-    loop-less
-    loop-again
-    returns-2)
+main-spec = tie.close (tie.spec Inv-loop μ-loop loop-holds step-requires returns sub-turns loop-less loop-again returns-2)

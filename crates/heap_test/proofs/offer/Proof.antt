@@ -61,23 +61,4 @@ returns-5 : tie.Need-returns-5
 returns-5 c = search needs
 
 pub offer-spec : {M : Type 1} → statement M
-offer-spec =
-    tie.close
-    (tie.spec
-    returns
-    returns-2
-    returns-3
-    returns-4
-    mul-words
-    slice-relend-prefix-offer-all
-    slice-aggregate-offer-all
-    slice-relend-prefix-offer-all-2
-    slice-aggregate-offer-all-2
-    offer-all-requires
-    len-after-requires
-    slice-read-report
-    slice-copy-out-report
-    report-requires
-    same-length
-    same-length-2
-    returns-5)
+offer-spec = tie.close (tie.spec returns returns-2 returns-3 returns-4 mul-words slice-relend-prefix-offer-all slice-aggregate-offer-all slice-relend-prefix-offer-all-2 slice-aggregate-offer-all-2 offer-all-requires len-after-requires slice-read-report slice-copy-out-report report-requires same-length same-length-2 returns-5)

@@ -45,19 +45,4 @@ returns-2 : tie.Need-returns-2 Inv-loop μ-loop
 returns-2 c = search needs
 
 pub show-spec : {M : Type 1} → statement M
-show-spec =
-    tie.close
-    (tie.spec
-    Inv-loop
-    μ-loop
-    print-requires
-    returns
-    loop-holds
-    who-at-requires
-    mul-show-entry
-    element-copy-out-show-entry
-    show-entry-requires
-    add-i
-    loop-less
-    loop-again
-    returns-2)
+show-spec = tie.close (tie.spec Inv-loop μ-loop print-requires returns loop-holds who-at-requires mul-show-entry element-copy-out-show-entry show-entry-requires add-i loop-less loop-again returns-2)

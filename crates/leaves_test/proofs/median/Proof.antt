@@ -63,23 +63,4 @@ returns-2 : tie.Need-returns-2 Inv-loop μ-loop
 returns-2 c = tt
 
 pub median-spec : {M : Type 1} → statement M
-median-spec =
-    tie.close
-    (tie.spec
-    Inv-loop
-    μ-loop
-    loop-holds
-    word-requires
-    signed-requires
-    put-requires
-    add-k
-    loop-less
-    loop-again
-    median-cut-requires
-    unsigned-requires
-    print-requires
-    median-f64-requires
-    to-bits-requires
-    print-requires-2
-    returns
-    returns-2)
+median-spec = tie.close (tie.spec Inv-loop μ-loop loop-holds word-requires signed-requires put-requires add-k loop-less loop-again median-cut-requires unsigned-requires print-requires median-f64-requires to-bits-requires print-requires-2 returns returns-2)

@@ -38,5 +38,4 @@ returns-3 c =
     ((omega arith, i .0), rw (rw (toZ-ofZ (c .before .before .before .before .before .fits .v)) at (i .1)) (all-bubble (c .before .before .before .before .before .args .v) (take (c .before .before .before .before .before .args .n) (now (c .before .before .before .before .before .args .buf))) (ranged (c .before .before)) (c .before .before .before .before .before .pre .1)))
 
 pub put-spec : {M : Type 1} → statement M
-put-spec =
-    tie.close (tie.spec returns in-range-requires returns-2 insert-requires add-result returns-3)
+put-spec = tie.close (tie.spec returns in-range-requires returns-2 insert-requires add-result returns-3)

@@ -31,13 +31,4 @@ returns-2 : tie.Need-returns-2
 returns-2 c = search needs
 
 pub read-spec : {M : Type 1} → statement M
-read-spec =
-    tie.close
-    (tie.spec
-    returns
-    mul-bytes
-    slice-relend-prefix-read-full
-    slice-aggregate-read-full
-    read-full-requires
-    same-length
-    returns-2)
+read-spec = tie.close (tie.spec returns mul-bytes slice-relend-prefix-read-full slice-aggregate-read-full read-full-requires same-length returns-2)

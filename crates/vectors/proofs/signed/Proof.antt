@@ -34,5 +34,4 @@ returns-2 : tie.Need-returns-2
 returns-2 c = search needs
 
 pub signed-spec : {M : Type 1} → statement M
-signed-spec =
-    tie.close (tie.spec cast-result returns sub-result cast-result-2 sub-result-2 returns-2)
+signed-spec = tie.close (tie.spec cast-result returns sub-result cast-result-2 sub-result-2 returns-2)

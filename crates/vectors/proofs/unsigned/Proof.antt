@@ -40,5 +40,4 @@ returns-2 : tie.Need-returns-2
 returns-2 c = search needs
 
 pub unsigned-spec : {M : Type 1} → statement M
-unsigned-spec =
-    tie.close (tie.spec sub-result cast-result sub-result-2 returns cast-result-2 returns-2)
+unsigned-spec = tie.close (tie.spec sub-result cast-result sub-result-2 returns cast-result-2 returns-2)

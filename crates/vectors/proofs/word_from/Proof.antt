@@ -48,20 +48,4 @@ returns : tie.Need-returns Inv-loop μ-loop
 returns c = tt
 
 pub word-from-spec : {M : Type 1} → statement M
-word-from-spec =
-    tie.close
-    (tie.spec
-    Inv-loop
-    μ-loop
-    loop-holds
-    sub-left
-    mul-n
-    shared-slice-read-digit
-    digit-requires
-    add-n
-    add-i
-    loop-less
-    loop-again
-    loop-less-2
-    loop-again-2
-    returns)
+word-from-spec = tie.close (tie.spec Inv-loop μ-loop loop-holds sub-left mul-n shared-slice-read-digit digit-requires add-n add-i loop-less loop-again loop-less-2 loop-again-2 returns)

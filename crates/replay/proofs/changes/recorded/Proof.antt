@@ -2,7 +2,7 @@
 -- Written by tools/places.py from answers.txt; assumes nothing.
 use Prim.Native.Nat.{_≤_}
 use mathlib.Core.Path.{sym}
-use lib.ListN.{length, take}
+use lib.ListN.{length}
 use lib.Seq.{length-take-le}
 use native.Mathlib.Omega.{arith}
 use borrow.Author.Needs.{needs}
@@ -12,23 +12,23 @@ use Rattle.replay.proofs.changes.recorded.Tie as tie
 record-at-requires : tie.Need-record-at-requires
 record-at-requires c κs = search needs
 
-slice-aggregate-take : tie.Need-slice-aggregate-take
-slice-aggregate-take c = search needs
+slice-aggregate-copy : tie.Need-slice-aggregate-copy
+slice-aggregate-copy c = search needs
 
-take-requires : tie.Need-take-requires
-take-requires c κs = search needs
+copy-requires : tie.Need-copy-requires
+copy-requires c κs = search needs
 
 lent-requires : tie.Need-lent-requires
 lent-requires c κs = search needs
 
-record-fit : (c : tie.After-lent) → c .lent .result ≤ length (c .before .before .take .last .1 .1 .0)
-record-fit c = omega (arith, c .lent .ensures, c .before .before .take .kept .1 .1 .0)
+record-fit : (c : tie.After-lent) → c .lent .result ≤ length (c .before .before .copy .last .1 .1 .0)
+record-fit c = omega (arith, c .lent .ensures, c .before .before .copy .kept .1 .1 .0)
 
 array-share-prefix-record : tie.Need-array-share-prefix-record
 array-share-prefix-record c = record-fit c
 
 slice-aggregate-words : tie.Need-slice-aggregate-words
-slice-aggregate-words c = sym (length-take-le (c .before .lent .result) (c .before .before .before .take .last .1 .1 .0) (record-fit (c .before)))
+slice-aggregate-words c = sym (length-take-le (c .before .lent .result) (c .before .before .before .copy .last .1 .1 .0) (record-fit (c .before)))
 
 count-of-requires : tie.Need-count-of-requires
 count-of-requires c κs = search needs
@@ -94,4 +94,4 @@ returns-3 : tie.Need-returns-3
 returns-3 c = search needs
 
 pub recorded-spec : {M : Type 1} → statement M
-recorded-spec = tie.close (tie.spec record-at-requires slice-aggregate-take take-requires lent-requires array-share-prefix-record slice-aggregate-words count-of-requires fidelity-requires apply-delta-requires same-length same-length-2 same-length-3 same-length-4 returns signed-requires update-weighted-terminal-requires same-length-5 same-length-6 same-length-7 same-length-8 returns-2 update-weighted-requires same-length-9 same-length-10 same-length-11 same-length-12 returns-3)
+recorded-spec = tie.close (tie.spec record-at-requires slice-aggregate-copy copy-requires lent-requires array-share-prefix-record slice-aggregate-words count-of-requires fidelity-requires apply-delta-requires same-length same-length-2 same-length-3 same-length-4 returns signed-requires update-weighted-terminal-requires same-length-5 same-length-6 same-length-7 same-length-8 returns-2 update-weighted-requires same-length-9 same-length-10 same-length-11 same-length-12 returns-3)

@@ -1,23 +1,24 @@
 -- `replay::shelf::put_signed` meets its contract.
 -- Written by tools/places.py from answers.txt; assumes nothing.
 use Prim.Native.Nat.{_-_, _≤_}
-use mathlib.Core.Path.{_≡_}
-use lib.ListN.{length}
+use mathlib.Core.Path.{_≡_, refl, _∙_}
+use lib.ListN.{length, set}
+use native.Mathlib.Omega.{arith}
 use borrow.Author.Needs.{needs}
 use Rattle.replay.proofs.shelf.put_signed.Statement.{statement}
 use Rattle.replay.proofs.shelf.put_signed.Tie as tie
 
 abbrev Inv-loop : tie.InvT-loop
-Inv-loop xs₀ at from n i₀ xs i = (i ≤ n) × (length xs ≡ length xs₀)
+Inv-loop xs ys₀ to n i₀ ys i = (i ≤ n) × (length ys ≡ length ys₀)
 
 abbrev μ-loop : tie.MeasureT-loop
-μ-loop xs₀ at from n i₀ xs i = n - i
+μ-loop xs ys₀ to n i₀ ys i = n - i
 
 loop-holds : tie.Need-loop-holds Inv-loop μ-loop
-loop-holds c = search needs
+loop-holds c = (omega arith, refl)
 
 same-length : tie.Need-same-length Inv-loop μ-loop
-same-length c = search needs
+same-length c = c .before .before .loop .inv .1
 
 returns : tie.Need-returns Inv-loop μ-loop
 returns c = search needs
@@ -41,10 +42,10 @@ loop-less : tie.Need-loop-less Inv-loop μ-loop
 loop-less c = search needs
 
 loop-again : tie.Need-loop-again Inv-loop μ-loop
-loop-again c = search needs
+loop-again c = (omega arith, c .before .before .set .kept .0 ∙ c .before .before .before .before .before .before .before .before .loop .inv .1)
 
 same-length-2 : tie.Need-same-length-2 Inv-loop μ-loop
-same-length-2 c = search needs
+same-length-2 c = c .before .loop .inv .1
 
 returns-2 : tie.Need-returns-2 Inv-loop μ-loop
 returns-2 c = search needs

@@ -9,10 +9,10 @@ use Rattle.replay.proofs.shelf.take_signed.Statement.{statement}
 use Rattle.replay.proofs.shelf.take_signed.Tie as tie
 
 abbrev Inv-loop : tie.InvT-loop
-Inv-loop xs at to₀ i₀ to i = (i ≤ length to₀) × (length to ≡ length to₀)
+Inv-loop xs from ys₀ i₀ ys i = (i ≤ length ys₀) × (length ys ≡ length ys₀)
 
 abbrev μ-loop : tie.MeasureT-loop
-μ-loop xs at to₀ i₀ to i = length to₀ - i
+μ-loop xs from ys₀ i₀ ys i = length ys₀ - i
 
 loop-holds : tie.Need-loop-holds Inv-loop μ-loop
 loop-holds c = (omega arith, refl)
@@ -26,8 +26,8 @@ signed-requires c κs = search needs
 mul-t5 : tie.Need-mul-t5 Inv-loop μ-loop
 mul-t5 c = search needs
 
-slice-set-from-to : tie.Need-slice-set-from-to Inv-loop μ-loop
-slice-set-from-to c = search needs
+slice-set-from-ys : tie.Need-slice-set-from-ys Inv-loop μ-loop
+slice-set-from-ys c = search needs
 
 add-i : tie.Need-add-i Inv-loop μ-loop
 add-i c = omega (arith, c .before .before .before .loop .inv .1)
@@ -45,4 +45,4 @@ returns : tie.Need-returns Inv-loop μ-loop
 returns c = tt
 
 pub take-signed-spec : {M : Type 1} → statement M
-take-signed-spec = tie.close (tie.spec Inv-loop μ-loop loop-holds get-requires signed-requires mul-t5 slice-set-from-to add-i loop-less loop-again same-length returns)
+take-signed-spec = tie.close (tie.spec Inv-loop μ-loop loop-holds get-requires signed-requires mul-t5 slice-set-from-ys add-i loop-less loop-again same-length returns)

@@ -1,13 +1,13 @@
--- `replay::asked::passes` meets its contract.
+-- `replay::asked::ask` meets its contract.
 -- Written by tools/places.py from answers.txt; assumes nothing.
 use Prim.Native.Nat.{_≤_}
 use mathlib.Core.Path.{sym}
-use lib.ListN.{length, take}
+use lib.ListN.{length}
 use lib.Seq.{length-take-le}
 use native.Mathlib.Omega.{arith}
 use borrow.Author.Needs.{needs}
-use Rattle.replay.proofs.asked.passes.Statement.{statement}
-use Rattle.replay.proofs.asked.passes.Tie as tie
+use Rattle.replay.proofs.asked.ask.Statement.{statement}
+use Rattle.replay.proofs.asked.ask.Tie as tie
 
 lent-requires : tie.Need-lent-requires
 lent-requires c κs = search needs
@@ -27,17 +27,17 @@ slice-aggregate-take-signed c = search needs
 take-signed-requires : tie.Need-take-signed-requires
 take-signed-requires c κs = search needs
 
-slice-aggregate-take : tie.Need-slice-aggregate-take
-slice-aggregate-take c = search needs
+slice-aggregate-copy : tie.Need-slice-aggregate-copy
+slice-aggregate-copy c = search needs
 
-take-requires : tie.Need-take-requires
-take-requires c κs = search needs
+copy-requires : tie.Need-copy-requires
+copy-requires c κs = search needs
 
-slice-aggregate-take-2 : tie.Need-slice-aggregate-take-2
-slice-aggregate-take-2 c = search needs
+slice-aggregate-copy-2 : tie.Need-slice-aggregate-copy-2
+slice-aggregate-copy-2 c = search needs
 
-take-requires-2 : tie.Need-take-requires-2
-take-requires-2 c κs = search needs
+copy-requires-2 : tie.Need-copy-requires-2
+copy-requires-2 c κs = search needs
 
 slice-aggregate-take-signed-2 : tie.Need-slice-aggregate-take-signed-2
 slice-aggregate-take-signed-2 c = search needs
@@ -57,23 +57,23 @@ array-share-prefix-counters c = counters-fit (c .before .before .before .before 
 slice-aggregate-cs : tie.Need-slice-aggregate-cs
 slice-aggregate-cs c = sym (length-take-le (c .before .before .before .before .before .before .before .before .before .before .before .before .before .before .before .before .before .lent .result) (c .before .before .before .before .before .before .before .before .before .before .before .before .take-signed .last .1 .1 .0) (counters-fit (c .before .before .before .before .before .before .before .before .before .before .before .before)))
 
-norms-fit : (c : tie.After-take) → c .before .before .before .before .before .before .before .lent2 .result ≤ length (c .take .last .1 .1 .0)
-norms-fit c = omega (arith, c .before .before .before .before .before .before .before .lent2 .ensures, c .take .kept .1 .1 .0)
+norms-fit : (c : tie.After-copy) → c .before .before .before .before .before .before .before .lent2 .result ≤ length (c .copy .last .1 .1 .0)
+norms-fit c = omega (arith, c .before .before .before .before .before .before .before .lent2 .ensures, c .copy .kept .1 .1 .0)
 
 array-share-prefix-norms : tie.Need-array-share-prefix-norms
 array-share-prefix-norms c = norms-fit (c .before .before .before .before .before .before .before .before .before)
 
 slice-aggregate-ws : tie.Need-slice-aggregate-ws
-slice-aggregate-ws c = sym (length-take-le (c .before .before .before .before .before .before .before .before .before .before .before .before .before .before .before .before .before .lent2 .result) (c .before .before .before .before .before .before .before .before .before .before .take .last .1 .1 .0) (norms-fit (c .before .before .before .before .before .before .before .before .before .before)))
+slice-aggregate-ws c = sym (length-take-le (c .before .before .before .before .before .before .before .before .before .before .before .before .before .before .before .before .before .lent2 .result) (c .before .before .before .before .before .before .before .before .before .before .copy .last .1 .1 .0) (norms-fit (c .before .before .before .before .before .before .before .before .before .before)))
 
-entries-fit : (c : tie.After-take2) → c .before .before .before .before .before .before .before .before .before .lent3 .result ≤ length (c .take2 .last .1 .1 .0)
-entries-fit c = omega (arith, c .before .before .before .before .before .before .before .before .before .lent3 .ensures, c .take2 .kept .1 .1 .0)
+entries-fit : (c : tie.After-copy2) → c .before .before .before .before .before .before .before .before .before .lent3 .result ≤ length (c .copy2 .last .1 .1 .0)
+entries-fit c = omega (arith, c .before .before .before .before .before .before .before .before .before .lent3 .ensures, c .copy2 .kept .1 .1 .0)
 
 array-share-prefix-entries : tie.Need-array-share-prefix-entries
 array-share-prefix-entries c = entries-fit (c .before .before .before .before .before .before .before)
 
 slice-aggregate-es : tie.Need-slice-aggregate-es
-slice-aggregate-es c = sym (length-take-le (c .before .before .before .before .before .before .before .before .before .before .before .before .before .before .before .before .before .lent3 .result) (c .before .before .before .before .before .before .before .before .take2 .last .1 .1 .0) (entries-fit (c .before .before .before .before .before .before .before .before)))
+slice-aggregate-es c = sym (length-take-le (c .before .before .before .before .before .before .before .before .before .before .before .before .before .before .before .before .before .lent3 .result) (c .before .before .before .before .before .before .before .before .copy2 .last .1 .1 .0) (entries-fit (c .before .before .before .before .before .before .before .before)))
 
 counts-fit : (c : tie.After-take-signed2) → c .before .before .before .before .before .before .before .before .before .before .before .lent4 .result ≤ length (c .take-signed2 .last .1 .1 .0)
 counts-fit c = omega (arith, c .before .before .before .before .before .before .before .before .before .before .before .lent4 .ensures, c .take-signed2 .kept .1 .1 .0)
@@ -96,5 +96,5 @@ check-state-requires c κs = search needs
 returns-2 : tie.Need-returns-2
 returns-2 c = search needs
 
-pub passes-spec : {M : Type 1} → statement M
-passes-spec = tie.close (tie.spec lent-requires lent-requires-2 lent-requires-3 lent-requires-4 slice-aggregate-take-signed take-signed-requires slice-aggregate-take take-requires slice-aggregate-take-2 take-requires-2 slice-aggregate-take-signed-2 take-signed-requires-2 header-of-requires array-share-prefix-counters slice-aggregate-cs array-share-prefix-norms slice-aggregate-ws array-share-prefix-entries slice-aggregate-es array-share-prefix-counts slice-aggregate-ks answers-requires returns check-state-requires returns-2)
+pub ask-spec : {M : Type 1} → statement M
+ask-spec = tie.close (tie.spec lent-requires lent-requires-2 lent-requires-3 lent-requires-4 slice-aggregate-take-signed take-signed-requires slice-aggregate-copy copy-requires slice-aggregate-copy-2 copy-requires-2 slice-aggregate-take-signed-2 take-signed-requires-2 header-of-requires array-share-prefix-counters slice-aggregate-cs array-share-prefix-norms slice-aggregate-ws array-share-prefix-entries slice-aggregate-es array-share-prefix-counts slice-aggregate-ks answers-requires returns check-state-requires returns-2)

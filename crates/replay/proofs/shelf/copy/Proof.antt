@@ -1,18 +1,18 @@
--- `replay::shelf::put` meets its contract.
+-- `replay::shelf::copy` meets its contract.
 -- Written by tools/places.py from answers.txt; assumes nothing.
 use Prim.Native.Nat.{_-_, _≤_}
 use mathlib.Core.Path.{_≡_, refl, _∙_}
 use lib.ListN.{length, set}
 use native.Mathlib.Omega.{arith}
 use borrow.Author.Needs.{needs}
-use Rattle.replay.proofs.shelf.put.Statement.{statement}
-use Rattle.replay.proofs.shelf.put.Tie as tie
+use Rattle.replay.proofs.shelf.copy.Statement.{statement}
+use Rattle.replay.proofs.shelf.copy.Tie as tie
 
 abbrev Inv-loop : tie.InvT-loop
-Inv-loop xs₀ at from n i₀ xs i = (i ≤ n) × (length xs ≡ length xs₀)
+Inv-loop xs from ys₀ to n i₀ ys i = (i ≤ n) × (length ys ≡ length ys₀)
 
 abbrev μ-loop : tie.MeasureT-loop
-μ-loop xs₀ at from n i₀ xs i = n - i
+μ-loop xs from ys₀ to n i₀ ys i = n - i
 
 loop-holds : tie.Need-loop-holds Inv-loop μ-loop
 loop-holds c = (omega arith, refl)
@@ -38,5 +38,5 @@ same-length c = c .before .loop .inv .1
 returns : tie.Need-returns Inv-loop μ-loop
 returns c = search needs
 
-pub put-spec : {M : Type 1} → statement M
-put-spec = tie.close (tie.spec Inv-loop μ-loop loop-holds get-requires set-requires add-i loop-less loop-again same-length returns)
+pub copy-spec : {M : Type 1} → statement M
+copy-spec = tie.close (tie.spec Inv-loop μ-loop loop-holds get-requires set-requires add-i loop-less loop-again same-length returns)
