@@ -1,4 +1,4 @@
--- Under 01's premises no merge that may be listed is refused: the weights of relays that are not retired are apart in the list's updates. Assumes nothing.
+-- Under the premises no merge that may be listed is refused: the weights of relays that are not retired are apart in the list's updates. Assumes nothing.
 use mathlib.Core.Path.{_≡_, refl, sym, ap, _∙_, subst}
 use mathlib.Core.Logic.{_⊎_, inl, inr}
 use Prim.Native.Nat.{ℕ, zero, suc, _+_, _≤_, _<_}
