@@ -21,16 +21,17 @@
  *   1  a dimension is 0
  *   2  layers above 19
  *   3  hash bits above 128
- *   4  rows above 20, cols above 4096 or heap_size above 1024
+ *   4  rows above 20, cols above 4096 or heap size above 1024
  *   5  negative weight
- *   6  mode mixed in an update or a merge, or weight set in terminal mode
+ *   6  mode mixed in update or merge, or weight set in terminal mode
  *   7  weight would pass 2^52
  *   8  layer, row or column outside the shape
- *   9  wrong length; header out of range; something that the call reads is out of range;
- *      a number that stands for no mode, no fidelity or no g
- *   10 shapes differ in a merge
+ *   9  wrong slice length; header out of range; a cell, norm or candidate that the call reads is
+ *      out of range; a norm below the square it gives up; a number that stands for no mode,
+ *      fidelity or g
+ *   10 layers, rows, cols or heap sizes differ in merge
  *   11 a counter would leave -2^52 to 2^52
- *   12 wrong record length
+ *   12 record length wrong
  * Where several apply, the order is 9 for header, lengths and numbers, then 12, 10, 5, 8, 6, 7, 9 for
  * what is read, 11; for univmon_new 1, 2, 3, 4, 9.
  *
