@@ -169,7 +169,7 @@ univmon_bottom univmon_bottom_layer_for_hash(uint64_t hash, size_t layers);
 /* ---- whole states */
 
 /* A fresh state: every array is filled with zeros, every flag of the shape's layers is true, the mode
- * unset. Refuses 1, 2, 3, 4, 9. */
+ * unset. Reads dimensions and lengths. Refuses 1, 2, 3, 4, 9. */
 univmon_answered univmon_new(
     size_t heap_size, size_t rows, size_t cols, size_t layers,
     int64_t *counters, size_t counters_len,
@@ -177,7 +177,8 @@ univmon_answered univmon_new(
     uint64_t *entries, size_t entries_len,
     int64_t *counts, size_t counts_len);
 
-/* Nothing counted any more: as univmon_new with the header's shape. Refuses 9. */
+/* Nothing counted any more: as univmon_new with the header's shape. Reads header and lengths.
+ * Refuses 9. */
 univmon_answered univmon_clear(
     univmon_header header,
     int64_t *counters, size_t counters_len,
@@ -187,7 +188,9 @@ univmon_answered univmon_clear(
 
 /* ---- counting */
 
-/* Counts a key with a weight: it goes to layers 0 to its bottom layer. Refuses 9, 12, 5, 6, 7, 9, 11. */
+/* Counts a key with a weight: it goes to layers 0 to its bottom layer. Reads header, lengths and record,
+ * and in each of these layers the key's counters, its rows' norms and the candidates. Refuses 9, 12, 5,
+ * 6, 7, 9, 11. */
 univmon_answered univmon_update_weighted(
     univmon_header header,
     int64_t *counters, size_t counters_len,
@@ -239,7 +242,8 @@ univmon_step univmon_update_weighted_terminal_lent(
     int64_t weight);
 
 /* A change of one counter that another relay saw, with the record of the key that made it. Sets an
- * unset mode to standard and leaves the weight. Refuses 9, 12, 8, 9, 11. */
+ * unset mode to standard and leaves the weight. Reads header, lengths and record, the counter and its
+ * row's norm, and in its layer the key's counters and the candidates. Refuses 9, 12, 8, 9, 11. */
 univmon_answered univmon_apply_delta(
     univmon_header header,
     int64_t *counters, size_t counters_len,
@@ -251,7 +255,8 @@ univmon_answered univmon_apply_delta(
     uint64_t fidelity);
 
 /* Puts the other state's stream behind this one's: counters and norms by the sums of the counters,
- * candidates counted anew. The other state stays as it is. Refuses 9, 10, 6, 7, 9, 11. */
+ * candidates counted anew. The other state stays as it is. Reads both headers and lengths, every
+ * counter and every candidate of both. Refuses 9, 10, 6, 7, 9, 11. */
 univmon_answered univmon_merge(
     univmon_header header,
     int64_t *counters, size_t counters_len,
@@ -264,7 +269,7 @@ univmon_answered univmon_merge(
     const uint64_t *other_entries, size_t other_entries_len,
     const int64_t *other_counts, size_t other_counts_len);
 
-/* ---- the header alone */
+/* ---- the header alone, which is all that these read */
 
 /* Sets the weight that a relay fed by deltas believes it has seen; an unset mode becomes standard.
  * Refuses 9, 6 in terminal mode, 7. */
@@ -281,10 +286,13 @@ univmon_answered univmon_mark_layer_candidates_incomplete(univmon_header header,
 /* L1: the weight. Refuses 9. */
 univmon_answer univmon_estimate_l1(univmon_header header);
 
-/* L2, from the norms: layer 0's, or in terminal mode the root of the sum over all layers. Refuses 9. */
+/* L2, from the norms: layer 0's, or in terminal mode the root of the sum over all layers. Reads the
+ * header and these norms. Refuses 9. */
 univmon_answer univmon_estimate_l2(univmon_header header, const uint64_t *norms, size_t norms_len);
 
-/* The sum of g over the keys. With count_every_key no candidate is left out for its count. Refuses 9. */
+/* The sum of g over the keys. With count_every_key no candidate is left out for its count; without it,
+ * weight zero gives 0.0 and reads header and lengths alone. Any other sum reads every layer's candidates
+ * and the counters of their estimates, in terminal mode every norm too. Refuses 9. */
 univmon_answer univmon_estimate_g_sum(
     univmon_header header,
     const int64_t *counters, size_t counters_len,
@@ -301,7 +309,7 @@ univmon_answer univmon_estimate_cardinality(
     const uint64_t *entries, size_t entries_len,
     const int64_t *counts, size_t counts_len);
 
-/* What the panel shows: L1, L2 and cardinality. Refuses 9. */
+/* What the panel shows: L1, L2 and cardinality. Reads what these three read. Refuses 9. */
 univmon_panel univmon_panel_answer(
     univmon_header header,
     const int64_t *counters, size_t counters_len,

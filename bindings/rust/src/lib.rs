@@ -443,7 +443,8 @@ impl<'a> State<'a> {
         self.put(a)
     }
 
-    /// The same, to its bottom layer only. Refuses 9, 12, 5, 6, 7, 9, 11.
+    /// Counts a key with a weight in its bottom layer only; else as [`State::update_weighted`]. Refuses 9, 12,
+    /// 5, 6, 7, 9, 11.
     pub fn update_weighted_terminal(&mut self, record: &[u64], weight: i64) -> Result<(), Refused> {
         // SAFETY: as in `update_weighted`.
         let a = unsafe {
