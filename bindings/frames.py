@@ -106,9 +106,11 @@ def main():
         most, calls = walk(name, code[name])
         return max([most] + [depth + reach(called) for depth, called in calls])
 
-    for name in sorted(code):
-        if re.fullmatch(r"univmon_\w+", name):
+    for name in filter(re.compile(r"univmon_\w+").fullmatch, sorted(code)):
+        try:
             print(name, reach(name))
+        except RecursionError:
+            stop(f"{name} is recursive")
 
 
 main()
