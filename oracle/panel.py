@@ -24,7 +24,7 @@ ADD = re.compile(rb"\(add " + NUMBER + b" " + WEIGHT + b" " + WORD + rb"((?: \([
 
 
 class Oracle:
-    """the supplied Rust as a process"""
+    """the original Rust as a process"""
 
     def __init__(self):
         if len(sys.argv) != 2:
