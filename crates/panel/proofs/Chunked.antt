@@ -1,5 +1,5 @@
 -- A chunk on the way: what is answered so far are the answers to the lines of the part that was taken. Assumes nothing.
-use Prim.Native.Nat.{ℕ, zero, suc, min, _+_, _≤_, _<_}
+use Prim.Native.Nat.{ℕ, suc, min, _+_, _≤_, _<_}
 use mathlib.Core.Path.{_≡_, refl, sym, ap, _∙_}
 use mathlib.Core.Bool.{Bool, true, false, cond}
 use mathlib.Core.List.{List, [], _∷_, _++_, append-assoc, append-nil}
@@ -9,20 +9,12 @@ use lib.ListN.{length, take, drop, take-append-drop, length-drop}
 use lib.Seq.{take-all, take-add}
 use Rattle.words.proofs.Bools.{never}
 use Rattle.univmon.specs.Slices.{Lent}
-use Rattle.panel_lines.specs.Split.{push, chunkLines, chunkHeld, runLines, runHeld, wholeOf, Stepped, stepOf, stepped}
-use Rattle.panel_lines.proofs.Chunks.{run-lines, run-held, step-open}
+use Rattle.panel_lines.specs.Split.{push, chunkLines, chunkHeld, Stepped, stepOf, stepped}
+use Rattle.panel_lines.proofs.Chunks.{lines-append, held-append, step-open}
 use Rattle.panel_step.specs.Panel.{longest, answerLine, answersOf, Found, found, put, behind}
 use Rattle.panel_step.proofs.Runs.{first-behind, none-behind, more-behind}
 
--- ---- a part behind another
-
-seam-lines : (xs ys h : List ℕ) → chunkLines h (xs ++ ys) ≡ chunkLines h xs ++ chunkLines (chunkHeld h xs) ys
-unfolding runLines wholeOf
-seam-lines xs ys h = sym (rw (append-nil (chunkLines (chunkHeld h xs) ys), append-nil ys) at (run-lines (xs ∷ ys ∷ []) h))
-
-seam-held : (xs ys h : List ℕ) → chunkHeld h (xs ++ ys) ≡ chunkHeld (chunkHeld h xs) ys
-unfolding runHeld wholeOf
-seam-held xs ys h = sym (rw (append-nil ys) at (run-held (xs ∷ ys ∷ []) h))
+-- ---- a line of a chunk
 
 -- the part up to a newline has one line, and nothing is held after it
 record Cut (bs h g : List ℕ) (i j : ℕ) : Type 0 where
@@ -106,9 +98,9 @@ module _ (chunk line₀ : List ℕ) (held : ℕ) (r₀ : Lent) (out₀ line : Li
       let part = take (suc (x .more)) (drop at chunk) in
       let y : take next chunk ≡ take at chunk ++ part = ap (λ (q : ℕ). take q chunk) (x .place) ∙ take-add at (suc (x .more)) chunk in
       let ls : chunkLines (take held line₀) (take next chunk) ≡ done ++ (take k line′ ∷ []) =
-      rw y (seam-lines (take at chunk) part (take held line₀) ∙ ap (λ (h : List ℕ). done ++ chunkLines h part) (sym (z .rest)) ∙ ap (λ (q : List (List ℕ)). done ++ q) (x .lines)) in
+      rw y (lines-append (take at chunk) part (take held line₀) ∙ ap (λ (h : List ℕ). done ++ chunkLines h part) (sym (z .rest)) ∙ ap (λ (q : List (List ℕ)). done ++ q) (x .lines)) in
       let hs : chunkHeld (take held line₀) (take next chunk) ≡ [] =
-      rw y (seam-held (take at chunk) part (take held line₀) ∙ ap (λ (h : List ℕ). chunkHeld h part) (sym (z .rest)) ∙ x .held) in
+      rw y (held-append (take at chunk) part (take held line₀) ∙ ap (λ (h : List ℕ). chunkHeld h part) (sym (z .rest)) ∙ x .held) in
       record {
         inside = u;
         within = v;
@@ -138,9 +130,9 @@ module _ (chunk line₀ : List ℕ) (held : ℕ) (r₀ : Lent) (out₀ line : Li
       let s = step-open chunk (take n line) (take k line′) at next (omega (arith, z .within)) (sym f) in
       let y : take next chunk ≡ take at chunk ++ drop at chunk = take-all next chunk (omega (arith, s .1 .1)) ∙ sym (take-append-drop at chunk) in
       let ls : chunkLines (take held line₀) (take next chunk) ≡ done =
-      rw y (seam-lines (take at chunk) (drop at chunk) (take held line₀) ∙ ap (λ (h : List ℕ). done ++ chunkLines h (drop at chunk)) (sym (z .rest)) ∙ ap (λ (q : List (List ℕ)). done ++ q) (s .0) ∙ append-nil done) in
+      rw y (lines-append (take at chunk) (drop at chunk) (take held line₀) ∙ ap (λ (h : List ℕ). done ++ chunkLines h (drop at chunk)) (sym (z .rest)) ∙ ap (λ (q : List (List ℕ)). done ++ q) (s .0) ∙ append-nil done) in
       let hs : chunkHeld (take held line₀) (take next chunk) ≡ take k line′ =
-      rw y (seam-held (take at chunk) (drop at chunk) (take held line₀) ∙ ap (λ (h : List ℕ). chunkHeld h (drop at chunk)) (sym (z .rest)) ∙ s .1 .0) in
+      rw y (held-append (take at chunk) (drop at chunk) (take held line₀) ∙ ap (λ (h : List ℕ). chunkHeld h (drop at chunk)) (sym (z .rest)) ∙ s .1 .0) in
       record {
         inside = omega (arith, z .spare a .1);
         within = z .within;
@@ -191,10 +183,10 @@ module _ (chunk line₀ : List ℕ) (held : ℕ) (r₀ : Lent) (out₀ line : Li
       let part = take next (drop from chunk) in
       let y : take (from + next) chunk ≡ take from chunk ++ part = take-add from next chunk in
       let hs : chunkHeld (take held line₀) (take (from + next) chunk) ≡ take k line′ =
-      rw y (seam-held (take from chunk) part (take held line₀) ∙ ap (λ (h : List ℕ). chunkHeld h part) (sym (z .rest)) ∙ sym d) in
+      rw y (held-append (take from chunk) part (take held line₀) ∙ ap (λ (h : List ℕ). chunkHeld h part) (sym (z .rest)) ∙ sym d) in
       let done = chunkLines (take held line₀) (take from chunk) in
       let ls : chunkLines (take held line₀) (take (from + next) chunk) ≡ done ++ chunkLines (take n line) part =
-      rw y (seam-lines (take from chunk) part (take held line₀) ∙ ap (λ (h : List ℕ). done ++ chunkLines h part) (sym (z .rest))) in
+      rw y (lines-append (take from chunk) part (take held line₀) ∙ ap (λ (h : List ℕ). done ++ chunkLines h part) (sym (z .rest))) in
       let i : t ≡ answersOf r (chunkLines (take n line) part) .lends = ap (λ (x : Found). x .lends) e in
       record {
         inside = omega (arith, length-drop from chunk, z .inside);
