@@ -73,9 +73,9 @@ pub struct Begun {
 impl Shape {
     pub const MAX_LAYERS: usize = 19;
 
-    pub const MAX_ROWS: usize = 20;
+    pub const MAX_ROWS: usize = matrix_storage::MAX_ROWS;
 
-    pub const MAX_COLS: usize = 4096;
+    pub const MAX_COLS: usize = matrix_storage::MAX_COLS;
 
     pub const MAX_HEAP_SIZE: usize = 1024;
 
@@ -98,9 +98,14 @@ impl Shape {
         if Self::MAX_LAYERS < self.layers {
             return 2;
         }
-        let rest = matrix_storage::check_hash_bits(self.rows, self.cols);
-        if rest != 0 {
-            return rest;
+        if matrix_storage::bits_above(self.rows, self.cols) {
+            return 3;
+        }
+        if Self::MAX_ROWS < self.rows {
+            return 4;
+        }
+        if Self::MAX_COLS < self.cols {
+            return 4;
         }
         if Self::MAX_HEAP_SIZE < self.heap_size {
             return 4;
@@ -130,13 +135,11 @@ impl Shape {
 pub fn check_shape(heap_size: usize, rows: usize, cols: usize, layers: usize) -> u64
     ensures { λ r. ⌜ r ≡ shapeRefusal (record { «heap_size» = «heap_size»; rows = rows; cols = cols; layers = layers }) ⌝ }
 {
-    let shape = Shape {
-        heap_size,
-        rows,
-        cols,
-        layers,
-    };
-    shape.refusal()
+    let checked = Shape::new(heap_size, rows, cols, layers);
+    match checked {
+        CheckedShape::Good(_) => 0,
+        CheckedShape::Refused(n) => n,
+    }
 }
 
 // The last layer that a key with this bottom hash reaches, of at least one layer: as many as there
