@@ -1,4 +1,7 @@
 // Shapes, modes and headers: what a state is beside its slices, and the header's own steps.
+//
+// `check_shape`, `Shape::new` and `bottom_layer_for_hash` are public calls. The other functions are for
+// the crates of this repository, and may ask for what their callers have tested.
 ghost use mathlib.Core.Path.{_≡_};
 ghost use mathlib.Core.Bool.{Bool, true, false, _&&_};
 ghost use mathlib.Core.List.{List};
