@@ -24,7 +24,7 @@ ADD = re.compile(rb"\(add " + NUMBER + b" " + WEIGHT + b" " + WORD + rb"((?: \([
 
 
 class Oracle:
-    """the supplied Rust as a process"""
+    """the original Rust as a process"""
 
     def __init__(self):
         if len(sys.argv) != 2:
@@ -197,6 +197,11 @@ stream((512, 1, 4096, 1), 60, 30, [1], 20)
 stream((1, 20, 10, 19), 60, 30, [1, 3], 10)
 stream((8, 4, 5, 4), 80, 40, [1 << 40, (1 << 45) - 1, 3037000499, 3037000500, 1], 10)
 stream((1, 1, 1, 1), 20, 3, [1, 2], 5)
+# far more bytes of answers than of lines, and than the program writes at once: shows of 19 layers, 121 bytes each, with adds between
+put(b"(shape 26 2 8 19)")
+for i in range(400):
+    put(b"(show)" if i % 50 else own(i, 1))
+assert sum(len(answer) + 1 for answer in answers[-350:]) > 40000 > 2 * sum(len(line) + 1 for line in lines[-350:])
 # a shape that is refused, a line that is refused, and a new start
 put(b"(shape 1 1 1 0)", b"(show)", b"(shape 1 1 1 1)", b"(show)", b"(shape 3 2 4 2)")
 for line in (GOOD, b"(show)"):

@@ -269,20 +269,34 @@ true_records()
 
 # ---- 01's figures and longer sequence, by forced hashes: A with bottom hash 0, B with 2
 
+def spread(row_0, row_1):
+    """a hash with these columns of 4, and the signs of 01's figure, + and −"""
+    return (0x8000000000000000 << 64) + (row_1 << 2) + row_0
+
+
+def seated(r, l):
+    """the candidates' keys and counts, in the array's order"""
+    return [(r.entry(l, i)[0], r.counts[l * r.shape[0] + i]) for i in range(r.lens[l])]
+
+
+# "A third key clears layer 0's flag, tie or not.": no two keys share a cell, so that a count is the key's own weight; the third's is below
+# the smaller of the two, equal to it (both turned away), above it (displaces it), and zero
 A, B, C = MADE_UP[:3]
-first = (0x8000000000000000 << 64) + 6
-for third in (5, 4, 1, 0):
-    force(A, 0, [first, 0])
-    force(B, 2, [first >> 1] * 2)
-    force(C, 0, [first << 3 & ((1 << 128) - 1)] * 2)
-    fresh(1, 2, 2, 4, 2)
+force(A, 0, [spread(2, 1), 0])
+force(B, 2, [spread(1, 2), spread(3, 3)])
+force(C, 0, [spread(3, 0), 0])
+for third, stays in ((3, True), (4, True), (5, False), (0, True)):
+    r = fresh(1, 2, 2, 4, 2)
     update(1, A, 5)
     answer(1)
     update(1, B, 4)
     answer(1)
+    assert seated(r, 0) == [(B, 4), (A, 5)] and seated(r, 1) == [(B, 4)] and r.flags[:2] == [True, True]
     update(1, C, third)
     answer(1)
-    assert not shelf[1].flags[0] and shelf[1].flags[1]
+    assert [r.count(0, r.hash(RECORDS[key], 0)) for key in (A, B, C)] == [5, 4, third]
+    assert seated(r, 0) == ([(B, 4), (A, 5)] if stays else [(C, 5), (A, 5)])
+    assert seated(r, 1) == [(B, 4)] and r.flags[:2] == [False, True]
 fresh(1, 2, 2, 4, 2)
 update(1, A, 0)
 update(1, B, 0)

@@ -1,6 +1,6 @@
 """What the generators of stored results share: the oracle as a process, and lines of words.
 
-The oracle is the supplied Rust, built with the one patch of `merge`; a generator is run as
+The oracle is the original Rust, built with the one patch of `merge` (original/README.md); a generator is run as
 
     python3 oracle/NAME.py PATH-OF-THE-ORACLE
 

@@ -1,8 +1,9 @@
 #!/usr/bin/env python3
 """Times the program `panel` on a long stream, beside the original on the same updates.
 
-    python3 bindings/bench/lines.py PATH-OF-THE-ORACLE [LINES]
+    python3 bindings/bench/lines.py [LINES]
 
+ORACLE is the folder in which the original is built (default /tmp/oracle); the panel is built by `rt check panel`.
 The panel reads `(add ..)` lines that spell the hashes, the original `std` commands and hashes for itself (its copies for panics are
 off). Both take turns, three each, on a file of 2,000 keys by Zipf (exponent 1), weight 1, shape 32 5 64 8; given are wall and
 processor time, the least of the three. Stops if L1, L2, cardinality or a flag differ.
@@ -15,8 +16,17 @@ import sys
 import tempfile
 import time
 
-ROOT = os.path.realpath(os.path.join(os.path.dirname(os.path.abspath(__file__)), "..", ".."))
+HERE = os.path.dirname(os.path.realpath(__file__))
+PANEL = os.path.join(HERE, "..", "..", "target", "bin", "panel")
 SHAPE, KEYS, TURNS = "32 5 64 8", 2000, 3
+
+
+def original():
+    """the original as a program, or an end that says what is missing"""
+    said = subprocess.run([os.path.join(HERE, "original")], capture_output=True, text=True)
+    if said.returncode != 0:
+        sys.exit("lines.py: " + said.stderr.strip())
+    return os.path.join(said.stdout.strip(), "oracle")
 
 
 def records(oracle):
@@ -49,7 +59,9 @@ def told(lines):
 
 
 def main():
-    oracle, many = sys.argv[1], int(sys.argv[2]) if len(sys.argv) > 2 else 1000000
+    if not os.access(PANEL, os.X_OK):
+        sys.exit("lines.py: the program panel is not built: rt check panel")
+    oracle, many = original(), int(sys.argv[1]) if len(sys.argv) > 1 else 1000000
     lines = records(oracle)
     drawn = random.Random(1).choices(range(KEYS), [1 / (k + 1) for k in range(KEYS)], k=many)
     with tempfile.TemporaryDirectory() as folder:
@@ -64,7 +76,7 @@ def main():
             f.write("l1 r\nl2 r\ncard r\nstate r\n")
         a, b = [], []
         for _ in range(TURNS):
-            a.append(run([os.path.join(ROOT, "target", "bin", "panel")], ours))
+            a.append(run([PANEL], ours))
             b.append(run([oracle], theirs))
             assert shown(a[-1][2][-1]) == told(b[-1][2]), (a[-1][2][-1], told(b[-1][2])[:3])
         for name, path, turns in (("panel", ours, a), ("original", theirs, b)):

@@ -21,18 +21,43 @@
  *   1  a dimension is 0
  *   2  layers above 19
  *   3  hash bits above 128
- *   4  rows above 20, cols above 4096 or heap_size above 1024
+ *   4  rows above 20, cols above 4096 or heap size above 1024
  *   5  negative weight
- *   6  mode mixed in an update or a merge, or weight set in terminal mode
+ *   6  mode mixed in update or merge, or weight set in terminal mode
  *   7  weight would pass 2^52
  *   8  layer, row or column outside the shape
- *   9  wrong length; header out of range; something that the call reads is out of range;
- *      a number that stands for no mode, no fidelity or no g
- *   10 shapes differ in a merge
+ *   9  wrong slice length; header out of range; a cell, norm or candidate that the call reads is
+ *      out of range; a norm below the square it gives up; a number that stands for no mode,
+ *      fidelity or g
+ *   10 layers, rows, cols or heap sizes differ in merge
  *   11 a counter would leave -2^52 to 2^52
- *   12 wrong record length
+ *   12 record length wrong
  * Where several apply, the order is 9 for header, lengths and numbers, then 12, 10, 5, 8, 6, 7, 9 for
  * what is read, 11; for univmon_new 1, 2, 3, 4, 9.
+ *
+ * STACK. What a call takes at most, arguments and answer included, rounded up with a quarter of a KiB
+ * for how the caller is compiled. Measured by bindings/stack.c in states of 19 full layers of 1,024
+ * candidates, by 20 rows of 32 columns, 9 of 4,096 and 5 of 2,048, in both modes; no input takes a call
+ * deeper, by the frames of its code (bindings/frames.py).
+ *   univmon_check_shape                        1 KiB
+ *   univmon_bottom_layer_for_hash              1 KiB
+ *   univmon_new                                1 KiB
+ *   univmon_clear                              2 KiB
+ *   univmon_update_weighted                    2 KiB
+ *   univmon_update_weighted_terminal           2 KiB
+ *   univmon_update_weighted_lent               2 KiB
+ *   univmon_update_weighted_terminal_lent      2 KiB
+ *   univmon_apply_delta                        2 KiB
+ *   univmon_merge                             36 KiB
+ *   univmon_set_total_weight                   2 KiB
+ *   univmon_mark_candidates_incomplete         1 KiB
+ *   univmon_mark_layer_candidates_incomplete   2 KiB
+ *   univmon_estimate_l1                        1 KiB
+ *   univmon_estimate_l2                        2 KiB
+ *   univmon_estimate_g_sum                    67 KiB
+ *   univmon_estimate_cardinality              67 KiB
+ *   univmon_panel_answer                      67 KiB
+ *   univmon_check_state                        1 KiB
  *
  * WHAT THE CALLER OWES. The proofs speak of every value of every argument, so no header, length,
  * number or array content needs to be right. C itself asks for this, and the library cannot test it:
@@ -144,7 +169,7 @@ univmon_bottom univmon_bottom_layer_for_hash(uint64_t hash, size_t layers);
 /* ---- whole states */
 
 /* A fresh state: every array is filled with zeros, every flag of the shape's layers is true, the mode
- * unset. Refuses 1, 2, 3, 4, 9. */
+ * unset. Reads dimensions and lengths. Refuses 1, 2, 3, 4, 9. */
 univmon_answered univmon_new(
     size_t heap_size, size_t rows, size_t cols, size_t layers,
     int64_t *counters, size_t counters_len,
@@ -152,7 +177,8 @@ univmon_answered univmon_new(
     uint64_t *entries, size_t entries_len,
     int64_t *counts, size_t counts_len);
 
-/* Nothing counted any more: as univmon_new with the header's shape. Refuses 9. */
+/* Nothing counted any more: as univmon_new with the header's shape. Reads header and lengths.
+ * Refuses 9. */
 univmon_answered univmon_clear(
     univmon_header header,
     int64_t *counters, size_t counters_len,
@@ -162,7 +188,9 @@ univmon_answered univmon_clear(
 
 /* ---- counting */
 
-/* Counts a key with a weight: it goes to layers 0 to its bottom layer. Refuses 9, 12, 5, 6, 7, 9, 11. */
+/* Counts a key with a weight: it goes to layers 0 to its bottom layer. Reads header, lengths and record,
+ * and in each of these layers the key's counters, its rows' norms and the candidates. Refuses 9, 12, 5,
+ * 6, 7, 9, 11. */
 univmon_answered univmon_update_weighted(
     univmon_header header,
     int64_t *counters, size_t counters_len,
@@ -214,7 +242,8 @@ univmon_step univmon_update_weighted_terminal_lent(
     int64_t weight);
 
 /* A change of one counter that another relay saw, with the record of the key that made it. Sets an
- * unset mode to standard and leaves the weight. Refuses 9, 12, 8, 9, 11. */
+ * unset mode to standard and leaves the weight. Reads header, lengths and record, the counter and its
+ * row's norm, and in its layer the key's counters and the candidates. Refuses 9, 12, 8, 9, 11. */
 univmon_answered univmon_apply_delta(
     univmon_header header,
     int64_t *counters, size_t counters_len,
@@ -226,7 +255,8 @@ univmon_answered univmon_apply_delta(
     uint64_t fidelity);
 
 /* Puts the other state's stream behind this one's: counters and norms by the sums of the counters,
- * candidates counted anew. The other state stays as it is. Refuses 9, 10, 6, 7, 9, 11. */
+ * candidates counted anew. The other state stays as it is. Reads both headers and lengths, every
+ * counter and every candidate of both. Refuses 9, 10, 6, 7, 9, 11. */
 univmon_answered univmon_merge(
     univmon_header header,
     int64_t *counters, size_t counters_len,
@@ -239,7 +269,7 @@ univmon_answered univmon_merge(
     const uint64_t *other_entries, size_t other_entries_len,
     const int64_t *other_counts, size_t other_counts_len);
 
-/* ---- the header alone */
+/* ---- the header alone, which is all that these read */
 
 /* Sets the weight that a relay fed by deltas believes it has seen; an unset mode becomes standard.
  * Refuses 9, 6 in terminal mode, 7. */
@@ -256,10 +286,13 @@ univmon_answered univmon_mark_layer_candidates_incomplete(univmon_header header,
 /* L1: the weight. Refuses 9. */
 univmon_answer univmon_estimate_l1(univmon_header header);
 
-/* L2, from the norms: layer 0's, or in terminal mode the root of the sum over all layers. Refuses 9. */
+/* L2, from the norms: layer 0's, or in terminal mode the root of the sum over all layers. Reads the
+ * header and these norms. Refuses 9. */
 univmon_answer univmon_estimate_l2(univmon_header header, const uint64_t *norms, size_t norms_len);
 
-/* The sum of g over the keys. With count_every_key no candidate is left out for its count. Refuses 9. */
+/* The sum of g over the keys. With count_every_key no candidate is left out for its count; without it,
+ * weight zero gives 0.0 and reads header and lengths alone. Any other sum reads every layer's candidates
+ * and the counters of their estimates, in terminal mode every norm too. Refuses 9. */
 univmon_answer univmon_estimate_g_sum(
     univmon_header header,
     const int64_t *counters, size_t counters_len,
@@ -276,7 +309,7 @@ univmon_answer univmon_estimate_cardinality(
     const uint64_t *entries, size_t entries_len,
     const int64_t *counts, size_t counts_len);
 
-/* What the panel shows: L1, L2 and cardinality. Refuses 9. */
+/* What the panel shows: L1, L2 and cardinality. Reads what these three read. Refuses 9. */
 univmon_panel univmon_panel_answer(
     univmon_header header,
     const int64_t *counters, size_t counters_len,

@@ -67,8 +67,8 @@ fn relay() -> Result<(), Refused> {
 }
 
 fn main() {
-    if let Err(Refused(n)) = relay() {
-        eprintln!("relay: refused {n}");
+    if let Err(refused) = relay() {
+        eprintln!("relay: {refused}");
         std::process::exit(1);
     }
 }

@@ -1,9 +1,18 @@
 //! UnivMon for a relay's own loop in Rust: the proved library, wrapped so that no call is unsafe.
 //!
-//! A state is a [`Header`] and four slices, held by a [`State`] that borrows them, or by an
-//! [`Owned`] that boxes them (feature `boxed`). A call that is refused answers the number of its
-//! refusal and leaves everything as it was; `univmon.h` lists the numbers.
+//! A state is a [`Header`] and four slices, held by a [`State`] that borrows them, or by an `Owned`
+//! that boxes them (feature `boxed`). Their lengths are [`Lengths`]; every call tests them.
+//!
+//! A record is what a key is counted by, `2 + 2 * layers` words: the key, its bottom hash, then for each
+//! layer from 0 the high and the low half of its 128-bit hash. The caller hashes.
+//!
+//! A call that is refused answers [`Refused`] and leaves everything as it was. Where several refusals
+//! apply, the order is 9 for header and lengths, then 12, 10, 5, 8, 6, 7, 9 for what is read, 11; for a
+//! fresh state 1, 2, 3, 4, 9. Each call says which of them it can answer, in that order.
+//!
+//! The functions take no memory but the stack, at most 128 KiB; `univmon.h` says how much each takes.
 #![no_std]
+#![deny(missing_docs)]
 
 #[cfg(feature = "boxed")]
 extern crate alloc;
@@ -15,60 +24,81 @@ mod owned;
 #[cfg(feature = "boxed")]
 pub use owned::Owned;
 
-pub const MAX_LAYERS: usize = 19;
-pub const MAX_ROWS: usize = 20;
-pub const MAX_COLS: usize = 4096;
-pub const MAX_HEAP_SIZE: usize = 1024;
+mod refused;
+pub use refused::Refused;
 
-/// The number of a refusal, 1 to 12.
-#[derive(Clone, Copy, Debug, PartialEq, Eq)]
-pub struct Refused(pub u64);
+/// The greatest number of layers.
+pub const MAX_LAYERS: usize = 19;
+/// The greatest number of rows.
+pub const MAX_ROWS: usize = 20;
+/// The greatest number of columns.
+pub const MAX_COLS: usize = 4096;
+/// The greatest number of candidates of a layer.
+pub const MAX_HEAP_SIZE: usize = 1024;
 
 /// How keys were sent to layers.
 #[derive(Clone, Copy, Debug, PartialEq, Eq)]
 pub enum Mode {
+    /// Nothing counted or set yet: 0.
     Unset,
+    /// To layers 0 to their bottom layer: 1.
     Standard,
+    /// To their bottom layer only: 2.
     Terminal,
 }
 
 /// Whether every insert of a delta's relay was promoted.
 #[derive(Clone, Copy, Debug, PartialEq, Eq)]
 pub enum Fidelity {
+    /// Every insert was.
     EveryInsert = 0,
+    /// Some were not: the layer's flag falls.
     PromotedOnly = 1,
 }
 
 /// What a sum takes of each count.
 #[derive(Clone, Copy, Debug, PartialEq, Eq)]
 pub enum G {
+    /// 1, whatever the count is.
     One = 0,
+    /// The count.
     Value = 1,
+    /// The count times itself.
     Square = 2,
 }
 
-/// Heap size, rows, columns and layers.
+/// Dimensions of a state, each at least 1; mask bits of the columns and one more, times the rows, are at
+/// most 128 hash bits.
 #[repr(C)]
 #[derive(Clone, Copy, Debug, PartialEq, Eq)]
 pub struct Shape {
+    /// Candidates of a layer, at most [`MAX_HEAP_SIZE`].
     pub heap_size: usize,
+    /// Rows of a layer's counters, at most [`MAX_ROWS`].
     pub rows: usize,
+    /// Columns of a layer's counters, at most [`MAX_COLS`].
     pub cols: usize,
+    /// Layers, at most [`MAX_LAYERS`].
     pub layers: usize,
 }
 
-/// Lengths of the four slices and of a record.
+/// Lengths of the four slices and of a record, exact.
 #[derive(Clone, Copy, Debug, PartialEq, Eq)]
 pub struct Lengths {
+    /// `layers * rows * cols` signed words, by layer, then row, then column.
     pub counters: usize,
+    /// `2 * layers * rows` words, low half then high half of each row's norm.
     pub norms: usize,
+    /// `4 * layers * heap_size` words: key, bottom hash, high and low half of the layer hash.
     pub entries: usize,
+    /// `layers * heap_size` signed words, the candidates' counts.
     pub counts: usize,
+    /// `2 + 2 * layers` words.
     pub record: usize,
 }
 
 impl Shape {
-    /// The lengths, if the dimensions are not refused.
+    /// The lengths, if a fresh state takes these dimensions. Refuses 1, 2, 3, 4.
     pub fn lengths(self) -> Result<Lengths, Refused> {
         let Shape { heap_size, rows, cols, layers } = self;
         // SAFETY: numbers in, a number out.
@@ -83,22 +113,31 @@ impl Shape {
     }
 }
 
-/// A state beside its slices, as C has it: `mode` is a number. Every value of every field is safe.
+/// A state beside its slices, as C has it: `mode` is a number. Every value of every field is safe; what
+/// is out of range is refused with 9 by the calls.
 #[repr(C)]
 #[derive(Clone, Copy, Debug, PartialEq, Eq)]
 pub struct Header {
+    /// As in [`Shape`].
     pub heap_size: usize,
+    /// As in [`Shape`].
     pub rows: usize,
+    /// As in [`Shape`].
     pub cols: usize,
+    /// As in [`Shape`].
     pub layers: usize,
+    /// The sum of the accepted weights, at most 2^52.
     pub weight: u64,
+    /// 0 unset, 1 standard, 2 terminal: [`Mode`].
     pub mode: u64,
+    /// The number of candidates of each layer, 0 past the last layer.
     pub lens: [usize; MAX_LAYERS],
+    /// A flag is true while its layer's candidates are every key sent to it; false past the last layer.
     pub flags: [bool; MAX_LAYERS],
 }
 
 impl Header {
-    /// The mode, if its number is one.
+    /// The mode, if its number stands for one.
     pub fn mode(&self) -> Option<Mode> {
         match self.mode {
             0 => Some(Mode::Unset),
@@ -108,6 +147,7 @@ impl Header {
         }
     }
 
+    /// The dimensions.
     pub fn shape(&self) -> Shape {
         Shape {
             heap_size: self.heap_size,
@@ -118,43 +158,60 @@ impl Header {
     }
 }
 
+/// A refusal and the header as it was, or 0 and the new header.
 #[repr(C)]
 #[derive(Clone, Copy, Debug, PartialEq)]
 pub struct Answered {
+    /// 0 for none.
     pub refusal: u64,
+    /// The header after the call.
     pub header: Header,
 }
 
-/// What an update on lent lengths and flags answers: weight and mode as they are after it.
+/// A refusal and weight and mode as they were, or 0 and the new ones: what an update on lent lengths and
+/// flags answers.
 #[repr(C)]
 #[derive(Clone, Copy, Debug, PartialEq, Eq)]
 pub struct Step {
+    /// 0 for none.
     pub refusal: u64,
+    /// The weight after the call.
     pub weight: u64,
+    /// The number of the mode after the call.
     pub mode: u64,
 }
 
+/// A refusal and layer 0, or 0 and the layer.
 #[repr(C)]
 #[derive(Clone, Copy, Debug, PartialEq, Eq)]
 pub struct Bottom {
+    /// 0 for none.
     pub refusal: u64,
+    /// The bottom layer.
     pub layer: usize,
 }
 
+/// A refusal and +0.0, or 0 and the answer.
 #[repr(C)]
 #[derive(Clone, Copy, Debug, PartialEq)]
 pub struct Answer {
+    /// 0 for none.
     pub refusal: u64,
+    /// The answer.
     pub value: f64,
 }
 
-/// What the panel shows.
+/// What the panel shows: a refusal and +0.0 three times, or 0 and the three answers.
 #[repr(C)]
 #[derive(Clone, Copy, Debug, PartialEq)]
 pub struct Panel {
+    /// 0 for none.
     pub refusal: u64,
+    /// [`State::estimate_l1`].
     pub l1: f64,
+    /// [`State::estimate_l2`].
     pub l2: f64,
+    /// [`State::estimate_cardinality`].
     pub cardinality: f64,
 }
 
@@ -170,7 +227,8 @@ fn value(a: Answer) -> Result<f64, Refused> {
     accepted(a.refusal).map(|()| a.value)
 }
 
-/// The last layer that a key with this bottom hash reaches.
+/// The last layer that a key with this bottom hash reaches: l - 1 for the first l from 1 to `layers` - 1
+/// whose hash bit l is 0, else `layers` - 1. Refuses 1 (no layer) and 2 (above 19).
 pub fn bottom_layer_for_hash(hash: u64, layers: usize) -> Result<usize, Refused> {
     // SAFETY: numbers in, numbers out.
     let b = unsafe { ffi::univmon_bottom_layer_for_hash(hash, layers) };
@@ -181,7 +239,54 @@ pub fn bottom_layer_for_hash(hash: u64, layers: usize) -> Result<usize, Refused>
 #[derive(Clone, Copy)]
 struct Read<'a>(&'a [i64], &'a [u64], &'a [u64], &'a [i64]);
 
-/// A state in lent slices.
+/// A state in lent slices: it allocates nothing.
+///
+/// 2 layers of 2 rows and 4 columns, with 2 candidates each:
+///
+/// ```
+/// use univmon::{Refused, Shape, State, G};
+///
+/// # fn main() -> Result<(), Refused> {
+/// let shape = Shape { heap_size: 2, rows: 2, cols: 4, layers: 2 };
+/// let (mut counters, mut norms) = ([0i64; 16], [0u64; 8]);
+/// let (mut entries, mut counts) = ([0u64; 16], [0i64; 4]);
+/// let mut state = State::new(shape, &mut counters, &mut norms, &mut entries, &mut counts)?;
+///
+/// // key 7, bottom hash 0, then the halves of the hashes of layers 0 and 1
+/// let record = [7, 0, 0x8000_0000_0000_0000, 6, 0, 0];
+/// state.update_weighted(&record, 5)?;
+/// assert_eq!(state.counters()[..8], [0, 0, 5, 0, 0, -5, 0, 0]);
+/// assert_eq!(state.estimate_l2()?, 5.0);
+/// assert_eq!(state.estimate_cardinality()?, 1.0);
+/// assert_eq!(state.estimate_g_sum(G::Square, false)?, 25.0);
+/// assert!(state.header().flags[0]);
+///
+/// // a refused call says why and changes nothing
+/// let refused = state.update_weighted(&record, -1).unwrap_err();
+/// assert_eq!(refused.to_string(), "refused 5: negative weight");
+/// assert_eq!(state.estimate_l1()?, 5.0);
+/// # Ok(())
+/// # }
+/// ```
+///
+/// The slices can be put away with the header, and lent again:
+///
+/// ```
+/// # use univmon::{Refused, Shape, State};
+/// # fn main() -> Result<(), Refused> {
+/// # let shape = Shape { heap_size: 2, rows: 2, cols: 4, layers: 2 };
+/// # let (mut counters, mut norms) = ([0i64; 16], [0u64; 8]);
+/// # let (mut entries, mut counts) = ([0u64; 16], [0i64; 4]);
+/// let mut state = State::new(shape, &mut counters, &mut norms, &mut entries, &mut counts)?;
+/// state.update_weighted_terminal(&[7, 0, 0, 0, 0, 0], 5)?;
+/// let header = state.into_header();
+///
+/// let state = State::lend(header, &mut counters, &mut norms, &mut entries, &mut counts)?;
+/// assert!(state.check());
+/// assert_eq!(state.estimate_l1()?, 5.0);
+/// # Ok(())
+/// # }
+/// ```
 #[derive(Debug)]
 pub struct State<'a> {
     header: Header,
@@ -192,7 +297,8 @@ pub struct State<'a> {
 }
 
 impl<'a> State<'a> {
-    /// A fresh state: fills the slices with zeros.
+    /// A fresh state: every slice is filled with zeros, every flag of the shape's layers is true, the mode
+    /// unset. Reads dimensions and lengths. Refuses 1, 2, 3, 4, 9.
     pub fn new(
         shape: Shape,
         counters: &'a mut [i64],
@@ -221,8 +327,8 @@ impl<'a> State<'a> {
         Ok(State { header: a.header, counters, norms, entries, counts })
     }
 
-    /// A state as an earlier `into_header` left it. Refuses dimensions and, with 9, lengths; what else
-    /// is out of range in it is refused by the calls that read it.
+    /// A state as an earlier [`State::into_header`] left it. Reads dimensions and lengths, and refuses 1, 2,
+    /// 3, 4, 9; what else is out of range in it is refused with 9 by the calls that read it.
     pub fn lend(
         header: Header,
         counters: &'a mut [i64],
@@ -238,6 +344,7 @@ impl<'a> State<'a> {
         Ok(State { header, counters, norms, entries, counts })
     }
 
+    /// The header as the last accepted call left it.
     pub fn header(&self) -> &Header {
         &self.header
     }
@@ -247,18 +354,23 @@ impl<'a> State<'a> {
         self.header
     }
 
+    /// The counters, by layer, then row, then column.
     pub fn counters(&self) -> &[i64] {
         self.counters
     }
 
+    /// The rows' norms, by layer, then row: low half, then high half.
     pub fn norms(&self) -> &[u64] {
         self.norms
     }
 
+    /// The candidates, by layer: key, bottom hash, high and low half of the layer hash; zeros past a
+    /// layer's length.
     pub fn entries(&self) -> &[u64] {
         self.entries
     }
 
+    /// The candidates' counts, by layer; zeros past a layer's length.
     pub fn counts(&self) -> &[i64] {
         self.counts
     }
@@ -281,6 +393,8 @@ impl<'a> State<'a> {
         accepted(a.refusal)
     }
 
+    /// Nothing counted any more: as [`State::new`] with the header's shape. Reads header and lengths.
+    /// Refuses 9.
     pub fn clear(&mut self) -> Result<(), Refused> {
         // SAFETY: each pointer and length is a slice's, and no two slices overlap.
         let a = unsafe {
@@ -299,8 +413,9 @@ impl<'a> State<'a> {
         self.take(a)
     }
 
-    /// Counts a key: it goes to layers 0 to its bottom layer. The header's lengths and flags are lent, so
-    /// that no header is copied.
+    /// Counts a key with a weight: it goes to layers 0 to its bottom layer. Reads header, lengths and
+    /// record, and in each of these layers the key's counters, its rows' norms and the candidates. Refuses
+    /// 9, 12, 5, 6, 7, 9, 11. The header's lengths and flags are lent, so that no header is copied.
     pub fn update_weighted(&mut self, record: &[u64], weight: i64) -> Result<(), Refused> {
         // SAFETY: each pointer and length is a slice's, and no two slices that are written overlap.
         let a = unsafe {
@@ -328,7 +443,8 @@ impl<'a> State<'a> {
         self.put(a)
     }
 
-    /// Counts a key in its bottom layer only.
+    /// Counts a key with a weight in its bottom layer only; else as [`State::update_weighted`]. Refuses 9, 12,
+    /// 5, 6, 7, 9, 11.
     pub fn update_weighted_terminal(&mut self, record: &[u64], weight: i64) -> Result<(), Refused> {
         // SAFETY: as in `update_weighted`.
         let a = unsafe {
@@ -356,7 +472,9 @@ impl<'a> State<'a> {
         self.put(a)
     }
 
-    /// A change of one counter that another relay saw.
+    /// A change of one counter that another relay saw, with the record of the key that made it. Sets an
+    /// unset mode to standard and leaves the weight. Reads header, lengths and record, the counter and its
+    /// row's norm, and in its layer the key's counters and the candidates. Refuses 9, 12, 8, 9, 11.
     pub fn apply_delta(
         &mut self,
         record: &[u64],
@@ -390,7 +508,9 @@ impl<'a> State<'a> {
         self.take(a)
     }
 
-    /// Puts the other state's stream behind this one's.
+    /// Puts the other state's stream behind this one's: counters and norms by the sums of the counters,
+    /// candidates counted anew. The other state stays as it is. Reads both headers and lengths, every
+    /// counter and every candidate of both. Refuses 9, 10, 6, 7, 9, 11.
     pub fn merge(&mut self, other: &State<'_>) -> Result<(), Refused> {
         let Read(other_counters, other_norms, other_entries, other_counts) = other.read();
         // SAFETY: each pointer and length is a slice's; `self` is borrowed alone, so that the other
@@ -420,36 +540,44 @@ impl<'a> State<'a> {
         self.take(a)
     }
 
-    /// Sets the weight that a relay fed by deltas believes it has seen.
+    /// Sets the weight that a relay fed by deltas believes it has seen; an unset mode becomes standard.
+    /// Reads the header. Refuses 9, 6 in terminal mode, 7.
     pub fn set_total_weight(&mut self, weight: u64) -> Result<(), Refused> {
         // SAFETY: values in, values out.
         let a = unsafe { ffi::univmon_set_total_weight(self.header, weight) };
         self.take(a)
     }
 
+    /// Every flag falls. Reads the header. Refuses 9.
     pub fn mark_candidates_incomplete(&mut self) -> Result<(), Refused> {
         // SAFETY: values in, values out.
         let a = unsafe { ffi::univmon_mark_candidates_incomplete(self.header) };
         self.take(a)
     }
 
+    /// One layer's flag falls. Reads the header. Refuses 9, 8.
     pub fn mark_layer_candidates_incomplete(&mut self, layer: usize) -> Result<(), Refused> {
         // SAFETY: values in, values out.
         let a = unsafe { ffi::univmon_mark_layer_candidates_incomplete(self.header, layer) };
         self.take(a)
     }
 
+    /// L1: the weight. Reads the header. Refuses 9.
     pub fn estimate_l1(&self) -> Result<f64, Refused> {
         // SAFETY: values in, values out.
         value(unsafe { ffi::univmon_estimate_l1(self.header) })
     }
 
+    /// L2, from the norms: layer 0's, or in terminal mode the root of the sum over all layers. Reads the
+    /// header and these norms. Refuses 9.
     pub fn estimate_l2(&self) -> Result<f64, Refused> {
         // SAFETY: pointer and length are the slice's.
         value(unsafe { ffi::univmon_estimate_l2(self.header, self.norms.as_ptr(), self.norms.len()) })
     }
 
-    /// The sum of g; with `count_every_key` no candidate is left out for its count.
+    /// The sum of g over the keys. With `count_every_key` no candidate is left out for its count; without
+    /// it, weight zero gives 0.0 and reads header and lengths alone. Any other sum reads every layer's
+    /// candidates and the counters of their estimates, in terminal mode every norm too. Refuses 9.
     pub fn estimate_g_sum(&self, g: G, count_every_key: bool) -> Result<f64, Refused> {
         let Read(counters, norms, entries, counts) = self.read();
         // SAFETY: each pointer and length is a slice's.
@@ -470,6 +598,7 @@ impl<'a> State<'a> {
         })
     }
 
+    /// The number of distinct keys: the sum of one with every key counted. Refuses 9.
     pub fn estimate_cardinality(&self) -> Result<f64, Refused> {
         let Read(counters, norms, entries, counts) = self.read();
         // SAFETY: each pointer and length is a slice's.
@@ -488,8 +617,9 @@ impl<'a> State<'a> {
         })
     }
 
-    /// Whether header and slices have what every accepted call keeps: lengths and ranges, each norm its
-    /// row's sum, no count below its heap parent's, unused entries zero. Goes once over each slice.
+    /// Whether header and slices have what every accepted call keeps: lengths and ranges hold, each norm is
+    /// its row's sum, no count in a layer is below its heap parent's, unused entries are zero. No for a
+    /// number that is no mode. Goes once over each slice.
     pub fn check(&self) -> bool {
         let Read(counters, norms, entries, counts) = self.read();
         // SAFETY: each pointer and length is a slice's.
@@ -508,7 +638,7 @@ impl<'a> State<'a> {
         }
     }
 
-    /// L1, L2 and cardinality.
+    /// What the panel shows: L1, L2 and cardinality. Reads what these three read. Refuses 9.
     pub fn panel_answer(&self) -> Result<Panel, Refused> {
         let Read(counters, norms, entries, counts) = self.read();
         // SAFETY: each pointer and length is a slice's.

@@ -1,4 +1,6 @@
 //! The figures of the papers through the wrapper, in lent slices.
+use std::error::Error;
+
 use univmon::{bottom_layer_for_hash, Fidelity, Header, Mode, Refused, Shape, State, G};
 
 const SHAPE: Shape = Shape { heap_size: 2, rows: 2, cols: 4, layers: 2 };
@@ -85,6 +87,46 @@ fn refusals() {
         assert_eq!(s.mark_layer_candidates_incomplete(2), Err(Refused(8)));
         assert_eq!(s.set_total_weight((1 << 52) + 1), Err(Refused(7)));
     });
+}
+
+/// The numbers and words of univmon.h's table, a wrapped line joined to the one above.
+fn table_of_the_header() -> Vec<(u64, String)> {
+    let mut table: Vec<(u64, String)> = Vec::new();
+    let text = include_str!("../../c/univmon.h");
+    let lines = text.lines().skip_while(|line| !line.starts_with(" * REFUSALS.")).skip(2);
+    for line in lines.take_while(|line| line.starts_with(" *   ")) {
+        match line[5..].split_once(' ').map(|(n, words)| (n.parse(), words.trim())) {
+            Some((Ok(n), words)) => table.push((n, words.to_string())),
+            _ => table.last_mut().unwrap().1 += &format!(" {}", line[5..].trim()),
+        }
+    }
+    table
+}
+
+#[test]
+fn refusals_have_the_headers_words() {
+    let table = table_of_the_header();
+    assert_eq!(table.iter().map(|row| row.0).collect::<Vec<_>>(), (1..=12).collect::<Vec<_>>());
+    for (n, words) in table {
+        assert_eq!(Refused(n).words(), words);
+        assert_eq!(Refused(n).to_string(), format!("refused {n}: {words}"));
+    }
+    assert_eq!(Refused(13).to_string(), "refused 13: program line unreadable, or before a shape");
+    for n in [0, 14, u64::MAX] {
+        assert_eq!(Refused(n).to_string(), format!("refused {n}: no refusal has this number"));
+    }
+}
+
+#[test]
+fn a_refusal_is_an_error() {
+    fn lengths(shape: Shape) -> Result<usize, Box<dyn Error + Send + Sync>> {
+        Ok(shape.lengths()?.counters)
+    }
+    assert_eq!(lengths(SHAPE).unwrap(), 16);
+    let error = lengths(Shape { cols: 0, ..SHAPE }).unwrap_err();
+    assert_eq!(error.to_string(), "refused 1: a dimension is 0");
+    assert_eq!(error.downcast_ref(), Some(&Refused(1)));
+    assert!(error.source().is_none());
 }
 
 #[test]

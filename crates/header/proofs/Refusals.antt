@@ -3,29 +3,22 @@ use mathlib.Core.Path.{_≡_, refl}
 use mathlib.Core.Bool.{Bool, true, false, cond, _||_}
 use Prim.Native.Nat.{ℕ, _+_, _*_}
 use native.Mathlib.Omega.{arith}
-use borrow.Author.Tests.{eqb-false, ltb-false}
+use borrow.Author.Tests.{eqb-true, eqb-false, ltb-false}
 use lib.Dec.{eqb, ltb}
 use Rattle.matrix_storage.specs.Bits.{maxRows, maxCols, hashBits, maskBits}
-use Rattle.matrix_storage.specs.Calls.{bitsRefusal}
-use Rattle.header.specs.Shape.{maxLayers, maxHeap, shapeRefusal}
+use Rattle.header.specs.Shape.{maxLayers, maxHeap, shapeRefusal, checkedShape}
 use Rattle.header.specs.Accepted.{Accepted}
 use Rattle.header.specs.declared.Shape.{Shape}
+use Rattle.header.specs.declared.CheckedShape.the-variants as checked
 
--- what is left of the tests once no dimension is 0 and the layers are few
+-- what is left of the tests once no dimension is 0
 pub shape-rest : (sh : Shape) → eqb (sh .«heap_size») 0 ≡ false → eqb (sh .rows) 0 ≡ false → eqb (sh .cols) 0 ≡ false → eqb (sh .layers) 0 ≡ false
-    → ltb maxLayers (sh .layers) ≡ false
-    → shapeRefusal sh ≡ cond (eqb (bitsRefusal (sh .rows) (sh .cols)) 0) (cond (ltb maxHeap (sh .«heap_size»)) 4 0) (bitsRefusal (sh .rows) (sh .cols))
-unfolding shapeRefusal bitsRefusal
-shape-rest sh p q r s t =
-    rw (p, q, r, s, t)
-    (go (ltb hashBits ((maskBits (sh .cols) + 1) * sh .rows)) (ltb maxRows (sh .rows)) (ltb maxCols (sh .cols)) (ltb maxHeap (sh .«heap_size»)))
-  where
-    go : (a b c d : Bool) → _≡_ {A = ℕ} (cond a 3 (cond (b || (c || d)) 4 0)) (cond (eqb (cond a 3 (cond (b || c) 4 0)) 0) (cond d 4 0) (cond a 3 (cond (b || c) 4 0)))
-    go true b c d = refl
-    go false true c d = refl
-    go false false true d = refl
-    go false false false true = refl
-    go false false false false = refl
+    → shapeRefusal sh
+    ≡ cond (ltb maxLayers (sh .layers)) 2
+    (cond (ltb hashBits ((maskBits (sh .cols) + 1) * sh .rows)) 3
+    (cond (ltb maxRows (sh .rows) || (ltb maxCols (sh .cols) || ltb maxHeap (sh .«heap_size»))) 4 0))
+unfolding shapeRefusal
+shape-rest sh p q r s = rw (p, q, r, s)
 
 pub accepted-of : (sh : Shape) → shapeRefusal sh ≡ 0 → Accepted sh
 unfolding shapeRefusal
@@ -60,3 +53,23 @@ accepted-of sh e =
           seats = omega (arith, eqb-false (sh .«heap_size») 0 pa);
           small = ltb-false maxHeap (sh .«heap_size») ps;
         }
+
+-- ---- what the constructor answers
+
+-- a shape that it hands back is the one that was asked for, and is not refused
+pub checked-good : (sh s : Shape) → checkedShape sh ≡ checked.Good s → (shapeRefusal sh ≡ 0) × (s ≡ sh)
+unfolding checkedShape
+checked-good sh s e = go (eqb (shapeRefusal sh) 0) refl e
+  where
+    go : (b : Bool) → eqb (shapeRefusal sh) 0 ≡ b → cond b (checked.Good sh) (checked.Refused (shapeRefusal sh)) ≡ checked.Good s → (shapeRefusal sh ≡ 0) × (s ≡ sh)
+    go true q z = (eqb-true (shapeRefusal sh) 0 q, cc)
+    go false q z = let w : _≡_ {A = ℕ} 0 1 = cc in absurd (omega arith)
+
+-- the number that it refuses with
+pub checked-refused : (sh : Shape) (n : ℕ) → checkedShape sh ≡ checked.Refused n → (shapeRefusal sh ≡ n) × (shapeRefusal sh ≡ 0 → ⊥)
+unfolding checkedShape
+checked-refused sh n e = go (eqb (shapeRefusal sh) 0) refl e
+  where
+    go : (b : Bool) → eqb (shapeRefusal sh) 0 ≡ b → cond b (checked.Good sh) (checked.Refused (shapeRefusal sh)) ≡ checked.Refused n → (shapeRefusal sh ≡ n) × (shapeRefusal sh ≡ 0 → ⊥)
+    go true q z = let w : _≡_ {A = ℕ} 0 1 = cc in absurd (omega arith)
+    go false q z = (cc, eqb-false (shapeRefusal sh) 0 q)

@@ -14,6 +14,7 @@ use Rattle.header.specs.declared.Mode.the-variants as mode
 use Rattle.header.specs.declared.Header.{Header}
 use Rattle.header.specs.declared.Fixed.{Fixed}
 use Rattle.header.specs.declared.Begun.{Begun}
+use Rattle.header.specs.declared.Answered.{Answered}
 
 -- ---- headers from nothing
 
@@ -52,6 +53,10 @@ withLens h ns = record { shape = h .shape; weight = h .weight; mode = h .mode; f
 -- layer l's flag and length
 abbrev pub withLayer : Header → ℕ → Bool → ℕ → Header
 withLayer h l b n = withLens (withFlags h (set (h .flags) l b)) (set (h .lens) l n)
+
+-- all flags and lengths
+abbrev pub withLayers : Header → List Bool → List ℕ → Header
+withLayers h fs ns = withLens (withFlags h fs) ns
 
 -- the header of what is lent beside lengths and flags
 abbrev pub headOf : Fixed → List Bool → List ℕ → Header
@@ -98,6 +103,11 @@ beginOf f w m =
     (cond (clash (f .mode) m) (record { refusal = 6; fixed = f })
     (cond (not (leb (f .weight + natAbs w) top)) (record { refusal = 7; fixed = f })
     (record { refusal = 0; fixed = begunFixed f (natAbs w) m })))
+
+-- "The header's own steps hand back the changed header.": the same of a whole header, whose lengths and flags stay
+unfoldable pub beginHeader : Header → ℤ → Mode → Answered
+beginHeader h w m =
+    record { refusal = beginOf (fixedOf h) w m .refusal; header = headOf (beginOf (fixedOf h) w m .fixed) (h .flags) (h .lens) }
 
 -- ---- "A header is in range if `new` accepts its dimensions, its weight is 0 to 2^52, each length is at most the heap size, and past the last layer
 -- lengths are 0 and flags false."

@@ -1,13 +1,15 @@
 // Shapes, modes and headers: what a state is beside its slices, and the header's own steps.
+//
+// `check_shape`, `Shape::new` and `bottom_layer_for_hash` are public calls. The other functions are for
+// the crates of this repository, and may ask for what their callers have tested.
 ghost use mathlib.Core.Path.{_≡_};
 ghost use mathlib.Core.Bool.{Bool, true, false, _&&_};
 ghost use mathlib.Core.List.{List};
 ghost use Prim.Native.Nat.{ℕ, _+_, _-_, _<_, _≤_};
 ghost use lib.ListN.{length, getD, set, replicate};
-ghost use Rattle.words.specs.Num.{top};
 ghost use Rattle.header.specs.declared.Mode.{Mode};
 ghost use Rattle.header.specs.Shape.{shapeRefusal, checkedShape, bottomOf, bottomLayer};
-ghost use Rattle.header.specs.Header.{zeroHeader, freshHeader, withWeight, withMode, withFlags, withLens, withLayer, headOf, fixedOf, clash, joined, beginOf, freshFlags, lensFrom, headerOk};
+ghost use Rattle.header.specs.Header.{zeroHeader, freshHeader, withWeight, withMode, withFlags, withLens, withLayer, withLayers, headOf, fixedOf, clash, joined, beginOf, beginHeader, freshFlags, lensFrom, headerOk};
 
 // 2^52, the greatest weight.
 const TOP: u64 = 4503599627370496;
@@ -73,9 +75,9 @@ pub struct Begun {
 impl Shape {
     pub const MAX_LAYERS: usize = 19;
 
-    pub const MAX_ROWS: usize = 20;
+    pub const MAX_ROWS: usize = matrix_storage::MAX_ROWS;
 
-    pub const MAX_COLS: usize = 4096;
+    pub const MAX_COLS: usize = matrix_storage::MAX_COLS;
 
     pub const MAX_HEAP_SIZE: usize = 1024;
 
@@ -98,9 +100,14 @@ impl Shape {
         if Self::MAX_LAYERS < self.layers {
             return 2;
         }
-        let rest = matrix_storage::check_hash_bits(self.rows, self.cols);
-        if rest != 0 {
-            return rest;
+        if matrix_storage::bits_above(self.rows, self.cols) {
+            return 3;
+        }
+        if Self::MAX_ROWS < self.rows {
+            return 4;
+        }
+        if Self::MAX_COLS < self.cols {
+            return 4;
         }
         if Self::MAX_HEAP_SIZE < self.heap_size {
             return 4;
@@ -130,13 +137,11 @@ impl Shape {
 pub fn check_shape(heap_size: usize, rows: usize, cols: usize, layers: usize) -> u64
     ensures { λ r. ⌜ r ≡ shapeRefusal (record { «heap_size» = «heap_size»; rows = rows; cols = cols; layers = layers }) ⌝ }
 {
-    let shape = Shape {
-        heap_size,
-        rows,
-        cols,
-        layers,
-    };
-    shape.refusal()
+    let checked = Shape::new(heap_size, rows, cols, layers);
+    match checked {
+        CheckedShape::Good(_) => 0,
+        CheckedShape::Refused(n) => n,
+    }
 }
 
 // The last layer that a key with this bottom hash reaches, of at least one layer: as many as there
@@ -293,18 +298,39 @@ impl Header {
         self
     }
 
-    // A layer's new length; its flag falls where a key was not kept. Stored in place: a copy of the
-    // header for each of the two would cost more than the rest of a layer's bookkeeping.
-    pub fn touched(mut self, layer: usize, len: usize, kept: bool) -> Self
+    // A layer's new length; its flag falls where a key was not kept. The test comes first: each way
+    // then copies the header no more than storing in place would.
+    pub fn touched(self, layer: usize, len: usize, kept: bool) -> Self
         requires { ⌜ layer < 19 ⌝ }
         ensures { λ r. ⌜ r ≡ withLayer self layer (getD (self .flags) layer false && kept) len ⌝ }
     {
-        self.lens[layer] = len;
         if kept {
-            return self;
+            return self.with_len(layer, len);
         }
-        self.flags[layer] = false;
+        self.clear_flag(layer).with_len(layer, len)
+    }
+
+    // Every length and flag anew, after a call that was lent them.
+    pub fn with_layers(mut self, lens: [usize; 19], flags: [bool; 19]) -> Self
+        ensures { λ r. ⌜ r ≡ withLayers self flags lens ⌝ }
+    {
+        self.lens = lens;
+        self.flags = flags;
         self
+    }
+
+    // Weight and mode of an update: 5, 6 or 7 and the header as it was, or 0 and the header that the
+    // update begins with.
+    pub fn begin_update(self, weight: i64, mode: Mode) -> Answered
+        ensures { λ r. ⌜ r ≡ beginHeader self weight mode ⌝ }
+    {
+        let begun = self.fixed().begin_update(weight, mode);
+        let fixed = begun.fixed;
+        let next = fixed.mode;
+        Answered {
+            refusal: begun.refusal,
+            header: self.with_weight(fixed.weight).with_mode(next),
+        }
     }
 
     // Whether dimensions, weight, lengths and flags are in range.
@@ -318,9 +344,9 @@ impl Header {
 }
 
 impl Fixed {
-    // Weight and mode of an update: 5, 6 or 7, or what the update begins with.
+    // The same without lengths and flags, which an update's beginning does not change: here it is
+    // tested, for any weight that was there.
     pub fn begin_update(self, weight: i64, mode: Mode) -> Begun
-        requires { ⌜ self .weight ≤ top ⌝ }
         ensures { λ r. ⌜ r ≡ beginOf self weight mode ⌝ }
     {
         if weight < 0 {
@@ -337,7 +363,13 @@ impl Fixed {
             };
         }
         let w = weight as u64;
-        if TOP - self.weight < w {
+        if TOP < w {
+            return Begun {
+                refusal: 7,
+                fixed: self,
+            };
+        }
+        if TOP - w < self.weight {
             return Begun {
                 refusal: 7,
                 fixed: self,

@@ -1,4 +1,6 @@
 // One layer's candidates (the Rust's `TopKHeap`): the first `len` of `size` places are used.
+//
+// These functions are called by the other crates of this repository, which show what they require.
 mod blocks;
 
 ghost use mathlib.Core.Path.{_≡_};

@@ -1,6 +1,8 @@
 // One layer's candidates as an array heap: four words for each entry, a signed count for each in a
 // second slice, the smallest count at the root. The moves are those of the Rust's `CommonHeap` under
 // `RetainLargest`; an entry's words and its count move together.
+//
+// These functions are called by the other crates of this repository, which show what they require.
 ghost use mathlib.Core.Path.{_≡_};
 ghost use Prim.Native.Nat.{ℕ, _+_, _≤_, _<_, _*_};
 ghost use mathlib.Core.Bool.{not};

@@ -41,7 +41,7 @@ hashBy w = hashOf (w .high) (w .low)
 abbrev pub countOf : Dims → Who → List ℤ → ℤ
 countOf d w cells = estimateOf (d .rows) (d .cols) (hashBy w) cells
 
--- ---- an update: the counters take it, then the key is offered with its new count; "Flags: cleared where the candidate update answers false"
+-- ---- an update: the counters take it, then the key is offered with its new count; where the offer answers false, the flag falls (scope, section 4)
 
 unfoldable pub addSketch : Dims → Item → Sketch → Sketch
 addSketch d u s = addRows (d .cols) (hashBy (u .who)) (u .weight) (d .rows) 0 s

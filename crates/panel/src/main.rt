@@ -4,17 +4,34 @@ use panel_lines::split::take_line;
 use panel_step::Told;
 use panel_step::answer_line;
 ghost use mathlib.Core.Path.{_≡_};
-ghost use Prim.Native.Nat.{ℕ, _+_, _*_, _≤_};
+ghost use Prim.Native.Nat.{ℕ, min, _+_, _≤_};
 ghost use lib.ListN.{length, take};
 ghost use Rattle.univmon.specs.Slices.{lent};
 ghost use Rattle.panel_lines.specs.Split.{chunkLines, chunkHeld};
-ghost use Rattle.panel_step.specs.Panel.{answerLine, answersOf, found, put, behind};
+ghost use Rattle.panel_step.specs.Panel.{longest, answerLine, answersOf, found, put, behind};
 
-// What is known after a chunk: the header, the bytes held of the line that goes on, the bytes of the answers.
+// The bytes that are read at once, and the most that are written at once. Larger ones save no time, and all that the program holds
+// is on the stack: these two, the slices of `main` and the working space of a sum, 167 KB in all.
+const CHUNK: usize = 16384;
+
+const ANSWERS: usize = 16384;
+
+// The longest answer, with its newline: `longest` of the definitions.
+const LONGEST: usize = 121;
+
+// What is known after a part of a chunk: the header, the bytes held of the line that goes on, the bytes of the answers, and how
+// much of the chunk was taken.
 struct Taken {
     header: Header,
     held: usize,
     len: usize,
+    next: usize,
+}
+
+// What goes on from one chunk to the next.
+struct Going {
+    header: Header,
+    held: usize,
 }
 
 // Answers the line in the first k bytes, behind the answers that `out` has up to a place.
@@ -30,10 +47,10 @@ fn reply(
     at: usize,
 ) -> Told
     requires { ⌜ k ≤ length (now line) ⌝ }
-    requires { ⌜ at + 121 ≤ length (now out) ⌝ }
+    requires { ⌜ at + longest ≤ length (now out) ⌝ }
     ensures { λ r. ⌜ found (lent (r .header) (now (counters .exit)) (now (norms .exit)) (now (entries .exit)) (now (counts .exit))) (r .len) (now (out .exit))
         ≡ behind at (answerLine (lent header (now (counters .entry)) (now (norms .entry)) (now (entries .entry)) (now (counts .entry))) (take k (now (line .entry)))) (now (out .entry)) ⌝ }
-    ensures { λ r. ⌜ r .len ≤ at + 121 ⌝ }
+    ensures { λ r. ⌜ r .len ≤ at + longest ⌝ }
 {
     let t = answer_line(
         &line[..k],
@@ -51,8 +68,8 @@ fn reply(
     }
 }
 
-// Answers the lines that end in a chunk, from the start of `out` on. No byte ends more than one line, so 121
-// bytes of `out` for each byte of the chunk are enough. What `line` has past the held bytes is left open.
+// Answers the lines that end in a chunk, from the start of `out` on, as long as the longest answer has room there; so what is taken of the
+// chunk is a part of it. What `line` has past the held bytes is left open.
 fn take_chunk(
     chunk: &[u8],
     line: &mut [u8],
@@ -66,33 +83,39 @@ fn take_chunk(
 ) -> Taken
     requires { ⌜ held ≤ 1025 ⌝ }
     requires { ⌜ 1025 ≤ length (now line) ⌝ }
-    requires { ⌜ 121 * length (now chunk) ≤ length (now out) ⌝ }
+    requires { ⌜ longest ≤ length (now out) ⌝ }
     ensures { λ r. ⌜ found (lent (r .header) (now (counters .exit)) (now (norms .exit)) (now (entries .exit)) (now (counts .exit))) (r .len) (now (out .exit))
-        ≡ put (answersOf (lent header (now (counters .entry)) (now (norms .entry)) (now (entries .entry)) (now (counts .entry))) (chunkLines (take held (now (line .entry))) (now (chunk .entry)))) (now (out .entry)) ⌝ }
-    ensures { λ r. ⌜ take (r .held) (now (line .exit)) ≡ chunkHeld (take held (now (line .entry))) (now (chunk .entry)) ⌝ }
-    ensures { λ r. ⌜ (r .held ≤ 1025) × (r .len ≤ 121 * length (now (chunk .entry))) ⌝ }
+        ≡ put (answersOf (lent header (now (counters .entry)) (now (norms .entry)) (now (entries .entry)) (now (counts .entry))) (chunkLines (take held (now (line .entry))) (take (r .next) (now (chunk .entry))))) (now (out .entry)) ⌝ }
+    ensures { λ r. ⌜ take (r .held) (now (line .exit)) ≡ chunkHeld (take held (now (line .entry))) (take (r .next) (now (chunk .entry))) ⌝ }
+    ensures { λ r. ⌜ (r .held ≤ 1025) × (r .len ≤ length (now (out .entry))) ⌝ }
+    ensures { λ r. ⌜ (min 1 (length (now (chunk .entry))) ≤ r .next) × (r .next ≤ length (now (chunk .entry))) ⌝ }
 {
     let mut at = 0;
+    let mut end = chunk.len();
     let mut n = held;
     let mut len = 0;
     let mut head = header;
-    while at < chunk.len() {
+    while at < end {
         let s = take_line(chunk, at, line, n);
         let k = s.held;
+        at = s.next;
         if s.ended {
             let t = reply(&*line, k, head, counters, norms, entries, counts, out, len);
             head = t.header;
             len = t.len;
             n = 0;
+            if out.len() - len < LONGEST {
+                end = at;
+            }
         } else {
             n = k;
         }
-        at = s.next;
     }
     Taken {
         header: head,
         held: n,
         len,
+        next: at,
     }
 }
 
@@ -102,7 +125,53 @@ fn print(s: &[u8], k: usize)
     io::write_all(1, &s[..k]);
 }
 
-// Reads the input, chunk by chunk, and writes each chunk's answers before it reads the next.
+// Answers the lines that end in a chunk, part by part, and writes each part's answers before it goes on.
+fn take_all(
+    chunk: &[u8],
+    line: &mut [u8],
+    held: usize,
+    header: Header,
+    counters: &mut [i64],
+    norms: &mut [u64],
+    entries: &mut [u64],
+    counts: &mut [i64],
+    out: &mut [u8],
+) -> Going
+    requires { ⌜ held ≤ 1025 ⌝ }
+    requires { ⌜ 1025 ≤ length (now line) ⌝ }
+    requires { ⌜ longest ≤ length (now out) ⌝ }
+    ensures { λ r. ⌜ lent (r .header) (now (counters .exit)) (now (norms .exit)) (now (entries .exit)) (now (counts .exit))
+        ≡ answersOf (lent header (now (counters .entry)) (now (norms .entry)) (now (entries .entry)) (now (counts .entry))) (chunkLines (take held (now (line .entry))) (now (chunk .entry))) .lends ⌝ }
+    ensures { λ r. ⌜ take (r .held) (now (line .exit)) ≡ chunkHeld (take held (now (line .entry))) (now (chunk .entry)) ⌝ }
+    ensures { λ r. ⌜ r .held ≤ 1025 ⌝ }
+{
+    let mut from = 0;
+    let mut n = held;
+    let mut head = header;
+    while from < chunk.len() {
+        let t = take_chunk(
+            &chunk[from..],
+            line,
+            n,
+            head,
+            counters,
+            norms,
+            entries,
+            counts,
+            out,
+        );
+        print(&*out, t.len);
+        head = t.header;
+        n = t.held;
+        from += t.next;
+    }
+    Going {
+        header: head,
+        held: n,
+    }
+}
+
+// Reads the input, chunk by chunk, and answers each chunk's lines before it reads the next.
 fn run(
     chunk: &mut [u8],
     line: &mut [u8],
@@ -113,8 +182,7 @@ fn run(
     out: &mut [u8],
 )
     requires { ⌜ 1025 ≤ length (now line) ⌝ }
-    requires { ⌜ 121 ≤ length (now out) ⌝ }
-    requires { ⌜ 121 * length (now chunk) ≤ length (now out) ⌝ }
+    requires { ⌜ longest ≤ length (now out) ⌝ }
 {
     let mut header = Header::zero();
     let mut held = 0;
@@ -125,7 +193,7 @@ fn run(
         if n == 0 {
             break;
         }
-        let t = take_chunk(
+        let t = take_all(
             &chunk[..n],
             line,
             held,
@@ -136,7 +204,6 @@ fn run(
             counts,
             out,
         );
-        print(&*out, t.len);
         header = t.header;
         held = t.held;
         turns -= 1;
@@ -159,13 +226,13 @@ fn run(
 
 // The slices have room for every shape that is accepted: 4,096 counters, 2 x 19 x 20 norm words, 512 candidates.
 fn main() {
-    let mut chunk = [0u8; 16384];
+    let mut chunk = [0u8; CHUNK];
     let mut line = [0u8; 1025];
     let mut counters = [0i64; 4096];
     let mut norms = [0u64; 760];
     let mut entries = [0u64; 2048];
     let mut counts = [0i64; 512];
-    let mut out = [0u8; 1982464];
+    let mut out = [0u8; ANSWERS];
     run(
         &mut chunk,
         &mut line,

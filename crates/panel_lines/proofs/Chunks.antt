@@ -30,7 +30,7 @@ held-reads l = go (ltb 1025 (length l)) refl
 
 -- ---- chunks one after another are one chunk
 
-lines-append : (xs ys h : List ℕ) → chunkLines h (xs ++ ys) ≡ chunkLines h xs ++ chunkLines (chunkHeld h xs) ys
+pub lines-append : (xs ys h : List ℕ) → chunkLines h (xs ++ ys) ≡ chunkLines h xs ++ chunkLines (chunkHeld h xs) ys
 unfolding chunkLines chunkHeld
 lines-append [] ys h = refl
 lines-append (b ∷ xs) ys h = go (eqb b 10) (lines-append xs ys []) (lines-append xs ys (push h b))
@@ -40,7 +40,7 @@ lines-append (b ∷ xs) ys h = go (eqb b 10) (lines-append xs ys []) (lines-appe
     go true p q = ap (λ (z : List (List ℕ)). h ∷ z) p
     go false p q = q
 
-held-append : (xs ys h : List ℕ) → chunkHeld h (xs ++ ys) ≡ chunkHeld (chunkHeld h xs) ys
+pub held-append : (xs ys h : List ℕ) → chunkHeld h (xs ++ ys) ≡ chunkHeld (chunkHeld h xs) ys
 unfolding chunkHeld
 held-append [] ys h = refl
 held-append (b ∷ xs) ys h = go (eqb b 10) (held-append xs ys []) (held-append xs ys (push h b))

@@ -11,7 +11,7 @@ use Rattle.header.specs.Shape.{shapeRefusal}
 use Rattle.header.proofs.Refusals.{accepted-of}
 use Rattle.univmon.specs.Slices.{cellsIn, normsIn, candsIn}
 use Rattle.univmon.proofs.Offsets.{norm-off, cand-off, cells-are, rows-few}
-use Rattle.panel_step.specs.Panel.{extentOf, maxCounters, maxCandidates, roomy, panelRefusal}
+use Rattle.panel_step.specs.Panel.{extentOf, maxCounters, maxCandidates, roomy, panelRefusal, paperRefusal}
 
 -- the extent as the code works it out
 pub extent-is : (sh : Shape) → record { cells = sh .layers * sh .rows * sh .cols; norms = 2 * (sh .layers * sh .rows); words = 4 * (sh .layers * sh .«heap_size»); seats = sh .layers * sh .«heap_size» } ≡ extentOf sh
@@ -51,13 +51,6 @@ fit-of sh xs ws es ns e =
         }
 
 -- ---- the program's own slices: 4,096 counters, 760 norm words, 2,048 entry words, 512 counts
-
--- the paper's words alone
-unfoldable pub paperRefusal : Shape → ℕ
-paperRefusal sh =
-    cond (not (eqb (shapeRefusal sh) 0)) (shapeRefusal sh)
-    (cond (ltb maxCounters (cellsIn sh)) 4
-    (cond (ltb maxCandidates (candsIn sh)) 4 0))
 
 -- they have room for every shape that the paper lets pass
 roomy-own : (sh : Shape) → shapeRefusal sh ≡ 0 → cellsIn sh ≤ maxCounters → candsIn sh ≤ maxCandidates → roomy (extentOf sh) 4096 760 2048 512 ≡ true

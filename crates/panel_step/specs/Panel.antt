@@ -50,7 +50,7 @@ maxCounters = 4096
 abbrev pub maxCandidates : ℕ
 maxCandidates = 512
 
--- the slices have room for it; the program's own have room for every shape within the bounds above (law `own-refusal`)
+-- the slices have room for it
 unfoldable pub roomy : Extent → ℕ → ℕ → ℕ → ℕ → Bool
 roomy e xs ws es ns = leb (e .cells) xs && (leb (e .norms) ws && (leb (e .words) es && leb (e .seats) ns))
 
@@ -61,6 +61,13 @@ panelRefusal sh xs ws es ns =
     (cond (ltb maxCounters (cellsIn sh)) 4
     (cond (ltb maxCandidates (candsIn sh)) 4
     (cond (roomy (extentOf sh) xs ws es ns) 0 4)))
+
+-- in slices that have room for every shape within the bounds, as the program's own have (law `own-refusal`): the paper's words alone
+unfoldable pub paperRefusal : Shape → ℕ
+paperRefusal sh =
+    cond (not (eqb (shapeRefusal sh) 0)) (shapeRefusal sh)
+    (cond (ltb maxCounters (cellsIn sh)) 4
+    (cond (ltb maxCandidates (candsIn sh)) 4 0))
 
 abbrev pub refusalIn : Lent → Shape → ℕ
 refusalIn r sh = panelRefusal sh (length (r .counters)) (length (r .norms)) (length (r .entries)) (length (r .counts))

@@ -1,8 +1,10 @@
--- What a call left, put back into the slices, is in use there. Assumes nothing.
-use mathlib.Core.Path.{_≡_}
-use Prim.Native.Nat.{_*_}
+-- What a call left, put back into the slices, is in use there, and the slices are as long as before. Assumes nothing.
+use mathlib.Core.Path.{_≡_, _∙_}
+use Prim.Native.Nat.{ℕ, _+_, _-_, _*_, _≤_}
+use native.Mathlib.Omega.{arith}
 use mathlib.Core.Bool.{Bool, true, _&&_}
-use lib.ListN.{length, drop}
+use mathlib.Core.List.{List, _++_}
+use lib.ListN.{length, drop, length-append, length-drop}
 use lib.Seq.{take-at}
 use lib.Dec.{eqb}
 use borrow.Author.Tests.{eqb-true}
@@ -10,7 +12,8 @@ use Rattle.words.proofs.Bools.{and-left, and-right}
 use Rattle.header.specs.declared.Shape.{Shape}
 use Rattle.univmon.specs.Slices.{Lent, cellsIn, normsIn, candsIn, lengthsOk, lentOk}
 use Rattle.panel_step.specs.declared.extent.Extent.{Extent}
-use Rattle.panel_step.specs.Panel.{inUse, putBack}
+use Rattle.panel_step.specs.Panel.{extentOf, inUse, putBack, panelRefusal, refusalIn}
+use Rattle.panel_step.proofs.Rooms.{Fit, fit-of}
 
 -- slices of just a shape's lengths
 pub record Just (sh : Shape) (r : Lent) : Type 0 where
@@ -44,3 +47,15 @@ back-in e r t h =
       take-at (t .entries) (drop (e .words) (r .entries)) (4 * candsIn (t .head .shape)) (j .words),
       take-at (t .counts) (drop (e .seats) (r .counts)) (candsIn (t .head .shape)) (j .seats),
     )
+
+-- ---- lengths
+
+front : {A : Type 0} (n : ℕ) (xs ys : List A) → length xs ≡ n → n ≤ length ys → length (xs ++ drop n ys) ≡ length ys
+front n xs ys e h = length-append xs (drop n ys) ∙ omega (arith, e, length-drop n ys)
+
+-- so what a shape is refused with stays
+pub back-room : (sh : Shape) (r t : Lent) → refusalIn r sh ≡ 0 → Just sh t → (z : Shape) → refusalIn (putBack (extentOf sh) r t) z ≡ refusalIn r z
+back-room sh r t e j z =
+    let f : Fit sh (length (r .counters)) (length (r .norms)) (length (r .entries)) (length (r .counts)) = fit-of sh (length (r .counters)) (length (r .norms)) (length (r .entries)) (length (r .counts)) e in
+    λ i. panelRefusal z (front (cellsIn sh) (t .counters) (r .counters) (j .cells) (f .cells) i) (front (2 * normsIn sh) (t .norms) (r .norms) (j .norms) (f .norms) i)
+    (front (4 * candsIn sh) (t .entries) (r .entries) (j .words) (f .words) i) (front (candsIn sh) (t .counts) (r .counts) (j .seats) (f .seats) i)

@@ -1,208 +1,230 @@
 -- The claim about the program and its lines, proved: the statement stands in specs/PanelStream.antt. Assumes nothing.
 use mathlib.Core.Path.{_≡_, refl, sym, ap, _∙_, subst}
-use Prim.Native.Nat.{ℕ, _+_, _*_, _≤_}
+use Prim.Native.Nat.{ℕ}
 use native.Mathlib.Omega.{arith}
-use mathlib.Core.Bool.{Bool, true, false, cond, not, _||_}
-use mathlib.Core.List.{List, [], _∷_, _++_, List·Memᴰ, List·Memᴰ·head, List·Memᴰ·tail}
+use mathlib.Core.Bool.{Bool, true, false, cond}
+use mathlib.Core.List.{List, [], _∷_, _++_}
 use lib.ListN.{length}
 use lib.IntN.{ℤ}
-use lib.Dec.{eqb, ltb}
+use lib.Dec.{eqb}
 use borrow.Author.Tests.{eqb-true, ne-eqb}
 use Rattle.words.proofs.Bools.{never}
-use Rattle.matrix_storage.specs.Bits.{maxRows, maxCols, hashBits, maskBits}
+use Rattle.words.proofs.Lists.{all-append}
 use Rattle.header.specs.declared.Shape.{Shape}
 use Rattle.header.specs.declared.Header.{Header}
 use Rattle.header.specs.declared.Mode.the-variants as mode
-use Rattle.header.specs.Shape.{maxLayers, maxHeap, shapeRefusal}
+use Rattle.header.specs.Shape.{shapeRefusal}
 use Rattle.header.specs.Header.{zeroHeader}
 use Rattle.univmon.specs.declared.Kind.the-variants as kind
-use Rattle.univmon.specs.Slices.{Lent, cellsIn, candsIn, flat, freshLent}
+use Rattle.univmon.specs.Slices.{Lent, lentOk, flat, freshLent}
 use Rattle.univmon.specs.Calls.{Outcome, Left, left, leftBy, updateCall}
-use Rattle.shared_streams.specs.Books.{Update, Book}
+use Rattle.shared_streams.specs.Books.{Update}
 use Rattle.shared_streams.specs.Relays.{updateBy}
-use Rattle.words.proofs.Lists.{all-append, all-at}
+use Rattle.shared_streams.specs.Ledger.{feedNumber, Answers}
 use Rattle.shared_streams.proofs.BookLaws.{OfMode}
 use Rattle.shared_streams.proofs.Calls.{LentBy, lent-lengths, lent-fed, lent-fresh}
+use Rattle.shared_streams.proofs.Acceptance.{feed-answers}
 use Rattle.shared_streams.proofs.Claims.{claimed}
 use Rattle.panel_lines.specs.declared.line.Request.{Request}
 use Rattle.panel_lines.specs.declared.line.Request.the-variants as ask
 use Rattle.panel_lines.specs.Line.{readOf}
+use Rattle.panel_lines.specs.Answers.{refusedText}
 use Rattle.panel_lines.specs.Split.{lines, wholeOf}
-use Rattle.panel_step.specs.declared.extent.Extent.{Extent}
-use Rattle.panel_step.specs.Panel.{extentOf, inUse, putBack, maxCounters, maxCandidates, roomy, panelRefusal, refusalIn, shapeCall, started, backBy, addCall, panelText, showLine, Answer, answerTo, answerLine, answersOf}
-use Rattle.panel_step.proofs.Rooms.{fit-of}
+use Rattle.panel_step.specs.Panel.{extentOf, inUse, putBack, panelRefusal, paperRefusal, refusalIn, shapeCall, started, backBy, addCall, panelText, showLine, Answer, answerTo, answerLine, answersOf, runOf}
+use Rattle.panel_step.proofs.Rooms.{fit-of, own-refusal}
 use Rattle.panel_step.proofs.Runs.{run-whole}
-use Rattle.panel_stream.specs.PanelStream.{shapeBy, bookShaped, bookAdded, bookAfter, bookOf, relayIn, Shown, Told, Theorem, Corollary}
-use Rattle.panel_stream.proofs.Backs.{back-in}
-use Rattle.panel_stream.proofs.Adds.{Standards, Numbers, add-refused}
-use Rattle.panel_stream.proofs.Shows.{panel-is, panel-keys}
+use Rattle.panel_stream.specs.PanelStream.{Log, shapeBy, blank, addNumber, logShaped, logAdded, logAfter, logOf, relayIn, Shown, Told, Theorem, Own, Corollary}
+use Rattle.panel_stream.proofs.Backs.{Just, just, back-in, back-room}
+use Rattle.panel_stream.proofs.Adds.{Standards, not-six}
+use Rattle.panel_stream.proofs.Shows.{panel-is, panel-keys, panel-flags}
 
 -- ---- what every line keeps
 
 -- what is in use is as a book of standard updates says
-record Fed (r : Lent) (b : Book) : Type 0 where
-  by : LentBy (r .head .shape) b (inUse r)
-  kinds : Standards b
+record Fed (r : Lent) (g : Log) : Type 0 where
+  shape : r .head .shape ≡ g .shape
+  good : shapeRefusal (g .shape) ≡ 0
+  by : LentBy (g .shape) (g .book) (inUse r)
+  kinds : Standards (g .book)
 
-abbrev Kept : Lent → Book → Type 0
-Kept r b = started r ≡ true → Fed r b
+-- f says what a shape is refused with, g what the lines said
+record Kept (f : Shape → ℕ) (r : Lent) (g : Log) : Type 0 where
+  room : (sh : Shape) → refusalIn r sh ≡ f sh
+  begun : started r ≡ g .started
+  fed : g .started ≡ true → Fed r g
 
-own : (r : Lent) (sh : Shape) → eqb (refusalIn r sh) 0 ≡ true → shapeRefusal sh ≡ 0
-own r sh e = fit-of sh (length (r .counters)) (length (r .norms)) (length (r .entries)) (length (r .counts)) (eqb-true (refusalIn r sh) 0 e) .own
+own : (r : Lent) (sh : Shape) → refusalIn r sh ≡ 0 → shapeRefusal sh ≡ 0
+own r sh e = fit-of sh (length (r .counters)) (length (r .norms)) (length (r .entries)) (length (r .counts)) e .own
 
--- what a call left, put back
-back-fed : (e : Extent) (r t : Lent) (sh : Shape) (b : Book) → LentBy sh b t → Standards b → Fed (putBack e r t) b
+-- what a call on the parts of a shape that has room left, put back
+back-kept : (f : Shape → ℕ) (r t : Lent) (g : Log) → ((z : Shape) → refusalIn r z ≡ f z) → refusalIn r (g .shape) ≡ 0 → LentBy (g .shape) (g .book) t → Standards (g .book) → g .started ≡ true
+    → Kept f (putBack (extentOf (g .shape)) r t) g
 unfolding flat
-back-fed e r t sh b y a =
+back-kept f r t g room e y a on =
     record {
-      by = subst (λ (z : Shape). LentBy z b (inUse (putBack e r t))) (sym shape) (subst (LentBy sh b) (sym (back-in e r t (lent-lengths sh b t y))) y);
-      kinds = a;
+      room = λ z. stays z ∙ room z;
+      begun = ap (λ (z : Shape). eqb (refusalIn (putBack (extentOf (g .shape)) r t) z) 0) shape ∙ ap (λ (n : ℕ). eqb n 0) (stays (g .shape) ∙ e) ∙ sym on;
+      fed = λ z. record { shape = shape; good = own r (g .shape) e; by = subst (LentBy (g .shape) (g .book)) (sym (back-in (extentOf (g .shape)) r t lengths)) y; kinds = a };
     }
   where
-    shape : t .head .shape ≡ sh
+    shape : t .head .shape ≡ g .shape
     shape = ap (λ (z : Lent). z .head .shape) (y .is) ∙ y .by .shape
 
--- ---- the book
+    lengths : lentOk t ≡ true
+    lengths = lent-lengths (g .shape) (g .book) t y
 
-shaped-no : (n : ℕ) (b : Book) → eqb n 0 ≡ false → bookShaped n b ≡ b
-unfolding bookShaped
-shaped-no n b e = rw e
+    stays : (z : Shape) → refusalIn (putBack (extentOf (g .shape)) r t) z ≡ refusalIn r z
+    stays = back-room (g .shape) r t e (subst (λ (z : Shape). Just z t) shape (just t lengths))
 
-shaped-ok : (b : Book) → bookShaped 0 b ≡ []
-unfolding bookShaped
-shaped-ok b = refl
+-- ---- a shape
 
-added-no : (n : ℕ) (b : Book) (e : Update) → (n ≡ 0 → ⊥) → bookAdded n b e ≡ b
-unfolding bookAdded
-added-no n b e k = rw (ne-eqb n 0 k)
+module _ (f : Shape → ℕ) (r : Lent) (g : Log) (k : Kept f r g) (sh : Shape) where
+  abbrev shaped : ℕ → Left
+  shaped n = cond (eqb n 0) (left 0 (putBack (extentOf sh) r (freshLent sh))) (left n r)
 
-added-ok : (b : Book) (e : Update) → bookAdded 0 b e ≡ b ++ (e ∷ [])
-unfolding bookAdded
-added-ok b e = refl
+  shape-told : shapeCall r sh .refusal ≡ f sh
+  unfolding shapeCall
+  shape-told = go (refusalIn r sh) ∙ k .room sh
+    where
+      go : (n : ℕ) → shaped n .refusal ≡ n
+      go n = two (eqb n 0) refl
+        where
+          two : (b : Bool) → eqb n 0 ≡ b → cond b (left 0 (putBack (extentOf sh) r (freshLent sh))) (left n r) .refusal ≡ n
+          two true q = sym (eqb-true n 0 q)
+          two false q = refl
 
--- ---- one line
+  shape-kept : Kept f (shapeCall r sh .lends) (logShaped (f sh) g sh)
+  unfolding shapeCall logShaped
+  shape-kept = subst (λ (n : ℕ). Kept f (shaped n .lends) (logShaped (f sh) g sh)) (sym (k .room sh)) (go (eqb (f sh) 0) refl)
+    where
+      go : (b : Bool) → eqb (f sh) 0 ≡ b → Kept f (cond b (left 0 (putBack (extentOf sh) r (freshLent sh))) (left (f sh) r) .lends) (cond b (record { started = true; shape = sh; book = [] }) g)
+      go true q =
+          let e : refusalIn r sh ≡ 0 = k .room sh ∙ eqb-true (f sh) 0 q in
+          back-kept f r (freshLent sh) (record { started = true; shape = sh; book = [] }) (k .room) e (lent-fresh sh (own r sh e)) tt refl
+      go false q = k
 
-shape-kept : (r : Lent) (b : Book) (sh : Shape) → Kept r b → Kept (shapeCall r sh .lends) (bookShaped (shapeCall r sh .refusal) b)
-unfolding shapeCall
-shape-kept r b sh k = go (eqb (refusalIn r sh) 0) refl
-  where
-    after : Bool → Left
-    after t = cond t (left 0 (putBack (extentOf sh) r (freshLent sh))) (left (refusalIn r sh) r)
+-- ---- an add
 
-    go : (t : Bool) → eqb (refusalIn r sh) 0 ≡ t → Kept (after t .lends) (bookShaped (after t .refusal) b)
-    go true e = λ z. rw (shaped-ok b) (back-fed (extentOf sh) r (freshLent sh) sh [] (lent-fresh sh (own r sh e)) tt)
-    go false e = rw (shaped-no (refusalIn r sh) b e) k
-
--- a refusal's number is not 0
-some-number : (n : ℕ) → List·Memᴰ n Numbers → n ≡ 0 → ⊥
-some-number = all-at (λ n. n ≡ 0 → ⊥) Numbers (λ e. omega (arith, e), (λ e. omega (arith, e), (λ e. omega (arith, e), tt)))
-
-module _ (r : Lent) (b : Book) (k : Kept r b) (words : List ℕ) (w : ℤ) where
+module _ (f : Shape → ℕ) (r : Lent) (g : Log) (k : Kept f r g) (words : List ℕ) (w : ℤ) where
   abbrev outcome : Outcome
   outcome = updateCall kind.Standard (inUse r) words w
 
   abbrev entry : Update
   entry = updateBy kind.Standard words w
 
-  refused-by : (e : started r ≡ true) (n : ℕ) → updateCall kind.Standard (inUse r) words w ≡ Outcome.no n → List·Memᴰ n Numbers
-  refused-by e n q = add-refused (r .head .shape) (own r (r .head .shape) e) b (inUse r) (k e .by) (k e .kinds) words w n q
+  abbrev number : ℕ
+  number = feedNumber (g .shape) (g .book) kind.Standard words w
 
-  add-kept : Kept (addCall r words w .lends) (bookAdded (addCall r words w .refusal) b (updateBy kind.Standard words w))
-  unfolding addCall
-  add-kept = go (started r) refl
+  abbrev after : Bool → Left
+  after t = cond t (leftBy r (backBy r outcome)) (left 13 r)
+
+  answers : g .started ≡ true → Answers (updateCall kind.Standard (inUse r) words w) (feedNumber (g .shape) (g .book) kind.Standard words w)
+  answers e = let x : Fed r g = k .fed e in feed-answers (g .shape) (x .good) (g .book) (inUse r) (x .by) kind.Standard words w
+
+  add-told : addCall r words w .refusal ≡ addNumber g words w
+  unfolding addCall addNumber
+  add-told = go (g .started) refl (k .begun)
     where
-      after : Bool → Left
-      after t = cond t (leftBy r (backBy r outcome)) (left 13 r)
+      two : (o : Outcome) → Answers o number → leftBy r (backBy r o) .refusal ≡ number
+      two (Outcome.no n) p = p .0
+      two (Outcome.yes t) p = sym p
 
-      two : started r ≡ true → (o : Outcome) → updateCall kind.Standard (inUse r) words w ≡ o → Kept (leftBy r (backBy r o) .lends) (bookAdded (leftBy r (backBy r o) .refusal) b entry)
-      two e (Outcome.no n) q = rw (added-no n b entry (some-number n (refused-by e n q))) k
-      two e (Outcome.yes t) q =
-          λ z. rw (added-ok b entry) (back-fed (extentOf (r .head .shape)) r t (r .head .shape) (b ++ (entry ∷ []))
-          (lent-fed (r .head .shape) (own r (r .head .shape) e) kind.Standard b (inUse r) t words w (k e .by) q) (all-append (OfMode mode.Standard) b (entry ∷ []) (k e .kinds) (refl, tt)))
+      go : (b : Bool) → g .started ≡ b → started r ≡ b → after (started r) .refusal ≡ cond b number 13
+      go true e q = rw q (two outcome (answers e))
+      go false e q = rw q refl
 
-      go : (t : Bool) → started r ≡ t → Kept (after t .lends) (bookAdded (after t .refusal) b entry)
-      go true e = two e outcome refl
-      go false e = rw (added-no 13 b entry (λ z. omega (arith, z))) k
-
-  add-told : started r ≡ true → List·Memᴰ (addCall r words w .refusal) (0 ∷ Numbers)
-  unfolding addCall
-  add-told e = rw e (two outcome refl)
+  add-alike : addNumber g words w ≡ 6 → ⊥
+  unfolding addNumber
+  add-alike = go (g .started) refl
     where
-      two : (o : Outcome) → updateCall kind.Standard (inUse r) words w ≡ o → List·Memᴰ (leftBy r (backBy r o) .refusal) (0 ∷ Numbers)
-      two (Outcome.no n) q = List·Memᴰ·tail (refused-by e n q)
-      two (Outcome.yes t) q = List·Memᴰ·head refl
+      go : (b : Bool) → g .started ≡ b → cond b number 13 ≡ 6 → ⊥
+      go true e q = not-six (g .shape) (g .book) words w (k .fed e .kinds) q
+      go false e q = omega (arith, q)
 
-to-kept : (r : Lent) (b : Book) (q : Request) (words : List ℕ) → Kept r b → Kept (answerTo r q words .lends) (bookAfter r b q words)
+  abbrev more : Log
+  more = record { started = g .started; shape = g .shape; book = g .book ++ (updateBy kind.Standard words w ∷ []) }
+
+  one-added : logAdded 0 g words w ≡ more
+  unfolding logAdded
+  one-added = refl
+
+  none-added : (n : ℕ) → (n ≡ 0 → ⊥) → logAdded n g words w ≡ g
+  unfolding logAdded
+  none-added n h = rw (ne-eqb n 0 h)
+
+  added : (o : Outcome) → updateCall kind.Standard (inUse r) words w ≡ o → (e : g .started ≡ true) → Answers o number → Kept f (leftBy r (backBy r o) .lends) (logAdded number g words w)
+  added (Outcome.no n) q e p = rw (none-added number (p .1)) k
+  added (Outcome.yes t) q e p = rw (p, one-added) (subst (λ (z : Shape). Kept f (putBack (extentOf z) r t) more) (sym (x .shape)) kept)
+    where
+      x : Fed r g
+      x = k .fed e
+
+      has : refusalIn r (g .shape) ≡ 0
+      has = ap (refusalIn r) (sym (x .shape)) ∙ eqb-true (refusalIn r (r .head .shape)) 0 (k .begun ∙ e)
+
+      kept : Kept f (putBack (extentOf (g .shape)) r t) more
+      kept =
+          back-kept f r t more (k .room) has (lent-fed (g .shape) (x .good) kind.Standard (g .book) (inUse r) t words w (x .by) q)
+          (all-append (OfMode mode.Standard) (g .book) (entry ∷ []) (x .kinds) (refl, tt)) e
+
+  add-kept : Kept f (addCall r words w .lends) (logAdded (addNumber g words w) g words w)
+  unfolding addCall addNumber
+  add-kept = go (g .started) refl (k .begun)
+    where
+      go : (b : Bool) → g .started ≡ b → started r ≡ b → Kept f (after (started r) .lends) (logAdded (cond b number 13) g words w)
+      go true e q = rw q (added outcome refl e (answers e))
+      go false e q = rw (q, none-added 13 (λ z. omega (arith, z))) k
+
+-- ---- lines
+
+to-kept : (f : Shape → ℕ) (r : Lent) (g : Log) (q : Request) (words : List ℕ) → Kept f r g → Kept f (answerTo r q words .lends) (logAfter f g q words)
 unfolding answerTo
-to-kept r b (ask.Shape heap rows cols layers) words k = shape-kept r b (shapeBy heap rows cols layers) k
-to-kept r b (ask.Add w n) words k = add-kept r b k words w
-to-kept r b ask.Show words k = k
-to-kept r b ask.Unreadable words k = k
+to-kept f r g (ask.Shape heap rows cols layers) words k = shape-kept f r g k (shapeBy heap rows cols layers)
+to-kept f r g (ask.Add w n) words k = add-kept f r g k words w
+to-kept f r g ask.Show words k = k
+to-kept f r g ask.Unreadable words k = k
 
-lines-kept : (ls : List (List ℕ)) (r : Lent) (b : Book) → Kept r b → Kept (answersOf r ls .lends) (bookOf r b ls)
-unfolding answersOf answerLine bookOf
-lines-kept [] r b k = k
-lines-kept (l ∷ ls) r b k = lines-kept ls (answerLine r l .lends) (bookAfter r b (readOf l .request) (readOf l .words)) (to-kept r b (readOf l .request) (readOf l .words) k)
+lines-kept : (f : Shape → ℕ) (ls : List (List ℕ)) (r : Lent) (g : Log) → Kept f r g → Kept f (answersOf r ls .lends) (logOf f g ls)
+unfolding answersOf answerLine logOf
+lines-kept f [] r g k = k
+lines-kept f (l ∷ ls) r g k = lines-kept f ls (answerLine r l .lends) (logAfter f g (readOf l .request) (readOf l .words)) (to-kept f r g (readOf l .request) (readOf l .words) k)
 
 -- ---- what is told of a state
 
-four : (sh : Shape) → shapeRefusal sh ≤ 4
-unfolding shapeRefusal
-four sh = go (eqb (sh .«heap_size») 0 || (eqb (sh .rows) 0 || (eqb (sh .cols) 0 || eqb (sh .layers) 0))) (ltb maxLayers (sh .layers)) (ltb hashBits ((maskBits (sh .cols) + 1) * sh .rows))
-    (ltb maxRows (sh .rows) || (ltb maxCols (sh .cols) || ltb maxHeap (sh .«heap_size»)))
-  where
-    go : (a b c d : Bool) → cond a 1 (cond b 2 (cond c 3 (cond d 4 0))) ≤ 4
-    go true b c d = omega arith
-    go false true c d = omega arith
-    go false false true d = omega arith
-    go false false false true = omega arith
-    go false false false false = omega arith
+module _ (f : Shape → ℕ) (r : Lent) (g : Log) (k : Kept f r g) where
+  early : g .started ≡ false → showLine r ≡ refusedText 13
+  unfolding showLine
+  early e = rw (k .begun ∙ e) refl
 
-panel-four : (sh : Shape) (xs ws es ns : ℕ) → panelRefusal sh xs ws es ns ≤ 4
-unfolding panelRefusal
-panel-four sh xs ws es ns = go (not (eqb (shapeRefusal sh) 0)) (ltb maxCounters (cellsIn sh)) (ltb maxCandidates (candsIn sh)) (roomy (extentOf sh) xs ws es ns)
-  where
-    go : (a b c d : Bool) → cond a (shapeRefusal sh) (cond b 4 (cond c 4 (cond d 0 4))) ≤ 4
-    go true b c d = four sh
-    go false true c d = omega arith
-    go false false true d = omega arith
-    go false false false true = omega arith
-    go false false false false = omega arith
+  shown : g .started ≡ true → Shown r (g .shape) (g .book)
+  unfolding showLine panelText
+  shown e =
+      record {
+        claimed = claimed (g .shape) (x .good) (relayIn r (g .book)) (x .by);
+        line = rw (k .begun ∙ e, panel-is (g .shape) (x .good) (g .book) (inUse r) (x .by) (x .kinds), panel-flags (g .shape) (x .good) (g .book) (inUse r) (x .by) (x .kinds)) refl;
+        keys = panel-keys (g .shape) (x .good) (g .book) (inUse r) (x .by) (x .kinds);
+      }
+    where
+      x : Fed r g
+      x = k .fed e
 
-shape-told : (r : Lent) (sh : Shape) → shapeCall r sh .refusal ≤ 4
-unfolding shapeCall
-shape-told r sh = go (eqb (refusalIn r sh) 0)
-  where
-    go : (t : Bool) → cond t (left 0 (putBack (extentOf sh) r (freshLent sh))) (left (refusalIn r sh) r) .refusal ≤ 4
-    go true = omega arith
-    go false = panel-four sh (length (r .counters)) (length (r .norms)) (length (r .entries)) (length (r .counts))
-
-shown : (r : Lent) (b : Book) → Kept r b → started r ≡ true → Shown r b
-unfolding showLine panelText
-shown r b k e =
-    record {
-      claimed = claimed (r .head .shape) v (relayIn r b) (f .by);
-      line = rw (e, panel-is (r .head .shape) v b (inUse r) (f .by) (f .kinds)) refl;
-      keys = panel-keys (r .head .shape) v b (inUse r) (f .by) (f .kinds);
-    }
-  where
-    f : Fed r b
-    f = k e
-
-    v : shapeRefusal (r .head .shape) ≡ 0
-    v = own r (r .head .shape) e
-
-told : (r : Lent) (b : Book) → Kept r b → Told r b
-told r b k = record { shape = shape-told r; add = λ e words w. add-told r b k words w e; show = shown r b k }
+  told : Told f r g
+  told = record { shape = shape-told f r g k; add = add-told f r g k; alike = add-alike f r g k; early = early; show = shown }
 
 -- ---- the theorem
 
-not-yet : (r : Lent) → r .head ≡ zeroHeader → started r ≡ false
+not-yet : (r : Lent) → r .head ≡ zeroHeader → Kept (refusalIn r) r blank
 unfolding panelRefusal shapeRefusal
-not-yet r e = ap (λ (h : Header). eqb (refusalIn r (h .shape)) 0) e
+not-yet r e = record { room = λ sh. refl; begun = ap (λ (h : Header). eqb (refusalIn r (h .shape)) 0) e; fed = λ z. absurd (never z) }
 
 pub panel-stream : Theorem
-panel-stream r e ls = told (answersOf r ls .lends) (bookOf r [] ls) (lines-kept ls r [] (λ z. absurd (never (sym (not-yet r e) ∙ z))))
+panel-stream r e ls = told (refusalIn r) (answersOf r ls .lends) (logOf (refusalIn r) blank ls) (lines-kept (refusalIn r) ls r blank (not-yet r e))
+
+-- the program's own slices add nothing to the paper's words
+own-is : (r : Lent) → Own r → refusalIn r ≡ paperRefusal
+own-is r o = λ i sh. ((λ j. panelRefusal sh (o .counters j) (o .norms j) (o .entries j) (o .counts j)) ∙ own-refusal sh) i
 
 pub of-any-input : Corollary
-of-any-input r e cs = subst (λ (a : Answer). Told (a .lends) (bookOf r [] (lines (wholeOf cs)))) (sym (run-whole r cs)) (panel-stream r e (lines (wholeOf cs)))
+of-any-input r o cs =
+    subst (λ (f : Shape → ℕ). Told f (runOf r [] cs .lends) (logOf f blank (lines (wholeOf cs)))) (own-is r o)
+    (subst (λ (a : Answer). Told (refusalIn r) (a .lends) (logOf (refusalIn r) blank (lines (wholeOf cs)))) (sym (run-whole r cs)) (panel-stream r (o .head) (lines (wholeOf cs))))

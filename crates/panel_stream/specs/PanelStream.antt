@@ -1,56 +1,72 @@
--- The program `panel` and its lines: what any lines leave is a relay's state as its book says, `show` shows it, and no line is refused with another number than
--- those named here.
+-- The program `panel` and its lines: the lines alone say what each is answered with and what book they make; what the program then holds is a relay's state as
+-- that book says, and `show` shows it.
 --
--- The definitions that it needs, beside those of this page: `answerLine`, `answersOf`, `shapeCall`, `addCall`, `showLine`, `started`, `inUse` (panel_step), which
--- the program's contracts cite; books and `Claimed` (shared_streams); `panelCall` (estimates).
+-- The definitions that it needs, beside those of this page: `answersOf`, `shapeCall`, `addCall`, `showLine`, `inUse`, `refusalIn`, `paperRefusal`, `runOf` (panel_step),
+-- which the program's contracts cite; books, `feedNumber` and `Claimed` (shared_streams); `panelCall` (estimates).
 -- The proofs stand in proofs/PanelStream.antt, under the names `panel-stream` and `of-any-input`.
-use Prim.Native.Nat.{ℕ, _≤_}
+use Prim.Native.Nat.{ℕ, zero, suc, _≤_}
 use mathlib.Core.Path.{_≡_}
-use mathlib.Core.Bool.{true, false, cond}
-use mathlib.Core.List.{List, [], _∷_, _++_, List·Memᴰ}
-use lib.ListN.{take}
+use mathlib.Core.Bool.{Bool, true, false, cond}
+use mathlib.Core.List.{List, [], _∷_, _++_}
+use lib.ListN.{length}
 use lib.IntN.{ℤ, pos}
 use lib.Dec.{eqb}
 use lib.Ieee.{Float, binary64, toBits, ofInt}
+use Rattle.countsketch_l2_norm.specs.L2.{l2Of}
 use Rattle.header.specs.declared.Shape.{Shape}
 use Rattle.header.specs.Header.{zeroHeader}
 use Rattle.univmon.specs.declared.Kind.the-variants as kind
+use Rattle.univmon.specs.State.{rowsAt}
 use Rattle.univmon.specs.Slices.{Lent}
 use Rattle.estimates.specs.Calls.{panelCall}
-use Rattle.shared_streams.specs.Books.{Update, Book, bookKeys, weightOf, distinct, OneRecord}
+use Rattle.shared_streams.specs.Books.{Book, bookKeys, normBy, flagBy, weightOf, distinct, OneRecord}
 use Rattle.shared_streams.specs.Relays.{Relay, updateBy}
+use Rattle.shared_streams.specs.Ledger.{feedNumber}
 use Rattle.shared_streams.specs.SharedStreams.{Claimed}
 use Rattle.panel_lines.specs.declared.line.Request.{Request}
 use Rattle.panel_lines.specs.declared.line.Request.the-variants as ask
 use Rattle.panel_lines.specs.Line.{readOf}
-use Rattle.panel_lines.specs.Answers.{showText}
+use Rattle.panel_lines.specs.Answers.{refusedText, showText}
 use Rattle.panel_lines.specs.Split.{lines, wholeOf}
-use Rattle.panel_step.specs.Panel.{inUse, started, shapeCall, addCall, showLine, answerLine, answersOf, runOf}
+use Rattle.panel_step.specs.Panel.{inUse, refusalIn, paperRefusal, shapeCall, addCall, showLine, answersOf, runOf}
 
--- ---- the book of the lines: the adds that were answered `(ok)` since the last shape that was
+-- ---- what lines say: the shape that was last accepted, if one was, and the book since then
+
+pub record Log : Type 0 where
+  pub started : Bool
+  pub shape : Shape
+  pub book : Book
 
 abbrev pub shapeBy : ℕ → ℕ → ℕ → ℕ → Shape
 shapeBy heap rows cols layers = record { «heap_size» = heap; rows = rows; cols = cols; layers = layers }
 
--- a shape that was answered with the number n: "an accepted one starts afresh, a refused one changes nothing"
-unfoldable pub bookShaped : ℕ → Book → Book
-bookShaped n b = cond (eqb n 0) [] b
+-- before the first line
+abbrev pub blank : Log
+blank = record { started = false; shape = shapeBy 0 0 0 0; book = [] }
 
--- an add that was
-unfoldable pub bookAdded : ℕ → Book → Update → Book
-bookAdded n b e = cond (eqb n 0) (b ++ (e ∷ [])) b
+-- what an add is answered with: 13 "before a shape", then as an update by the book; "Add is a standard update"
+unfoldable pub addNumber : Log → List ℕ → ℤ → ℕ
+addNumber g words w = cond (g .started) (feedNumber (g .shape) (g .book) kind.Standard words w) 13
 
--- "Add is a standard update"
-abbrev pub bookAfter : Lent → Book → Request → List ℕ → Book
-bookAfter r b (ask.Shape heap rows cols layers) words = bookShaped (shapeCall r (shapeBy heap rows cols layers) .refusal) b
-bookAfter r b (ask.Add w n) words = bookAdded (addCall r words w .refusal) b (updateBy kind.Standard words w)
-bookAfter r b ask.Show words = b
-bookAfter r b ask.Unreadable words = b
+-- "an accepted one starts afresh, a refused one changes nothing": n is what the shape is answered with
+unfoldable pub logShaped : ℕ → Log → Shape → Log
+logShaped n g sh = cond (eqb n 0) (record { started = true; shape = sh; book = [] }) g
 
--- of lines one after another
-unfoldable pub bookOf : Lent → Book → List (List ℕ) → Book
-bookOf r b [] = b
-bookOf r b (l ∷ ls) = bookOf (answerLine r l .lends) (bookAfter r b (readOf l .request) (readOf l .words)) ls
+-- an accepted add goes into the book
+unfoldable pub logAdded : ℕ → Log → List ℕ → ℤ → Log
+logAdded n g words w = cond (eqb n 0) (record { started = g .started; shape = g .shape; book = g .book ++ (updateBy kind.Standard words w ∷ []) }) g
+
+-- after one line, where f says what a shape is refused with
+abbrev pub logAfter : (Shape → ℕ) → Log → Request → List ℕ → Log
+logAfter f g (ask.Shape heap rows cols layers) words = logShaped (f (shapeBy heap rows cols layers)) g (shapeBy heap rows cols layers)
+logAfter f g (ask.Add w n) words = logAdded (addNumber g words w) g words w
+logAfter f g ask.Show words = g
+logAfter f g ask.Unreadable words = g
+
+-- after lines one after another
+unfoldable pub logOf : (Shape → ℕ) → Log → List (List ℕ) → Log
+logOf f g [] = g
+logOf f g (l ∷ ls) = logOf f (logAfter f g (readOf l .request) (readOf l .words)) ls
 
 -- ---- what is claimed of a state with a shape
 
@@ -64,29 +80,52 @@ bits x = toBits binary64 x
 abbrev pub whole : ℕ → Float
 whole n = ofInt binary64 (pos n)
 
-pub record Shown (r : Lent) (b : Book) : Type 0 where
+-- n values from the i-th on
+unfoldable pub valuesFrom : {A : Type 0} → (ℕ → A) → ℕ → ℕ → List A
+valuesFrom f zero i = []
+valuesFrom f (suc n) i = f i ∷ valuesFrom f n (suc i)
+
+-- L2 by the book: of layer 0's row norms
+abbrev pub bookL2 : Shape → Book → Float
+bookL2 sh b = l2Of (valuesFrom (normBy sh b 0) (rowsAt sh 0) 0)
+
+-- the layers' flags by the book
+abbrev pub bookFlags : Shape → Book → List Bool
+bookFlags sh b = valuesFrom (flagBy sh b) (sh .layers) 0
+
+pub record Shown (r : Lent) (sh : Shape) (b : Book) : Type 0 where
   -- all that the theorem on shared streams claims: counters, norms, weight, flags and candidates by the book, in whatever order it was counted
-  pub claimed : Claimed (r .head .shape) (relayIn r b)
-  -- `show` is answered, and its first number is the sum of the weights
-  pub line : showLine r ≡ showText (bits (whole (weightOf b))) (bits (panelCall (inUse r) .l2)) (bits (panelCall (inUse r) .cardinality)) (take (r .head .shape .layers) (r .head .flags))
-  -- its third is exactly the number of distinct keys, up to the heap size and with one record per key
-  pub keys : OneRecord b → distinct (bookKeys b) ≤ r .head .shape .«heap_size» → panelCall (inUse r) .cardinality ≡ whole (distinct (bookKeys b))
+  pub claimed : Claimed sh (relayIn r b)
+  -- `show` is answered: L1 is the sum of the weights, L2 and flags are the book's
+  pub line : showLine r ≡ showText (bits (whole (weightOf b))) (bits (bookL2 sh b)) (bits (panelCall (inUse r) .cardinality)) (bookFlags sh b)
+  -- its third number is exactly that of the distinct keys, up to the heap size and with one record per key
+  pub keys : OneRecord b → distinct (bookKeys b) ≤ sh .«heap_size» → panelCall (inUse r) .cardinality ≡ whole (distinct (bookKeys b))
 
 -- ---- the theorem
 
--- what a next line is refused with, 0 for none
-pub record Told (r : Lent) (b : Book) : Type 0 where
-  -- a shape: 1 to 4
-  pub shape : (sh : Shape) → shapeCall r sh .refusal ≤ 4
-  -- an add once there is a shape: 12, 5 or 7, and so never 6, 9 or 11. Before it `addCall` and `showLine` answer 13, as an unreadable line does
-  pub add : started r ≡ true → (words : List ℕ) (w : ℤ) → List·Memᴰ (addCall r words w .refusal) (0 ∷ 12 ∷ 5 ∷ 7 ∷ [])
-  -- a show: nothing
-  pub show : started r ≡ true → Shown r b
+-- what a next line is answered with, where f says what a shape is refused with and g what the lines said; an unreadable one is 13 by itself
+pub record Told (f : Shape → ℕ) (r : Lent) (g : Log) : Type 0 where
+  -- a shape: 1 to 4, or 0
+  pub shape : (sh : Shape) → shapeCall r sh .refusal ≡ f sh
+  -- an add: 13; then 12, 5, 7, or 0. Of a book's numbers 6 is left, and it does not come: all adds are of one kind
+  pub add : (words : List ℕ) (w : ℤ) → addCall r words w .refusal ≡ addNumber g words w
+  pub alike : (words : List ℕ) (w : ℤ) → addNumber g words w ≡ 6 → ⊥
+  -- a show: 13, or what the book says
+  pub early : g .started ≡ false → showLine r ≡ refusedText 13
+  pub show : g .started ≡ true → Shown r (g .shape) (g .book)
 
 -- from the header that the program starts with, in slices of any lengths, after any lines
 abbrev pub Theorem : Type 0
-Theorem = (r : Lent) → r .head ≡ zeroHeader → (ls : List (List ℕ)) → Told (answersOf r ls .lends) (bookOf r [] ls)
+Theorem = (r : Lent) → r .head ≡ zeroHeader → (ls : List (List ℕ)) → Told (refusalIn r) (answersOf r ls .lends) (logOf (refusalIn r) blank ls)
 
--- the same of any input, in whatever chunks it is read
+-- the program's own slices: "Above 4,096 counters or 512 candidates over all layers it answers 4." is all that they add
+pub record Own (r : Lent) : Type 0 where
+  pub head : r .head ≡ zeroHeader
+  pub counters : length (r .counters) ≡ 4096
+  pub norms : length (r .norms) ≡ 760
+  pub entries : length (r .entries) ≡ 2048
+  pub counts : length (r .counts) ≡ 512
+
+-- of any input, in whatever chunks it is read
 abbrev pub Corollary : Type 0
-Corollary = (r : Lent) → r .head ≡ zeroHeader → (cs : List (List ℕ)) → Told (runOf r [] cs .lends) (bookOf r [] (lines (wholeOf cs)))
+Corollary = (r : Lent) → Own r → (cs : List (List ℕ)) → Told paperRefusal (runOf r [] cs .lends) (logOf paperRefusal blank (lines (wholeOf cs)))

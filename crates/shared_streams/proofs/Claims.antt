@@ -2,42 +2,49 @@
 use mathlib.Core.Path.{_≡_, refl, sym, ap, _∙_, subst}
 use Prim.Native.Nat.{ℕ, suc, _-_, _≤_, min}
 use native.Mathlib.Omega.{arith}
-use mathlib.Core.Bool.{Bool, true, cond, and-false}
+use mathlib.Core.Bool.{Bool, true, cond, and-false, _&&_}
 use mathlib.Core.List.{List, []}
-use lib.IntN.{pos}
+use lib.ListN.{length}
+use lib.IntN.{ℤ, pos}
 use lib.Dec.{eqb}
 use lib.Ieee.{binary64, ofInt}
-use borrow.Author.Tests.{le-leb}
+use borrow.Author.Tests.{le-leb, eq-eqb, not-false}
 use Rattle.header.specs.declared.Shape.{Shape}
 use Rattle.header.specs.declared.Mode.{Mode}
 use Rattle.header.specs.declared.Mode.the-variants as mode
-use Rattle.header.specs.Shape.{shapeRefusal, bottomOf}
+use Rattle.words.proofs.Bools.{and-left}
+use Rattle.float64.proofs.Ints.{int-value}
+use Rattle.header.specs.Shape.{maxLayers, shapeRefusal, bottomOf}
+use Rattle.header.specs.Header.{headerOk}
 use Rattle.header.specs.Accepted.{Accepted}
 use Rattle.header.proofs.Refusals.{accepted-of}
 use Rattle.univmon.specs.declared.Kind.{Kind}
 use Rattle.univmon.specs.declared.Kind.the-variants as kind
-use Rattle.univmon.specs.State.{State}
+use Rattle.univmon.specs.State.{State, sizesOk}
 use Rattle.univmon.specs.Updates.{modeOf}
 use Rattle.univmon.specs.Slices.{Lent, lentOk, view, flat, freshLent}
-use Rattle.univmon.specs.Calls.{Outcome}
+use Rattle.univmon.specs.Calls.{Outcome, updateCall, lentUpdateCall}
+use Rattle.univmon.specs.Needs.{Headed}
 use Rattle.sums.specs.Terminal.{terminalSum, heavy}
 use Rattle.sums.specs.Layers.{standardSum}
 use Rattle.sums.specs.declared.G.the-variants as g
 use Rattle.estimates.specs.Sums.{strataOf, sumBy, gSumOf, cardinalityOf, sumRefusal}
 use Rattle.estimates.specs.declared.Answer.{Answer}
 use Rattle.estimates.specs.Calls.{answer, sumCall, cardinalityCall}
-use Rattle.shared_streams.specs.Books.{Book, bookKeys, keysSent, times, distinct, OneRecord, Reordered, Holds}
+use Rattle.shared_streams.specs.Books.{Book, bookKeys, keysSent, times, distinct, OneRecord, Reordered, Holds, bookMode}
 use Rattle.shared_streams.specs.Relays.{Relay, takes}
-use Rattle.shared_streams.specs.SharedStreams.{SameValues, Alone, Claimed}
+use Rattle.shared_streams.specs.SharedStreams.{Formed, SameValues, Alone, Claimed}
 use Rattle.shared_streams.proofs.Keys.{distinct-same}
-use Rattle.shared_streams.proofs.BookLaws.{Fitting, no-weight, bookMode, OfMode}
+use Rattle.shared_streams.proofs.BookLaws.{Fitting, no-weight, OfMode}
 use Rattle.shared_streams.proofs.Relays.{RelayBy}
-use Rattle.shared_streams.proofs.Refusals.{sum-accepted}
+use Rattle.shared_streams.proofs.Refusals.{sound-by, sum-accepted}
 use Rattle.shared_streams.proofs.Reorders.{reordered-all, reordered-weight}
-use Rattle.shared_streams.proofs.Values.{holds-by}
+use Rattle.shared_streams.proofs.Values.{flat-lengths, holds-by}
 use Rattle.shared_streams.proofs.Same.{holds-reordered, same-values}
 use Rattle.shared_streams.proofs.Calls.{LentBy, lent-view, lent-lengths, lent-fresh}
+use Rattle.shared_streams.proofs.States.{Sized}
 use Rattle.shared_streams.proofs.Takes.{takes-all}
+use Rattle.shared_streams.proofs.Acceptance.{feed-answers}
 use Rattle.shared_streams.proofs.Sent.{Hashed, hashed, botBy, sent-times}
 use Rattle.shared_streams.proofs.Standard.{standard-counts}
 use Rattle.shared_streams.proofs.Terminal.{terminal-counts}
@@ -57,7 +64,7 @@ kind-unset kind.Terminal e = cc
 
 -- ---- cardinality
 
-pub counts : (sh : Shape) → shapeRefusal sh ≡ 0 → (b : Book) (s : State) → RelayBy sh b s → OneRecord b → distinct (bookKeys b) ≤ sh .«heap_size»
+counts : (sh : Shape) → shapeRefusal sh ≡ 0 → (b : Book) (s : State) → RelayBy sh b s → OneRecord b → distinct (bookKeys b) ≤ sh .«heap_size»
     → cardinalityOf s ≡ ofInt binary64 (pos (distinct (bookKeys b)))
 unfolding gSumOf standardSum terminalSum
 counts sh w b s r one few = rw (and-false (eqb (s .head .weight) 0)) (go (s .head .mode) refl)
@@ -101,6 +108,27 @@ card-call : (r : Lent) → lentOk r ≡ true → sumRefusal (view r) true ≡ 0 
 unfolding sumCall
 card-call r z e = rw (z, e)
 
+-- ---- the header's form, and lengths and flags lent beside it
+
+headed-by : (s : State) → Sized s → Headed (s .head)
+headed-by s z = record { lens = z .lens; flags = z .flags }
+
+formed-by : (sh : Shape) → shapeRefusal sh ≡ 0 → (b : Book) (s : State) → RelayBy sh b s → Formed sh (flat s)
+unfolding flat
+formed-by sh v b s r =
+    record {
+      shape = r .shape;
+      ranged = and-left (headerOk (s .head)) (sizesOk s) (not-false (headerOk (s .head) && sizesOk s) (sound-by sh s b v r));
+      lengths = flat-lengths s (r .sized);
+      headed = headed-by s (r .sized);
+      pastLens = r .pastLens;
+      pastFlags = r .pastFlags;
+    }
+
+lent-same : (k : Kind) (r : Lent) (words : List ℕ) (w : ℤ) → Headed (r .head) → lentUpdateCall k r words w ≡ updateCall k r words w
+unfolding lentUpdateCall
+lent-same k r words w h = rw (eq-eqb (length (r .head .lens)) maxLayers (h .lens), eq-eqb (length (r .head .flags)) maxLayers (h .flags))
+
 -- ---- a fresh relay that takes the book in any order
 
 module _ (sh : Shape) (v : shapeRefusal sh ≡ 0) (r : Relay) (x : LentBy sh (r .book) (r .lends)) where
@@ -120,13 +148,22 @@ module _ (sh : Shape) (v : shapeRefusal sh ≡ 0) (r : Relay) (x : LentBy sh (r 
           (omega (arith, x .by .light, reordered-weight o, no-weight))
 
   pub claimed : Claimed sh r
+  unfolding flat
   claimed =
       record {
+        formed = subst (Formed sh) (sym (x .is)) (formed-by sh v (r .book) (x .state) (x .by));
         holds = subst (Holds sh (r .book)) (sym (x .is)) (holds-by sh (r .book) (x .state) (x .by));
+        mode = ap (λ (z : Lent). z .head .mode) (x .is) ∙ x .by .mode;
         alone = alone;
+        feeds = feed-answers sh v (r .book) (r .lends) x;
+        lent = λ k words w. lent-same k (r .lends) words w (subst (λ (z : Lent). Headed (z .head)) (sym (x .is)) (headed-by (x .state) (x .by .sized)));
         answered = ap (λ (a : Answer). a .refusal) call;
-        counted = λ one few. call ∙ ap (answer 0) (counts sh v (r .book) (view (r .lends)) by one few);
-        mode = λ e f m n. same-kind (e .kind) (f .kind) (all-at (OfMode (bookMode (r .book))) (r .book) (by .kinds) e m ∙ sym (all-at (OfMode (bookMode (r .book))) (r .book) (by .kinds) f n));
+        counted = λ one few.
+            record {
+              answered = call ∙ ap (answer 0) (counts sh v (r .book) (view (r .lends)) by one few);
+              exact = int-value (pos (distinct (bookKeys (r .book)))) (omega (arith, few, accepted-of sh v .small));
+            };
+        kinds = λ e f m n. same-kind (e .kind) (f .kind) (all-at (OfMode (bookMode (r .book))) (r .book) (by .kinds) e m ∙ sym (all-at (OfMode (bookMode (r .book))) (r .book) (by .kinds) f n));
         light = by .light;
       }
     where

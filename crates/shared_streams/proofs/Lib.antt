@@ -15,6 +15,9 @@ pub mod Same
 pub mod Calls
 pub mod Takes
 pub mod Runs
+pub mod Acceptance
+pub mod Ledgers
+pub mod Merging
 pub mod Depths
 pub mod Counting
 pub mod Sent
@@ -23,3 +26,4 @@ pub mod Gathered
 pub mod Terminal
 pub mod Claims
 pub mod SharedStreams
+pub mod Examples

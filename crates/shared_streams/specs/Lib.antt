@@ -1,3 +1,4 @@
 pub mod Books
 pub mod Relays
+pub mod Ledger
 pub mod SharedStreams

@@ -1,4 +1,4 @@
--- Signed decimals: "weight signed", "−0" is unreadable, "a minus sign before negative V and COUNT".
+-- Signed decimals: "weight signed", "−0" is unreadable; a minus sign stands before negative numbers.
 use mathlib.Core.List.{List, _∷_}
 use mathlib.Core.Bool.{cond}
 use Prim.Native.Nat.{ℕ, suc, _+_, _-_, _^_, _<_}

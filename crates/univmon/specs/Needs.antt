@@ -4,6 +4,7 @@ use mathlib.Core.Path.{_≡_}
 use mathlib.Core.Bool.{Bool, true, cond, not, _&&_}
 use mathlib.Core.List.{List}
 use lib.ListN.{length, getD}
+use lib.IntN.{ℤ, natAbs}
 use lib.Dec.{eqb}
 use Rattle.words.specs.Num.{top}
 use Rattle.header.specs.declared.Shape.{Shape}
@@ -12,9 +13,10 @@ use Rattle.header.specs.Shape.{maxLayers}
 use Rattle.header.specs.Accepted.{Accepted}
 use Rattle.header.specs.Header.{headerOk}
 use Rattle.layer.specs.Layer.{Layer, addLayer, addReads, addFits, item}
+use Rattle.univmon.specs.declared.Kind.{Kind}
 use Rattle.univmon.specs.State.{State, dimsAt, layerAt, allLayers, overLayers}
-use Rattle.univmon.specs.Slices.{Lent, lentOk, view, flat, cellsIn, normsIn, candsIn}
-use Rattle.univmon.specs.Updates.{recordLength, whoAt}
+use Rattle.univmon.specs.Slices.{Lent, lengthsOk, view, flat, cellsIn, normsIn, candsIn}
+use Rattle.univmon.specs.Updates.{recordLength, whoAt, firstSent, manySent, bottomBy}
 use Rattle.univmon.specs.Calls.{Left, left}
 
 -- slices of these lengths are a shape's
@@ -89,9 +91,33 @@ sentBy words w many first r =
     (left 0 (flat (overLayers (addsAt (r .head .shape) words w) many first (view r))))
     (left (judgedAt (r .head .shape) words w many first (view r)) r)
 
--- what an update needs once header, lengths and record have been found right
-pub record UpdateReady (r : Lent) (words : List ℕ) : Type 0 where
+-- what the tests and sends of a key need
+pub record KeyReady (r : Lent) (words : List ℕ) (w : ℕ) : Type 0 where
+  pub standing : Standing r
   pub headed : Headed (r .head)
-  pub ranged : headerOk (r .head) ≡ true
-  pub sized : lentOk r ≡ true
   pub recorded : length words ≡ recordLength (r .head .shape .layers)
+  pub light : w ≤ top
+
+-- tests and sends of the layers that a key reaches
+abbrev pub keySent : Kind → List ℕ → ℕ → Lent → Left
+keySent k words w r = sentBy words w (manySent k (bottomBy (view r) words)) (firstSent k (bottomBy (view r) words)) r
+
+-- the number of the first of the refusals that applies to header, lengths and record
+unfoldable pub soundNumber : Header → ℕ → ℕ → ℕ → ℕ → ℕ → ℕ
+soundNumber h xs ws es ns n =
+    cond (not (eqb (length (h .lens)) maxLayers)) 9
+    (cond (not (eqb (length (h .flags)) maxLayers)) 9
+    (cond (not (headerOk h)) 9
+    (cond (not (lengthsOk (h .shape) xs ws es ns)) 9
+    (cond (not (eqb n (recordLength (h .shape .layers)))) 12 0))))
+
+-- and to what is lent
+abbrev pub soundIn : Lent → List ℕ → ℕ
+soundIn r words = soundNumber (r .head) (length (r .counters)) (length (r .norms)) (length (r .entries)) (length (r .counts)) (length words)
+
+-- what all of an update but its beginning leaves, by the number that the beginning is refused with: weight and mode stay
+unfoldable pub sentAfter : Kind → ℕ → List ℕ → ℤ → Lent → Left
+sentAfter k n words w r =
+    cond (not (eqb (soundIn r words) 0)) (left (soundIn r words) r)
+    (cond (not (eqb n 0)) (left n r)
+    (keySent k words (natAbs w) r))

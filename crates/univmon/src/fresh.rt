@@ -1,6 +1,7 @@
 // States with nothing counted.
 use crate::sizes::lengths_match;
 use header::Answered;
+use header::CheckedShape;
 use header::Header;
 use header::Shape;
 ghost use mathlib.Core.Path.{_≡_};
@@ -35,19 +36,16 @@ pub fn new(
     ensures { λ r. ⌜ left (r .refusal) (lent (r .header) (now (counters .exit)) (now (norms .exit)) (now (entries .exit)) (now (counts .exit)))
         ≡ newCall (record { «heap_size» = «heap_size»; rows = rows; cols = cols; layers = layers }) (now (counters .entry)) (now (norms .entry)) (now (entries .entry)) (now (counts .entry)) ⌝ }
 {
-    let shape = Shape {
-        heap_size,
-        rows,
-        cols,
-        layers,
+    let checked = Shape::new(heap_size, rows, cols, layers);
+    let shape = match checked {
+        CheckedShape::Good(shape) => shape,
+        CheckedShape::Refused(refusal) => {
+            return Answered {
+                refusal,
+                header: Header::zero(),
+            };
+        }
     };
-    let refusal = shape.refusal();
-    if refusal != 0 {
-        return Answered {
-            refusal,
-            header: Header::zero(),
-        };
-    }
     if !lengths_match(
         shape,
         counters.len(),

@@ -1,10 +1,11 @@
 // The updates on a header whose lengths and flags are lent beside the slices, 19 places each: nothing
-// of 224 bytes is copied in and out.
+// of 224 bytes is copied in and out. So weight and mode begin by themselves, and lengths and flags are
+// stored in place.
 use crate::Kind;
-use crate::calls::update;
+use crate::stages::mode_of;
+use crate::stages::update;
 use header::Begun;
 use header::Fixed;
-use header::Shape;
 ghost use mathlib.Core.Path.{_≡_};
 ghost use Prim.Native.Nat.{ℕ};
 ghost use Rattle.header.specs.Header.{headOf};
@@ -29,21 +30,11 @@ fn update_lent(
         ≡ leftBy (lent (headOf had (now (flags .entry)) (now (lens .entry))) (now (counters .entry)) (now (norms .entry)) (now (entries .entry)) (now (counts .entry)))
         (lentUpdateCall kind (lent (headOf had (now (flags .entry)) (now (lens .entry))) (now (counters .entry)) (now (norms .entry)) (now (entries .entry)) (now (counts .entry))) (now (words .entry)) weight) ⌝ }
 {
-    if lens.len() != Shape::MAX_LAYERS {
-        return Begun {
-            refusal: 9,
-            fixed: had,
-        };
-    }
-    if flags.len() != Shape::MAX_LAYERS {
-        return Begun {
-            refusal: 9,
-            fixed: had,
-        };
-    }
-    update(
+    let begun = had.begin_update(weight, mode_of(kind));
+    let refusal = update(
         kind,
         had,
+        begun.refusal,
         flags,
         lens,
         counters,
@@ -52,7 +43,14 @@ fn update_lent(
         counts,
         words,
         weight,
-    )
+    );
+    if refusal != 0 {
+        return Begun {
+            refusal,
+            fixed: had,
+        };
+    }
+    begun
 }
 
 // The key goes to layers 0 to its bottom layer.

@@ -8,6 +8,7 @@ mod judge;
 mod lent;
 mod marks;
 pub mod sizes;
+mod stages;
 mod update;
 
 pub use calls::update_weighted;

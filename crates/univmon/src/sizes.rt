@@ -1,5 +1,5 @@
-// Where a layer stands in the slices, and how long they are. For the other calls of this
-// repository, which show first that the shape is accepted.
+// Where a layer stands in the slices, and how long they are. For the crates of this repository, which
+// show first that the shape is accepted.
 use header::Shape;
 use layer::Dims;
 ghost use mathlib.Core.Path.{_≡_};

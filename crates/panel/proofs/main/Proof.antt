@@ -1,11 +1,12 @@
 -- `panel::main` meets its contract. Written by hand: the check prints no file for it, since its own search goes through the
 -- elements of the longest array. A law gives each array's length instead.
-use Prim.Native.Nat.{ℕ, _*_, _≤_}
+use Prim.Native.Nat.{ℕ, _≤_}
 use mathlib.Core.Path.{_≡_, sym}
 use lib.ListN.{length, replicate, length-replicate}
 use lib.IntN.{pos}
 use native.Mathlib.Omega.{arith}
 use borrow.Author.Needs.{needs}
+use Rattle.panel_step.specs.Panel.{longest}
 use Rattle.panel.proofs.main.Statement.{statement}
 use Rattle.panel.proofs.main.Tie as tie
 use Rattle.panel.proofs.main.Reads as reads
@@ -31,14 +32,14 @@ slice-aggregate-run-6 : tie.Need-slice-aggregate-run-6
 slice-aggregate-run-6 c = sym (length-replicate 512 (pos 0))
 
 slice-aggregate-run-7 : tie.Need-slice-aggregate-run-7
-slice-aggregate-run-7 c = sym (length-replicate {A = ℕ} 1982464 0)
+slice-aggregate-run-7 c = sym (length-replicate {A = ℕ} 16384 0)
 
 -- lists of these lengths are long enough
-enough : (line out chunk : ℕ) → line ≡ 1025 → out ≡ 1982464 → chunk ≡ 16384 → (1025 ≤ line) × ((121 ≤ out) × (121 * chunk ≤ out))
-enough line out chunk a b c = (omega arith, (omega arith, omega arith))
+enough : (line out : ℕ) → line ≡ 1025 → out ≡ 16384 → (1025 ≤ line) × (longest ≤ out)
+enough line out a b = (omega arith, omega arith)
 
 run-requires : tie.Need-run-requires
-run-requires c κs = enough _ _ _ (length-replicate {A = ℕ} 1025 0) (length-replicate {A = ℕ} 1982464 0) (length-replicate {A = ℕ} 16384 0)
+run-requires c κs = enough _ _ (length-replicate {A = ℕ} 1025 0) (length-replicate {A = ℕ} 16384 0)
 
 returns : tie.Need-returns
 returns c = tt

@@ -1,9 +1,9 @@
 -- `panel::run` meets its contract.
 -- Written by tools/places.py from answers.txt; assumes nothing.
-use Prim.Native.Nat.{_*_, _≤_}
+use Prim.Native.Nat.{_≤_}
 use mathlib.Core.Path.{_≡_, refl, sym, ap, _∙_}
-use lib.ListN.{length, take}
-use lib.Seq.{length-take-le}
+use lib.ListN.{length}
+use lib.Seq.{length-take-le, take-all}
 use native.Mathlib.Omega.{arith}
 use borrow.Author.Needs.{needs}
 use denote.Ref.{now}
@@ -35,52 +35,39 @@ count-requires c κs = tt
 some : (c : tie.Else1 Inv-loop μ-loop) → c .before .count .result ≤ length (c .before .before .before .before .before .read .last .1 .0)
 some c = search needs
 
--- as many bytes of answers as the chunk that was read may have
-enough : (c : tie.Else1 Inv-loop μ-loop) → 121 * c .before .count .result ≤ length (c .before .before .before .before .before .before .before .before .loop .out)
-enough c = let z = c .before .before .before .before .before .before .before .before .loop .inv in omega (arith, some c, c .before .before .before .before .before .read .kept .1 .0, z .chunks, z .outs, c .before .before .before .before .before .before .before .before .before .before .before .before .before .before .before .pre .1 .1)
+slice-reshare-prefix-take-all : tie.Need-slice-reshare-prefix-take-all Inv-loop μ-loop
+slice-reshare-prefix-take-all c = some c
 
-slice-reshare-prefix-take-chunk : tie.Need-slice-reshare-prefix-take-chunk Inv-loop μ-loop
-slice-reshare-prefix-take-chunk c = some c
+slice-aggregate-take-all : tie.Need-slice-aggregate-take-all Inv-loop μ-loop
+slice-aggregate-take-all c = sym (length-take-le (c .before .before .count .result) _ (some (c .before)))
 
-slice-aggregate-take-chunk : tie.Need-slice-aggregate-take-chunk Inv-loop μ-loop
-slice-aggregate-take-chunk c = sym (length-take-le (c .before .before .count .result) _ (some (c .before)))
-
-take-chunk-requires : tie.Need-take-chunk-requires Inv-loop μ-loop
-take-chunk-requires c κs =
-    let z = c .before .before .before .before .before .before .before .before .before .before .before .before .before .before .before .loop .inv in
-    let e : length (take (c .before .before .before .before .before .before .before .before .count .result) (c .before .before .before .before .before .before .before .before .before .before .before .before .read .last .1 .0)) ≡ c .before .before .before .before .before .before .before .before .count .result = length-take-le (c .before .before .before .before .before .before .before .before .count .result) (c .before .before .before .before .before .before .before .before .before .before .before .before .read .last .1 .0) (some (c .before .before .before .before .before .before .before)) in
-    (z .few, (omega (arith, z .lines, c .before .before .before .before .before .before .before .before .before .before .before .before .before .before .before .before .before .before .before .before .before .before .pre .0), omega (arith, enough (c .before .before .before .before .before .before .before), e)))
-
-print-requires : tie.Need-print-requires Inv-loop μ-loop
-print-requires c κs =
-    let e : length (take (c .before .before .before .before .before .before .before .before .before .before .before .before .before .before .before .before .before .before .before .before .count .result) (c .before .before .before .before .before .before .before .before .before .before .before .before .before .before .before .before .before .before .before .before .before .before .before .before .read .last .1 .0)) ≡ c .before .before .before .before .before .before .before .before .before .before .before .before .before .before .before .before .before .before .before .before .count .result = length-take-le (c .before .before .before .before .before .before .before .before .before .before .before .before .before .before .before .before .before .before .before .before .count .result) (c .before .before .before .before .before .before .before .before .before .before .before .before .before .before .before .before .before .before .before .before .before .before .before .before .read .last .1 .0) (some (c .before .before .before .before .before .before .before .before .before .before .before .before .before .before .before .before .before .before .before)) in
-    let k = c .before .before .before .before .before .before .before .before .before .before .before .take-chunk .kept .1 .1 .1 .1 .1 .1 .1 .1 .0 in
-    omega (arith, enough (c .before .before .before .before .before .before .before .before .before .before .before .before .before .before .before .before .before .before .before), e, k, c .before .before .before .before .before .before .before .before .before .before .before .take-chunk .ensures .1 .1 .1)
+take-all-requires : tie.Need-take-all-requires Inv-loop μ-loop
+take-all-requires c κs = let z = c .before .before .before .before .before .before .before .before .before .before .before .before .before .before .before .loop .inv in (z .few, (omega (arith, z .lines, c .before .before .before .before .before .before .before .before .before .before .before .before .before .before .before .before .before .before .before .before .before .before .pre .0), omega (arith, z .outs, c .before .before .before .before .before .before .before .before .before .before .before .before .before .before .before .before .before .before .before .before .before .before .pre .1)))
 
 sub-turns : tie.Need-sub-turns Inv-loop μ-loop
-sub-turns c = omega (arith, c .before .before .before .before .before .before .before .before .before .before .before .before .before .before .before .before .before .before .before .before .before .before .before .before .before .before .before .before .loop-test .taken)
+sub-turns c = omega (arith, c .before .before .before .before .before .before .before .before .before .before .before .before .before .before .before .before .before .before .before .before .before .before .before .before .before .before .loop-test .taken)
 
 loop-less : tie.Need-loop-less Inv-loop μ-loop
-loop-less c = omega (arith, c .before .before .before .before .before .before .before .before .before .before .before .before .before .before .before .before .before .before .before .before .before .before .before .before .before .before .before .before .loop-test .taken)
+loop-less c = omega (arith, c .before .before .before .before .before .before .before .before .before .before .before .before .before .before .before .before .before .before .before .before .before .before .before .before .before .before .loop-test .taken)
 
 loop-again : tie.Need-loop-again Inv-loop μ-loop
 loop-again c =
-    let z = c .before .before .before .before .before .before .before .before .before .before .before .before .before .before .before .before .before .before .before .before .before .before .before .before .before .before .before .before .before .loop .inv in
-    let t = c .before .before .before .before .before .before .before .before .before .before .before .before .before .take-chunk in
+    let z = c .before .before .before .before .before .before .before .before .before .before .before .before .before .before .before .before .before .before .before .before .before .before .before .before .before .before .before .loop .inv in
+    let t = c .before .before .before .before .before .before .before .before .before .before .before .take-all in
     let k = t .kept .1 in
     record {
-      few = t .ensures .1 .1 .0;
-      chunks = c .before .before .before .before .before .before .before .before .before .before .before .before .before .before .before .before .before .before .before .before .before .before .before .before .before .before .read .kept .1 .0 ∙ z .chunks;
+      few = t .ensures .1 .1;
+      chunks = c .before .before .before .before .before .before .before .before .before .before .before .before .before .before .before .before .before .before .before .before .before .before .before .before .read .kept .1 .0 ∙ z .chunks;
       lines = k .0 ∙ z .lines;
       outs = k .1 .1 .1 .1 .1 .1 .1 .0 ∙ z .outs;
       kept = kept-on _ _ _ (z .kept) (record { counters = k .1 .1 .1 .0; norms = k .1 .1 .1 .1 .0; entries = k .1 .1 .1 .1 .1 .0; counts = k .1 .1 .1 .1 .1 .1 .0 });
     }
 
 reply-requires : tie.Need-reply-requires Inv-loop μ-loop
-reply-requires c κs = let z = c .before .before .before .before .before .before .before .before .loop .inv in (omega (arith, z .few, z .lines, c .before .before .before .before .before .before .before .before .before .before .before .before .before .before .before .pre .0), omega (arith, z .outs, c .before .before .before .before .before .before .before .before .before .before .before .before .before .before .before .pre .1 .0))
+reply-requires c κs = let z = c .before .before .before .before .before .before .before .before .loop .inv in (omega (arith, z .few, z .lines, c .before .before .before .before .before .before .before .before .before .before .before .before .before .before .before .pre .0), omega (arith, z .outs, c .before .before .before .before .before .before .before .before .before .before .before .before .before .before .before .pre .1))
 
-print-requires-2 : tie.Need-print-requires-2 Inv-loop μ-loop
-print-requires-2 c κs = let z = c .before .before .before .before .before .before .before .before .before .before .before .before .before .before .before .before .before .before .loop .inv in let k = c .before .before .before .before .before .before .before .before .before .reply .kept .1 .1 .1 .1 .1 .1 .1 .0 in omega (arith, c .before .before .before .before .before .before .before .before .before .reply .ensures .1, k, z .outs, c .before .before .before .before .before .before .before .before .before .before .before .before .before .before .before .before .before .before .before .before .before .before .before .before .before .pre .1 .0)
+print-requires : tie.Need-print-requires Inv-loop μ-loop
+print-requires c κs = let z = c .before .before .before .before .before .before .before .before .before .before .before .before .before .before .before .before .before .before .loop .inv in let k = c .before .before .before .before .before .before .before .before .before .reply .kept .1 .1 .1 .1 .1 .1 .1 .0 in omega (arith, c .before .before .before .before .before .before .before .before .before .reply .ensures .1, k, z .outs, c .before .before .before .before .before .before .before .before .before .before .before .before .before .before .before .before .before .before .before .before .before .before .before .before .before .pre .1)
 
 -- the loop was left before a chunk was read, or after one that had no byte
 left-chunk : (c : tie.Left-loop Inv-loop μ-loop) → length (c .loop-test .chunk) ≡ length (now (c .before .before .before .before .before .before .before .before .args .chunk))
@@ -137,4 +124,4 @@ returns-2 : tie.Need-returns-2 Inv-loop μ-loop
 returns-2 c = tt
 
 pub run-spec : {M : Type 1} → statement M
-run-spec = tie.close (tie.spec Inv-loop μ-loop zero-requires loop-holds read-requires count-requires slice-reshare-prefix-take-chunk slice-aggregate-take-chunk take-chunk-requires print-requires sub-turns loop-less loop-again reply-requires print-requires-2 same-length same-length-2 same-length-3 same-length-4 same-length-5 same-length-6 same-length-7 returns same-length-8 same-length-9 same-length-10 same-length-11 same-length-12 same-length-13 same-length-14 returns-2)
+run-spec = tie.close (tie.spec Inv-loop μ-loop zero-requires loop-holds read-requires count-requires slice-reshare-prefix-take-all slice-aggregate-take-all take-all-requires sub-turns loop-less loop-again reply-requires print-requires same-length same-length-2 same-length-3 same-length-4 same-length-5 same-length-6 same-length-7 returns same-length-8 same-length-9 same-length-10 same-length-11 same-length-12 same-length-13 same-length-14 returns-2)

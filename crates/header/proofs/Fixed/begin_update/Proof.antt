@@ -1,6 +1,6 @@
 -- `header::Fixed::begin_update` meets its contract.
 -- Written by tools/places.py from answers.txt; assumes nothing.
-use Prim.Native.Nat.{_+_}
+use Prim.Native.Nat.{_+_, _≤_}
 use mathlib.Core.Path.{_≡_, sym, ap, _∙_}
 use mathlib.Core.Bool.{true, false}
 use lib.IntN.{natAbs}
@@ -45,34 +45,44 @@ cast-w c =
     let e = toZ-ofZ (c .before .before .before .fits .weight) in
     rw e (not-negative (c .before .before .before .args .weight) (rw e at (c .before .before .if1 .left)) (c .before .before .before .fits .weight .sfits))
 
-sub-if3 : tie.Need-sub-if3
-sub-if3 c = search needs
+-- the weight is small enough by itself
+light : (c : tie.Else3) → natAbs (c .before .before .before .before .args .weight) ≤ top
+light c = omega (arith, amount (c .before .before .before .before), c .if3 .left)
 
 returns-3 : tie.Need-returns-3
 unfolding beginOf
 returns-3 c =
     simp (
-      positive (c .before .before .before .before),
-      sym (c .before .before .before .clashes .ensures) ∙ c .before .before .if2 .left,
-      lt-leb (c .before .before .before .before .before .args .self .weight + natAbs (c .before .before .before .before .before .args .weight)) top (omega (arith, c .before .before .before .before .before .pre, amount (c .before .before .before .before .before), c .if3 .taken)),
+      positive (c .before .before .before),
+      sym (c .before .before .clashes .ensures) ∙ c .before .if2 .left,
+      lt-leb (c .before .before .before .before .args .self .weight + natAbs (c .before .before .before .before .args .weight)) top (omega (arith, amount (c .before .before .before .before), c .if3 .taken)),
     )
-
-add-sum : tie.Need-add-sum
-add-sum c = record { fits = omega (arith, c .before .before .before .before .before .before .pre, c .before .if3 .left) }
-
-join-requires : tie.Need-join-requires
-join-requires c κs = search needs
 
 returns-4 : tie.Need-returns-4
 unfolding beginOf
 returns-4 c =
     simp (
-      positive (c .before .before .before .before .before .before .before),
-      sym (c .before .before .before .before .before .before .clashes .ensures) ∙ c .before .before .before .before .before .if2 .left,
-      le-leb (c .before .before .before .before .before .before .before .before .args .self .weight + natAbs (c .before .before .before .before .before .before .before .before .args .weight)) top (omega (arith, c .before .before .before .before .before .before .before .before .pre, amount (c .before .before .before .before .before .before .before .before), c .before .before .before .if3 .left)),
+      positive (c .before .before .before .before .before),
+      sym (c .before .before .before .before .clashes .ensures) ∙ c .before .before .before .if2 .left,
+      lt-leb (c .before .before .before .before .before .before .args .self .weight + natAbs (c .before .before .before .before .before .before .args .weight)) top (omega (arith, light (c .before .before), amount (c .before .before .before .before .before .before), c .if4 .taken)),
+    )
+
+add-sum : tie.Need-add-sum
+add-sum c = record { fits = omega (arith, light (c .before .before .before), amount (c .before .before .before .before .before .before .before), c .before .if4 .left) }
+
+join-requires : tie.Need-join-requires
+join-requires c κs = search needs
+
+returns-5 : tie.Need-returns-5
+unfolding beginOf
+returns-5 c =
+    simp (
+      positive (c .before .before .before .before .before .before .before .before),
+      sym (c .before .before .before .before .before .before .before .clashes .ensures) ∙ c .before .before .before .before .before .before .if2 .left,
+      le-leb (c .before .before .before .before .before .before .before .before .before .args .self .weight + natAbs (c .before .before .before .before .before .before .before .before .before .args .weight)) top (omega (arith, light (c .before .before .before .before .before), amount (c .before .before .before .before .before .before .before .before .before), c .before .before .before .if4 .left)),
       c .join .ensures,
-      amount (c .before .before .before .before .before .before .before .before),
+      amount (c .before .before .before .before .before .before .before .before .before),
     )
 
 pub begin-update-spec : {M : Type 1} → statement M
-begin-update-spec = tie.close (tie.spec returns clashes-requires returns-2 cast-w sub-if3 returns-3 add-sum join-requires returns-4)
+begin-update-spec = tie.close (tie.spec returns clashes-requires returns-2 cast-w returns-3 returns-4 add-sum join-requires returns-5)

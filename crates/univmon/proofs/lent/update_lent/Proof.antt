@@ -1,30 +1,39 @@
 -- `univmon::lent::update_lent` meets its contract.
 -- Written by tools/places.py from answers.txt; assumes nothing.
-use mathlib.Core.Path.{_∙_}
+use mathlib.Core.Path.{_≡_, sym, ap, _∙_}
 use borrow.Author.Needs.{needs}
-use borrow.Author.Tests.{eq-eqb, ne-eqb}
 use denote.Ref.{now}
 use mir.Facts.{toZ-ofZ}
-use Rattle.header.specs.Shape.{maxLayers}
-use Rattle.header.specs.Header.{headOf}
+use Rattle.header.specs.Header.{headOf, beginOf}
 use Rattle.univmon.specs.Slices.{lent, Lent}
 use Rattle.univmon.specs.Calls.{left}
-use Rattle.univmon.proofs.Updating.{unplaced, placed-call}
+use Rattle.univmon.specs.Needs.{sentAfter}
+use Rattle.header.specs.declared.Begun.{Begun}
+use Rattle.header.proofs.Steps.{begun-is, begin-light}
+use Rattle.univmon.specs.Updates.{modeOf}
+use Rattle.univmon.proofs.Updating.{call-refused, call-done}
 use Rattle.univmon.proofs.lent.update_lent.Statement.{statement}
 use Rattle.univmon.proofs.lent.update_lent.Tie as tie
+
+mode-of-requires : tie.Need-mode-of-requires
+mode-of-requires c κs = search needs
+
+begin-update-requires : tie.Need-begin-update-requires
+begin-update-requires c κs = search needs
 
 -- the state that is lent
 abbrev lent-of : tie.Start → Lent
 lent-of c = lent (headOf (c .args .had) (now (c .args .flags)) (now (c .args .lens))) (now (c .args .counters)) (now (c .args .norms)) (now (c .args .entries)) (now (c .args .counts))
 
-returns : tie.Need-returns
-returns c = let a = c .before .before .before .before .before .before .args in unplaced (a .kind) (lent-of (c .before .before .before .before .before .before)) (now (a .words)) (a .weight) (rw (ne-eqb _ maxLayers (c .if1 .taken)))
+-- what the tests of weight and mode answered
+begins : (c : tie.After-begin-update) → c .begin-update .result ≡ beginOf (c .before .before .before .before .before .before .before .args .had) (c .before .before .before .before .before .before .before .args .weight) (modeOf (c .before .before .before .before .before .before .before .args .kind))
+begins c = rw (toZ-ofZ (c .before .before .before .before .before .before .before .fits .weight), c .before .mode-of .ensures) at (c .begin-update .ensures)
 
-returns-2 : tie.Need-returns-2
-returns-2 c = let a = c .before .before .before .before .before .before .before .args in unplaced (a .kind) (lent-of (c .before .before .before .before .before .before .before)) (now (a .words)) (a .weight) (rw (eq-eqb _ maxLayers (c .before .if1 .left), ne-eqb _ maxLayers (c .if2 .taken)))
+number : (c : tie.After-begin-update) → c .begin-update .result .refusal ≡ beginOf (c .before .before .before .before .before .before .before .args .had) (c .before .before .before .before .before .before .before .args .weight) (modeOf (c .before .before .before .before .before .before .before .args .kind)) .refusal
+number c = ap (λ (b : Begun). b .refusal) (begins c)
 
 update-requires : tie.Need-update-requires
-update-requires c κs = record { lens = c .before .before .before .before .before .before .before .if1 .left; flags = c .before .before .before .before .before .before .if2 .left }
+update-requires c κs = λ z. let a = c .before .before .before .before .before .before .before .before .before .before .before .before .before .args in rw (toZ-ofZ (c .before .before .before .before .before .before .before .before .before .before .before .before .before .fits .weight)) (begin-light (a .had) (a .weight) (modeOf (a .kind)) (sym (number (c .before .before .before .before .before .before)) ∙ z))
 
 same-length : tie.Need-same-length
 same-length c = search needs
@@ -44,10 +53,42 @@ same-length-5 c = search needs
 same-length-6 : tie.Need-same-length-6
 same-length-6 c = search needs
 
-returns-3 : tie.Need-returns-3
-returns-3 c =
-    let a = c .before .before .before .before .before .before .before .before .before .before .before .before .before .before .before .before .before .before .before .before .before .before .before .before .args in
-    rw (toZ-ofZ (c .before .before .before .before .before .before .before .before .before .before .before .before .before .before .before .before .before .before .before .before .before .before .before .before .fits .weight)) at (c .before .before .before .before .before .before .before .before .before .before .update .ensures) ∙ placed-call (a .kind) (lent-of (c .before .before .before .before .before .before .before .before .before .before .before .before .before .before .before .before .before .before .before .before .before .before .before .before)) (now (a .words)) (a .weight) (c .before .before .before .before .before .before .before .before .before .before .before .before .before .before .before .before .before .before .if1 .left) (c .before .before .before .before .before .before .before .before .before .before .before .before .before .before .before .before .before .if2 .left)
+-- what all but the beginning left
+left-is : (c : tie.After-update) → let a = c .before .before .before .before .before .before .before .before .before .before .before .before .before .before .args in let l = c .update .last in
+    left (c .update .result) (lent (headOf (a .had) (l .1 .1 .1 .0) (l .1 .1 .1 .1 .0)) (l .1 .1 .1 .1 .1 .0) (l .1 .1 .1 .1 .1 .1 .0) (l .1 .1 .1 .1 .1 .1 .1 .0) (l .1 .1 .1 .1 .1 .1 .1 .1 .0))
+    ≡ sentAfter (a .kind) (beginOf (a .had) (a .weight) (modeOf (a .kind)) .refusal) (now (a .words)) (a .weight) (lent-of (c .before .before .before .before .before .before .before .before .before .before .before .before .before .before))
+left-is c = rw (toZ-ofZ (c .before .before .before .before .before .before .before .before .before .before .before .before .before .before .fits .weight), number (c .before .before .before .before .before .before .before)) at (c .update .ensures)
+
+returns : tie.Need-returns
+returns c =
+    let a = c .before .before .before .before .before .before .before .before .before .before .before .before .before .before .before .before .before .before .before .before .before .before .before .before .before .args in
+    let q = call-refused (a .kind) (lent-of (c .before .before .before .before .before .before .before .before .before .before .before .before .before .before .before .before .before .before .before .before .before .before .before .before .before)) (now (a .words)) (a .weight) (c .before .before .before .before .before .before .before .before .before .before .before .update .result) _ (left-is (c .before .before .before .before .before .before .before .before .before .before .before)) (c .if1 .taken) in
+    ap (left (c .before .before .before .before .before .before .before .before .before .before .before .update .result)) (q .0) ∙ q .1
+
+same-length-7 : tie.Need-same-length-7
+same-length-7 c = search needs
+
+same-length-8 : tie.Need-same-length-8
+same-length-8 c = search needs
+
+same-length-9 : tie.Need-same-length-9
+same-length-9 c = search needs
+
+same-length-10 : tie.Need-same-length-10
+same-length-10 c = search needs
+
+same-length-11 : tie.Need-same-length-11
+same-length-11 c = search needs
+
+same-length-12 : tie.Need-same-length-12
+same-length-12 c = search needs
+
+returns-2 : tie.Need-returns-2
+returns-2 c =
+    let a = c .before .before .before .before .before .before .before .before .before .before .before .before .before .before .before .before .before .before .before .before .before .before .before .before .before .args in
+    let q = call-done (a .kind) (lent-of (c .before .before .before .before .before .before .before .before .before .before .before .before .before .before .before .before .before .before .before .before .before .before .before .before .before)) (now (a .words)) (a .weight) (c .before .before .before .before .before .before .before .before .before .before .before .update .result) _ (left-is (c .before .before .before .before .before .before .before .before .before .before .before)) (c .if1 .left) in
+    let z : c .before .before .before .before .before .before .before .before .before .before .before .before .before .before .before .before .before .before .begin-update .result .refusal ≡ 0 = number (c .before .before .before .before .before .before .before .before .before .before .before .before .before .before .before .before .before .before) ∙ q .0 in
+    rw (z, begun-is (a .had) (a .weight) (modeOf (a .kind)) (c .before .before .before .before .before .before .before .before .before .before .before .before .before .before .before .before .before .before .begin-update .result) (begins (c .before .before .before .before .before .before .before .before .before .before .before .before .before .before .before .before .before .before)) z) (q .1)
 
 pub update-lent-spec : {M : Type 1} → statement M
-update-lent-spec = tie.close (tie.spec returns returns-2 update-requires same-length same-length-2 same-length-3 same-length-4 same-length-5 same-length-6 returns-3)
+update-lent-spec = tie.close (tie.spec mode-of-requires begin-update-requires update-requires same-length same-length-2 same-length-3 same-length-4 same-length-5 same-length-6 returns same-length-7 same-length-8 same-length-9 same-length-10 same-length-11 same-length-12 returns-2)

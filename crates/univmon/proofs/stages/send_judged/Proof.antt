@@ -1,4 +1,4 @@
--- `univmon::calls::send_judged` meets its contract.
+-- `univmon::stages::send_judged` meets its contract.
 -- Written by tools/places.py from answers.txt; assumes nothing.
 use mathlib.Core.Path.{_≡_, sym, _∙_}
 use borrow.Author.Needs.{needs}
@@ -8,8 +8,8 @@ use Rattle.univmon.specs.Slices.{lent, view, Lent}
 use Rattle.univmon.specs.Calls.{left}
 use Rattle.univmon.specs.Needs.{judgedAt}
 use Rattle.univmon.proofs.Updating.{sent-refused, sends-ready, sent-done}
-use Rattle.univmon.proofs.calls.send_judged.Statement.{statement}
-use Rattle.univmon.proofs.calls.send_judged.Tie as tie
+use Rattle.univmon.proofs.stages.send_judged.Statement.{statement}
+use Rattle.univmon.proofs.stages.send_judged.Tie as tie
 
 -- the state that is lent
 abbrev lent-of : tie.Start → Lent

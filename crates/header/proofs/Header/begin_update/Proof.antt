@@ -1,0 +1,27 @@
+-- `header::Header::begin_update` meets its contract.
+-- Written by tools/places.py from answers.txt; assumes nothing.
+use borrow.Author.Needs.{needs}
+use mir.Facts.{toZ-ofZ}
+use Rattle.header.proofs.Steps.{header-begins}
+use Rattle.header.proofs.Header.begin_update.Statement.{statement}
+use Rattle.header.proofs.Header.begin_update.Tie as tie
+
+fixed-requires : tie.Need-fixed-requires
+fixed-requires c κs = search needs
+
+begin-update-requires : tie.Need-begin-update-requires
+begin-update-requires c κs = search needs
+
+with-weight-requires : tie.Need-with-weight-requires
+with-weight-requires c κs = search needs
+
+with-mode-requires : tie.Need-with-mode-requires
+with-mode-requires c κs = search needs
+
+returns : tie.Need-returns
+returns c =
+    let b = rw (toZ-ofZ (c .before .before .before .before .before .fits .weight), c .before .before .before .before .fixed .ensures) at (c .before .before .before .begin-update .ensures) in
+    rw (c .with-mode .ensures, c .before .with-weight .ensures) (header-begins (c .before .before .before .before .before .args .self) (c .before .before .before .before .before .args .weight) (c .before .before .before .before .before .args .mode) (c .before .before .before .begin-update .result) b)
+
+pub begin-update-spec : {M : Type 1} → statement M
+begin-update-spec = tie.close (tie.spec fixed-requires begin-update-requires with-weight-requires with-mode-requires returns)

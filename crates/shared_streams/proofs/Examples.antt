@@ -1,0 +1,89 @@
+-- Lists of calls, computed from the definitions: refused calls and merges among them, and what one record per key is for. Assumes nothing.
+use mathlib.Core.Path.{_≡_, refl}
+use Prim.Native.Nat.{ℕ}
+use mathlib.Core.Bool.{true, false}
+use mathlib.Core.List.{List, [], _∷_, map}
+use lib.ListN.{length}
+use lib.IntN.{pos}
+use lib.Ieee.{binary64, ofInt, ofBits, toBits, add, sub, mul, div, le}
+use Rattle.words.specs.Num.{inRange, capped, allIn}
+use Rattle.matrix_storage.specs.Bits.{log2In, log2, maskBits, hashOf, column, signed}
+use Rattle.structure_utils.specs.Median.{insertBy, sortBy, middleF, median, middle}
+use Rattle.countsketch_l2_norm.specs.Estimate.{estimates, estimateF, estimateOf, cellsIn}
+use Rattle.countsketch_l2_norm.specs.Merge.{sums, sumBelow, squaresFrom, rowNorms}
+use Rattle.countsketch_l2_norm.specs.Norms.{normsOf, wordsOf}
+use Rattle.countsketch_l2_norm.specs.L2.{l2Squared, l2Of, normsIn}
+use Rattle.float64.specs.Norm.{normRead}
+use Rattle.float64.specs.Root.{root}
+use Rattle.float64.specs.Cut.{heavyThreshold}
+use Rattle.countsketch_l2_norm.specs.Sketch.{addCell, addRows, rowsRead, rowsFit}
+use Rattle.heap_moves.specs.Cands.{up, down, updateAt, leftOr, lower}
+use Rattle.heap_moves.specs.Flat.{candsOf, entriesOf}
+use Rattle.heap.specs.Offer.{find, rescore, replaceRoot, displace, seat, offer}
+use Rattle.header.specs.Header.{freshHeader, lensFrom, headerOk}
+use Rattle.header.specs.Shape.{shapeRefusal, bottomFrom, bottomOf}
+use Rattle.header.specs.declared.Shape.{Shape}
+use Rattle.layer.specs.Layer.{addSketch, addLayer, addReads, addFits}
+use Rattle.layer.specs.Merge.{hasKey, firsts, whos, offerAll, mergeLayer, mergeReads, mergeFits}
+use Rattle.univmon.specs.declared.Kind.the-variants as kind
+use Rattle.univmon.specs.Calls.{updateCall}
+use Rattle.univmon.specs.Slices.{lengthsOk, view, flat, freshLent}
+use Rattle.univmon.specs.State.{rowsAt, colsAt, cellOff, normOff, candOff, layerAt, putLayer, overLayers, allLayers, sizesOk}
+use Rattle.univmon.specs.Updates.{updateTests, updated, update}
+use Rattle.univmon_merge.specs.Merges.{mergeTests, merged, merge}
+use Rattle.univmon_merge.specs.Calls.{mergeCall}
+use Rattle.sums.specs.Layers.{gSum, standardSum}
+use Rattle.sums.specs.Terminal.{gatherOne, gather, ahead, rankIn, ranked, gathered, terminalSum, flagged, complete, squares}
+use Rattle.sums.specs.Terms.{gOf, factor, counted, addTerm, sumOver}
+use Rattle.estimates.specs.Calls.{sumCall, cardinalityCall}
+use Rattle.estimates.specs.Sums.{ownAt, gSumOf, whosRead, layerReads, sumRefusal}
+use Rattle.shared_streams.specs.Books.{weightOf, bookMode, distinct, bookKeys}
+use Rattle.shared_streams.specs.Relays.{Relay, Call, feed, join, start, relayAt, called, run, accepted}
+use Rattle.shared_streams.specs.Ledger.{Account, feedNumber, joinNumber, booked, ledger, books}
+
+abbrev shape : Shape
+shape = record { «heap_size» = 2; rows = 2; cols = 4; layers = 2 }
+
+abbrev high : ℕ
+high = 0x8000000000000000
+
+abbrev recordA : List ℕ
+recordA = 7 ∷ 0 ∷ high ∷ 6 ∷ 0 ∷ 0 ∷ []
+
+abbrev recordB : List ℕ
+recordB = 8 ∷ 2 ∷ 3 ∷ 9 ∷ high ∷ 5 ∷ []
+
+-- a terminal update among standard ones, weight 0, two merges, and a call on a relay that was merged
+abbrev standards : List Call
+standards =
+    feed kind.Standard 0 recordA (pos 5) ∷ feed kind.Terminal 0 recordA (pos 1) ∷ feed kind.Standard 1 recordB (pos 0) ∷ join 0 1 ∷ feed kind.Standard 1 recordB (pos 9)
+    ∷ feed kind.Standard 2 recordA (pos 3) ∷ join 2 0 ∷ []
+
+abbrev terminals : List Call
+terminals = feed kind.Terminal 0 recordA (pos 0) ∷ feed kind.Terminal 1 recordB (pos 0) ∷ feed kind.Terminal 2 recordB (pos 0) ∷ join 0 1 ∷ join 2 0 ∷ []
+
+-- one key with two bottom hashes: three receivers are shown where there is one
+abbrev twoRecords : List Call
+twoRecords = feed kind.Standard 2 recordA (pos 1) ∷ feed kind.Standard 2 (7 ∷ 2 ∷ high ∷ 6 ∷ 0 ∷ 0 ∷ []) (pos 1) ∷ []
+
+-- one key with one bottom hash and two layer hashes: still one
+abbrev twoHashes : List Call
+twoHashes = feed kind.Standard 2 (7 ∷ 2 ∷ high ∷ 6 ∷ 0 ∷ 0 ∷ []) (pos 1) ∷ feed kind.Standard 2 (7 ∷ 2 ∷ 3 ∷ 1 ∷ 9 ∷ 4 ∷ []) (pos 1) ∷ []
+
+-- of relay 2 of three: its updates, their weight and distinct keys, all accepted updates, and the cardinality as it is answered
+abbrev said : List Call → List ℕ
+said cs =
+    let r : Relay = relayAt shape (run shape (start shape 3) cs) 2 in
+    length (r .book) ∷ weightOf (r .book) ∷ distinct (bookKeys (r .book)) ∷ length (accepted shape (start shape 3) cs) ∷ cardinalityCall (r .lends) .refusal
+    ∷ toBits binary64 (cardinalityCall (r .lends) .value) ∷ []
+
+pub examples : map said (standards ∷ terminals ∷ twoRecords ∷ twoHashes ∷ [])
+    ≡ (3 ∷ 8 ∷ 2 ∷ 3 ∷ 0 ∷ 0x4000000000000000 ∷ []) ∷ (3 ∷ 0 ∷ 2 ∷ 3 ∷ 0 ∷ 0x4000000000000000 ∷ []) ∷ (2 ∷ 2 ∷ 1 ∷ 2 ∷ 0 ∷ 0x4008000000000000 ∷ [])
+    ∷ (2 ∷ 2 ∷ 1 ∷ 2 ∷ 0 ∷ 0x3FF0000000000000 ∷ []) ∷ []
+unfolding ofInt ofBits toBits add sub mul div le inRange capped allIn log2In log2 maskBits hashOf column signed insertBy sortBy middleF median middle estimates estimateF estimateOf cellsIn sums sumBelow squaresFrom rowNorms normsOf wordsOf addCell addRows rowsRead rowsFit up down updateAt leftOr lower candsOf entriesOf find rescore replaceRoot displace seat offer freshHeader lensFrom headerOk shapeRefusal bottomFrom bottomOf addSketch addLayer addReads addFits hasKey firsts whos offerAll mergeLayer mergeReads mergeFits updateCall lengthsOk view flat freshLent rowsAt colsAt cellOff normOff candOff layerAt putLayer overLayers allLayers sizesOk updateTests updated update mergeTests merged merge mergeCall called run gSum standardSum gOf factor counted addTerm sumOver sumCall ownAt gSumOf whosRead layerReads sumRefusal weightOf distinct accepted normRead root l2Squared l2Of normsIn heavyThreshold gatherOne gather ahead rankIn ranked gathered flagged complete squares terminalSum
+examples = refl
+
+-- from the list alone: who is retired, and how many updates each book has
+pub from-the-list : (map (λ (a : Account). a .retired) (books shape 3 standards) ≡ true ∷ true ∷ false ∷ []) × (map (λ (a : Account). length (a .book)) (books shape 3 standards) ≡ 2 ∷ 1 ∷ 3 ∷ [])
+unfolding bookMode weightOf feedNumber joinNumber booked ledger
+from-the-list = (refl, refl)

@@ -1,0 +1,135 @@
+-- The books of a run are those that the list of calls alone gives. Assumes nothing.
+use mathlib.Core.Path.{_≡_, refl, sym, ap, ap₂, _∙_, subst}
+use Prim.Native.Nat.{ℕ, zero, suc}
+use mathlib.Core.Bool.{Bool, true, false, cond}
+use mathlib.Core.List.{List, [], _∷_, _++_, map}
+use lib.ListN.{set, replicate, List·getD-map}
+use lib.IntN.{ℤ}
+use lib.Dec.{eqb}
+use borrow.Author.Tests.{eq-eqb, ne-eqb}
+use Rattle.words.proofs.Lists.{All}
+use Rattle.header.specs.declared.Shape.{Shape}
+use Rattle.header.specs.Shape.{shapeRefusal}
+use Rattle.univmon.specs.declared.Kind.{Kind}
+use Rattle.univmon.specs.Calls.{Outcome, updateCall}
+use Rattle.univmon_merge.specs.Calls.{mergeCall}
+use Rattle.shared_streams.specs.Books.{Update, Book}
+use Rattle.shared_streams.specs.Relays.{Relay, freshRelay, start, relayAt, Call, feed, join, retirements, names, updateBy, fed, joinedTo, called, step, run, ifAccepted, updateOf, accepted}
+use Rattle.shared_streams.specs.Ledger.{feedNumber, joinNumber, Answers, Account, opened, accountOf, accountAt, entered, united, booked, gone, bookStep, ledger, books, entryOf, entries}
+use Rattle.shared_streams.proofs.Runs.{Every, live-lt, pair, step-good, start-good}
+use Rattle.shared_streams.proofs.Acceptance.{feed-answers, join-answers}
+
+-- ---- lists
+
+map-set : {A B : Type 0} (f : A → B) (xs : List A) (i : ℕ) (x : A) → map f (set xs i x) ≡ set (map f xs) i (f x)
+map-set f [] i x = refl
+map-set f (y ∷ xs) zero x = refl
+map-set {B = B} f (y ∷ xs) (suc i) x = ap (λ (z : List B). f y ∷ z) (map-set f xs i x)
+
+map-replicate : {A B : Type 0} (f : A → B) (n : ℕ) (x : A) → map f (replicate n x) ≡ replicate n (f x)
+map-replicate f zero x = refl
+map-replicate {B = B} f (suc n) x = ap (λ (z : List B). f x ∷ z) (map-replicate f n x)
+
+map-map : (rs : List Relay) → gone (map accountOf rs) ≡ retirements rs
+map-map [] = refl
+map-map (r ∷ rs) = ap (λ (z : List Bool). r .retired ∷ z) (map-map rs)
+
+-- no condition on the updates of a book
+abbrev Any : Update → Type 0
+Any e = Unit {0}
+
+any : (b : Book) → All Any b
+any [] = tt
+any (e ∷ b) = (tt, any b)
+
+-- ---- one call
+
+module _ (sh : Shape) (v : shapeRefusal sh ≡ 0) where
+  account-at : (rs : List Relay) (i : ℕ) → accountAt (map accountOf rs) i ≡ accountOf (relayAt sh rs i)
+  account-at rs i = List·getD-map accountOf rs i (freshRelay sh)
+
+  fed-account : (r : Relay) (e : Update) (o : Outcome) (n : ℕ) → Answers o n → accountOf (fed r e o) ≡ entered n (accountOf r) e
+  fed-account r e (Outcome.no m) n p = rw (ne-eqb n 0 (p .1)) refl
+  fed-account r e (Outcome.yes t) n p = rw (eq-eqb n 0 p) refl
+
+  joined-accounts : (rs : List Relay) (i j : ℕ) (a b : Relay) (o : Outcome) (n : ℕ) → Answers o n
+      → map accountOf (joinedTo rs i j a b o) ≡ united n (map accountOf rs) i j (accountOf a) (accountOf b)
+  joined-accounts rs i j a b (Outcome.no m) n p = rw (ne-eqb n 0 (p .1)) refl
+  joined-accounts rs i j a b (Outcome.yes t) n p = rw (eq-eqb n 0 p) (map-set accountOf (set rs j (record { lends = b .lends; book = b .book; retired = true })) i (record { lends = t; book = a .book ++ b .book; retired = a .retired }) ∙ ap (λ (z : List Account). set z i (record { book = a .book ++ b .book; retired = a .retired })) (map-set accountOf rs j (record { lends = b .lends; book = b .book; retired = true })))
+
+  entry-of : (e : Update) (o : Outcome) (n : ℕ) → Answers o n → ifAccepted e o ≡ cond (eqb n 0) (e ∷ []) []
+  entry-of e (Outcome.no m) n p = rw (ne-eqb n 0 (p .1)) refl
+  entry-of e (Outcome.yes t) n p = rw (eq-eqb n 0 p) refl
+
+  feeds : (rs : List Relay) → Every Any sh rs → (k : Kind) (i : ℕ) (words : List ℕ) (w : ℤ) → names (retirements rs) (feed k i words w) ≡ true
+      → Answers (updateCall k (relayAt sh rs i .lends) words w) (feedNumber sh (accountAt (map accountOf rs) i .book) k words w)
+  feeds rs h k i words w q =
+      subst (λ (a : Account). Answers (updateCall k (relayAt sh rs i .lends) words w) (feedNumber sh (a .book) k words w)) (sym (account-at rs i))
+      (feed-answers sh v (relayAt sh rs i .book) (relayAt sh rs i .lends) (h i (live-lt rs i q) .lent) k words w)
+
+  joins : (rs : List Relay) → Every Any sh rs → (i j : ℕ) → names (retirements rs) (join i j) ≡ true
+      → Answers (mergeCall (relayAt sh rs i .lends) (relayAt sh rs j .lends)) (joinNumber (accountAt (map accountOf rs) i .book) (accountAt (map accountOf rs) j .book))
+  joins rs h i j q =
+      subst (λ (n : ℕ). Answers (mergeCall (relayAt sh rs i .lends) (relayAt sh rs j .lends)) n)
+      (sym (ap₂ (λ (a b : Account). joinNumber (a .book) (b .book)) (account-at rs i) (account-at rs j)))
+      (join-answers sh v (relayAt sh rs i .book) (relayAt sh rs j .book) (relayAt sh rs i .lends) (relayAt sh rs j .lends)
+      (h i (live-lt rs i (pair rs i j q .first)) .lent) (h j (live-lt rs j (pair rs i j q .second)) .lent))
+
+  called-accounts : (rs : List Relay) → Every Any sh rs → (c : Call) → names (retirements rs) c ≡ true → map accountOf (called sh rs c) ≡ booked sh (map accountOf rs) c
+  unfolding called booked
+  called-accounts rs h (feed k i words w) q =
+      let r : Relay = relayAt sh rs i in
+      let e : Update = updateBy k words w in
+      let n : ℕ = feedNumber sh (accountAt (map accountOf rs) i .book) k words w in
+      map-set accountOf rs i (fed r e (updateCall k (r .lends) words w))
+      ∙ ap (λ (a : Account). set (map accountOf rs) i a) (fed-account r e (updateCall k (r .lends) words w) n (feeds rs h k i words w q) ∙ ap (λ (a : Account). entered n a e) (sym (account-at rs i)))
+  called-accounts rs h (join i j) q =
+      let n : ℕ = joinNumber (accountAt (map accountOf rs) i .book) (accountAt (map accountOf rs) j .book) in
+      joined-accounts rs i j (relayAt sh rs i) (relayAt sh rs j) (mergeCall (relayAt sh rs i .lends) (relayAt sh rs j .lends)) n (joins rs h i j q)
+      ∙ ap₂ (united n (map accountOf rs) i j) (sym (account-at rs i)) (sym (account-at rs j))
+
+  called-entry : (rs : List Relay) → Every Any sh rs → (c : Call) → names (retirements rs) c ≡ true → updateOf sh rs c ≡ entryOf sh (map accountOf rs) c
+  called-entry rs h (feed k i words w) q =
+      entry-of (updateBy k words w) (updateCall k (relayAt sh rs i .lends) words w) (feedNumber sh (accountAt (map accountOf rs) i .book) k words w) (feeds rs h k i words w q)
+  called-entry rs h (join i j) q = refl
+
+  -- whether the call may be listed or not
+  listed-alike : {A : Type 0} (rs : List Relay) (c : Call) (x y d e : A) → (names (retirements rs) c ≡ true → x ≡ y) → d ≡ e
+      → cond (names (retirements rs) c) x d ≡ cond (names (gone (map accountOf rs)) c) y e
+  listed-alike {A} rs c x y d e p q = ap (λ (g : List Bool). cond (names g c) x d) (sym (map-map rs)) ∙ go (names (gone (map accountOf rs)) c) (ap (λ (g : List Bool). names g c) (sym (map-map rs)))
+    where
+      go : (b : Bool) → names (retirements rs) c ≡ b → cond b x d ≡ cond b y e
+      go true z = p z
+      go false z = q
+
+  step-accounts : (rs : List Relay) → Every Any sh rs → (c : Call) → map accountOf (step sh rs c) ≡ bookStep sh (map accountOf rs) c
+  step-accounts rs h c = inside (names (retirements rs) c) ∙ listed-alike rs c (map accountOf (called sh rs c)) (booked sh (map accountOf rs) c) (map accountOf rs) (map accountOf rs) (called-accounts rs h c) refl
+    where
+      inside : (b : Bool) → map accountOf (cond b (called sh rs c) rs) ≡ cond b (map accountOf (called sh rs c)) (map accountOf rs)
+      inside true = refl
+      inside false = refl
+
+  -- ---- a list
+
+  pub run-accounts : (cs : List Call) (rs : List Relay) → Every Any sh rs → map accountOf (run sh rs cs) ≡ ledger sh (map accountOf rs) cs
+  unfolding run ledger
+  run-accounts [] rs h = refl
+  run-accounts (c ∷ cs) rs h =
+      run-accounts cs (step sh rs c) (step-good Any sh v rs c (any (cond (names (retirements rs) c) (updateOf sh rs c) [])) h)
+      ∙ ap (λ (xs : List Account). ledger sh xs cs) (step-accounts rs h c)
+
+  pub run-entries : (cs : List Call) (rs : List Relay) → Every Any sh rs → accepted sh rs cs ≡ entries sh (map accountOf rs) cs
+  unfolding accepted entries
+  run-entries [] rs h = refl
+  run-entries (c ∷ cs) rs h =
+      ap₂ (λ (a b : Book). a ++ b) (listed-alike rs c (updateOf sh rs c) (entryOf sh (map accountOf rs) c) [] [] (called-entry rs h c) refl)
+      (run-entries cs (step sh rs c) (step-good Any sh v rs c (any (cond (names (retirements rs) c) (updateOf sh rs c) [])) h)
+      ∙ ap (λ (xs : List Account). entries sh xs cs) (step-accounts rs h c))
+
+  -- ---- from the start
+
+  pub start-accounts : (n : ℕ) (cs : List Call) → map accountOf (run sh (start sh n) cs) ≡ books sh n cs
+  start-accounts n cs = run-accounts cs (start sh n) (start-good Any sh v n) ∙ ap (λ (xs : List Account). ledger sh xs cs) (map-replicate accountOf n (freshRelay sh))
+
+  pub start-entries : (n : ℕ) (cs : List Call) → accepted sh (start sh n) cs ≡ entries sh (replicate n opened) cs
+  start-entries n cs = run-entries cs (start sh n) (start-good Any sh v n) ∙ ap (λ (xs : List Account). entries sh xs cs) (map-replicate accountOf n (freshRelay sh))

@@ -1,0 +1,98 @@
+-- The books of a list of calls from the list alone: no header and no slice is asked.
+-- "Each relay has a book, its stream, made from the calls' arguments and from whether each was accepted."
+use Prim.Native.Nat.{ℕ, _+_}
+use mathlib.Core.Path.{_≡_}
+use mathlib.Core.Bool.{Bool, true, false, cond, not}
+use mathlib.Core.List.{List, [], _∷_, _++_, map}
+use lib.ListN.{length, getD, set, replicate}
+use lib.IntN.{ℤ, natAbs}
+use lib.Signed.{nonNeg}
+use lib.Dec.{eqb, leb}
+use Rattle.words.specs.Num.{top}
+use Rattle.header.specs.declared.Shape.{Shape}
+use Rattle.header.specs.Header.{clash}
+use Rattle.univmon.specs.declared.Kind.{Kind}
+use Rattle.univmon.specs.Updates.{recordLength, modeOf}
+use Rattle.univmon.specs.Calls.{Outcome}
+use Rattle.shared_streams.specs.Books.{Update, Book, weightOf, bookMode}
+use Rattle.shared_streams.specs.Relays.{Relay, Call, feed, join, names, updateBy}
+
+-- ---- what a call is answered with, by books and arguments: the number of its refusal, 0 where "no refusal of these papers applies"
+
+-- an update: 12 "record length wrong", 5 "negative weight", 6 "mode mixed in update", 7 "weight would pass 2^52", in the order of "Other calls"
+unfoldable pub feedNumber : Shape → Book → Kind → List ℕ → ℤ → ℕ
+feedNumber sh b k words w =
+    cond (not (eqb (length words) (recordLength (sh .layers)))) 12
+    (cond (not (nonNeg w)) 5
+    (cond (clash (bookMode b) (modeOf k)) 6
+    (cond (not (leb (weightOf b + natAbs w) top)) 7
+    0)))
+
+-- a merge of a second relay into a first, both of one shape: 6 and 7
+unfoldable pub joinNumber : Book → Book → ℕ
+joinNumber a b =
+    cond (clash (bookMode a) (bookMode b)) 6
+    (cond (not (leb (weightOf a + weightOf b) top)) 7
+    0)
+
+-- a call with that outcome is refused with n, which is not 0; or it is accepted, and n is 0
+abbrev pub Answers : Outcome → ℕ → Type 0
+Answers (Outcome.no m) n = (m ≡ n) × (n ≡ 0 → ⊥)
+Answers (Outcome.yes s) n = n ≡ 0
+
+-- ---- books
+
+-- a relay's book, and whether it was merged into another
+pub record Account : Type 0 where
+  pub book : Book
+  pub retired : Bool
+
+-- "It starts empty."
+abbrev pub opened : Account
+opened = record { book = []; retired = false }
+
+-- of a relay
+abbrev pub accountOf : Relay → Account
+accountOf r = record { book = r .book; retired = r .retired }
+
+abbrev pub accountAt : List Account → ℕ → Account
+accountAt xs i = getD xs i opened
+
+-- "An accepted update adds its kind, record and weight." and "A refused call changes no book.": n is what the call is answered with
+abbrev pub entered : ℕ → Account → Update → Account
+entered n a e = cond (eqb n 0) (record { book = a .book ++ (e ∷ []); retired = a .retired }) a
+
+-- "An accepted merge puts the second's book behind the first's." and "retires the second"
+abbrev pub united : ℕ → List Account → ℕ → ℕ → Account → Account → List Account
+united n xs i j a b =
+    cond (eqb n 0) (set (set xs j (record { book = b .book; retired = true })) i (record { book = a .book ++ b .book; retired = a .retired })) xs
+
+unfoldable pub booked : Shape → List Account → Call → List Account
+booked sh xs (feed k i words w) = set xs i (entered (feedNumber sh (accountAt xs i .book) k words w) (accountAt xs i) (updateBy k words w))
+booked sh xs (join i j) = united (joinNumber (accountAt xs i .book) (accountAt xs j .book)) xs i j (accountAt xs i) (accountAt xs j)
+
+-- who is retired
+abbrev pub gone : List Account → List Bool
+gone xs = map (λ (a : Account). a .retired) xs
+
+-- a call that may not be listed changes nothing
+abbrev pub bookStep : Shape → List Account → Call → List Account
+bookStep sh xs c = cond (names (gone xs) c) (booked sh xs c) xs
+
+-- after a list of calls, and of n relays from the start
+unfoldable pub ledger : Shape → List Account → List Call → List Account
+ledger sh xs [] = xs
+ledger sh xs (c ∷ cs) = ledger sh (bookStep sh xs c) cs
+
+abbrev pub books : Shape → ℕ → List Call → List Account
+books sh n calls = ledger sh (replicate n opened) calls
+
+-- ---- "all accepted updates of the list"
+
+abbrev pub entryOf : Shape → List Account → Call → Book
+entryOf sh xs (feed k i words w) = cond (eqb (feedNumber sh (accountAt xs i .book) k words w) 0) (updateBy k words w ∷ []) []
+entryOf sh xs (join i j) = []
+
+unfoldable pub entries : Shape → List Account → List Call → Book
+entries sh xs [] = []
+entries sh xs (c ∷ cs) = cond (names (gone xs) c) (entryOf sh xs c) [] ++ entries sh (bookStep sh xs c) cs
