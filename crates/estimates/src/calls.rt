@@ -5,8 +5,8 @@ ghost use Prim.Native.Nat.{ℕ, _*_};
 ghost use lib.Dec.{eqb};
 ghost use Rattle.header.specs.Accepted.{Accepted};
 ghost use Rattle.header.specs.Header.{headerOk};
-ghost use Rattle.univmon.specs.Slices.{normsIn, lent, lentOk, view};
-ghost use Rattle.univmon.specs.Needs.{Standing};
+ghost use Rattle.layout.specs.Slices.{normsIn, lent, lentOk, view};
+ghost use Rattle.layout.specs.Needs.{Standing};
 ghost use Rattle.estimates.specs.Norms.{isTerminal};
 ghost use Rattle.estimates.specs.Calls.{normsLent, l1Call, l2Call, sumCall, sumAnswer, cardinalityCall, panelCall, noPanel};
 use crate::Answer;
@@ -95,7 +95,7 @@ fn lent_in_range(
         return false;
     }
     let shape = header.shape;
-    univmon::sizes::lengths_match(
+    layout::lengths_match(
         shape,
         counters.len(),
         norms.len(),

@@ -20,8 +20,8 @@ use Rattle.header.specs.Shape.{shapeRefusal, bottomFrom, bottomOf, bottomLayer}
 use Rattle.layer.specs.Layer.{addSketch, addLayer, addReads, addFits}
 use Rattle.layer.specs.Merge.{whos}
 use Rattle.univmon.specs.Calls.{newCall, updateCall}
-use Rattle.univmon.specs.Slices.{lengthsOk, view, flat, freshLent}
-use Rattle.univmon.specs.State.{rowsAt, colsAt, cellOff, normOff, candOff, layerAt, putLayer, overLayers, allLayers, sizesOk}
+use Rattle.layout.specs.Slices.{lengthsOk, view, flat, freshLent}
+use Rattle.layout.specs.State.{rowsAt, colsAt, cellOff, normOff, candOff, layerAt, putLayer, overLayers, allLayers, sizesOk}
 use Rattle.univmon.specs.Updates.{updateTests, updated, update}
 use Rattle.sums.specs.Layers.{gSum, standardSum}
 use Rattle.sums.specs.Terms.{gOf, factor, counted, addTerm, sumOver}

@@ -8,7 +8,7 @@ use lib.Dec.{eqb}
 use lib.ListN.{length, take, drop, take-append-drop, length-drop}
 use lib.Seq.{take-all, take-add}
 use Rattle.words.proofs.Bools.{never}
-use Rattle.univmon.specs.Slices.{Lent}
+use Rattle.layout.specs.Slices.{Lent}
 use Rattle.panel_lines.specs.Split.{push, chunkLines, chunkHeld, Stepped, stepOf, stepped}
 use Rattle.panel_lines.proofs.Chunks.{lines-append, held-append, step-open}
 use Rattle.panel_step.specs.Panel.{longest, answerLine, answersOf, Found, found, put, behind}

@@ -6,7 +6,7 @@ use panel_step::answer_line;
 ghost use mathlib.Core.Path.{_≡_};
 ghost use Prim.Native.Nat.{ℕ, min, _+_, _≤_};
 ghost use lib.ListN.{length, take};
-ghost use Rattle.univmon.specs.Slices.{lent};
+ghost use Rattle.layout.specs.Slices.{lent};
 ghost use Rattle.panel_lines.specs.Split.{chunkLines, chunkHeld};
 ghost use Rattle.panel_step.specs.Panel.{longest, answerLine, answersOf, found, put, behind};
 

@@ -11,8 +11,8 @@ use lib.Ieee.{binary64, toBits}
 use Rattle.text.proofs.Puts.{joined}
 use Rattle.header.specs.declared.Shape.{Shape}
 use Rattle.header.specs.declared.Header.{Header}
-use Rattle.univmon.specs.Slices.{Lent}
-use Rattle.univmon.specs.Calls.{Left, left}
+use Rattle.layout.specs.Slices.{Lent}
+use Rattle.layout.specs.Outcomes.{Left, left}
 use Rattle.estimates.specs.declared.PanelAnswer.{PanelAnswer}
 use Rattle.estimates.specs.Calls.{panelCall}
 use Rattle.panel_lines.specs.declared.line.Request.{Request}

@@ -9,8 +9,8 @@ use lib.Dec.{eqb, ltb, leb}
 use Rattle.header.specs.declared.Shape.{Shape}
 use Rattle.header.specs.Shape.{shapeRefusal}
 use Rattle.header.proofs.Refusals.{accepted-of}
-use Rattle.univmon.specs.Slices.{cellsIn, normsIn, candsIn}
-use Rattle.univmon.proofs.Offsets.{norm-off, cand-off, cells-are, rows-few}
+use Rattle.layout.specs.Slices.{cellsIn, normsIn, candsIn}
+use Rattle.layout.proofs.Offsets.{norm-off, cand-off, cells-are, rows-few}
 use Rattle.panel_step.specs.Panel.{extentOf, maxCounters, maxCandidates, roomy, panelRefusal, paperRefusal}
 
 -- the extent as the code works it out

@@ -12,8 +12,9 @@ use Rattle.header.specs.declared.Shape.{Shape}
 use Rattle.header.specs.declared.Header.{Header}
 use Rattle.header.specs.Shape.{shapeRefusal}
 use Rattle.univmon.specs.declared.Kind.the-variants as kind
-use Rattle.univmon.specs.Slices.{Lent, lent, cellsIn, normsIn, candsIn, freshLent}
-use Rattle.univmon.specs.Calls.{Outcome, Left, left, leftBy, updateCall}
+use Rattle.layout.specs.Slices.{Lent, lent, cellsIn, normsIn, candsIn, freshLent}
+use Rattle.layout.specs.Outcomes.{Outcome, Left, left, leftBy}
+use Rattle.univmon.specs.Calls.{updateCall}
 use Rattle.estimates.specs.declared.PanelAnswer.{PanelAnswer}
 use Rattle.estimates.specs.Calls.{panelCall}
 use Rattle.panel_lines.specs.declared.line.Request.{Request}

@@ -10,8 +10,9 @@ ghost use mathlib.Core.Path.{_≡_};
 ghost use Prim.Native.Nat.{ℕ, _≤_};
 ghost use lib.ListN.{length};
 ghost use lib.Seq.{sets};
-ghost use Rattle.univmon.specs.Slices.{lent};
-ghost use Rattle.univmon.specs.Calls.{left, answered};
+ghost use Rattle.layout.specs.Slices.{lent};
+ghost use Rattle.layout.specs.Outcomes.{left};
+ghost use Rattle.univmon.specs.Calls.{answered};
 ghost use Rattle.estimates.specs.Calls.{panelCall};
 ghost use Rattle.panel_step.specs.Panel.{shapeCall, addCall, showLine, panelText};
 

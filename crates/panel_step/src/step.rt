@@ -15,7 +15,7 @@ ghost use mathlib.Core.List.{[], _∷_, _++_};
 ghost use Prim.Native.Nat.{ℕ, _≤_};
 ghost use lib.ListN.{length};
 ghost use lib.Seq.{sets};
-ghost use Rattle.univmon.specs.Slices.{lent};
+ghost use Rattle.layout.specs.Slices.{lent};
 ghost use Rattle.panel_step.specs.Panel.{shapeCall, addCall, showLine, replyText, replied, answer, found, put, answerWithin};
 
 // The longest answer, with its newline: `(show ..)` of 19 layers.

@@ -10,7 +10,7 @@ use lib.Dec.{eqb}
 use borrow.Author.Tests.{eqb-true}
 use Rattle.words.proofs.Bools.{and-left, and-right}
 use Rattle.header.specs.declared.Shape.{Shape}
-use Rattle.univmon.specs.Slices.{Lent, cellsIn, normsIn, candsIn, lengthsOk, lentOk}
+use Rattle.layout.specs.Slices.{Lent, cellsIn, normsIn, candsIn, lengthsOk, lentOk}
 use Rattle.panel_step.specs.declared.extent.Extent.{Extent}
 use Rattle.panel_step.specs.Panel.{extentOf, inUse, putBack, panelRefusal, refusalIn}
 use Rattle.panel_step.proofs.Rooms.{Fit, fit-of}

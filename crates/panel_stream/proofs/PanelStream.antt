@@ -16,8 +16,9 @@ use Rattle.header.specs.declared.Mode.the-variants as mode
 use Rattle.header.specs.Shape.{shapeRefusal}
 use Rattle.header.specs.Header.{zeroHeader}
 use Rattle.univmon.specs.declared.Kind.the-variants as kind
-use Rattle.univmon.specs.Slices.{Lent, lentOk, flat, freshLent}
-use Rattle.univmon.specs.Calls.{Outcome, Left, left, leftBy, updateCall}
+use Rattle.layout.specs.Slices.{Lent, lentOk, flat, freshLent}
+use Rattle.layout.specs.Outcomes.{Outcome, Left, left, leftBy}
+use Rattle.univmon.specs.Calls.{updateCall}
 use Rattle.shared_streams.specs.Books.{Update}
 use Rattle.shared_streams.specs.Relays.{updateBy}
 use Rattle.shared_streams.specs.Ledger.{feedNumber, Answers}

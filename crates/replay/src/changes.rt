@@ -27,7 +27,7 @@ use crate::shelf::put_signed;
 use crate::shelf::take_signed;
 use header::Answered;
 use header::Header;
-use univmon::Fidelity;
+use univmon_delta::Fidelity;
 
 fn fidelity(n: u64) -> Fidelity {
     if n == 0 {
@@ -66,7 +66,7 @@ fn recorded(
     let n = lent(shelf, WORDS, 1, 80);
     let words = &record[..n];
     if call.op == 4 {
-        return univmon::apply_delta(
+        return univmon_delta::apply_delta(
             h,
             counters,
             norms,

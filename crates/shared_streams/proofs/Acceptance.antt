@@ -16,11 +16,13 @@ use Rattle.header.specs.declared.Mode.{Mode}
 use Rattle.header.specs.Shape.{shapeRefusal}
 use Rattle.header.specs.Header.{clash}
 use Rattle.univmon.specs.declared.Kind.{Kind}
-use Rattle.univmon.specs.State.{State}
-use Rattle.univmon.specs.Judged.{Out, refused, done, unsound}
-use Rattle.univmon.specs.Updates.{recordLength, modeOf, updateTests, updated, update}
-use Rattle.univmon.specs.Slices.{Lent, view}
-use Rattle.univmon.specs.Calls.{outcomeOf, updateCall}
+use Rattle.layout.specs.State.{State}
+use Rattle.layout.specs.Judged.{Out, refused, done, unsound}
+use Rattle.layout.specs.Records.{recordLength}
+use Rattle.univmon.specs.Updates.{modeOf, updateTests, updated, update}
+use Rattle.layout.specs.Slices.{Lent, view}
+use Rattle.layout.specs.Outcomes.{outcomeOf}
+use Rattle.univmon.specs.Calls.{updateCall}
 use Rattle.univmon_merge.specs.Merges.{sameShape, mergeTests, merged, merge}
 use Rattle.univmon_merge.specs.Calls.{mergeCall}
 use Rattle.shared_streams.specs.Books.{Book, bookMode}

@@ -20,11 +20,12 @@ use Rattle.header.specs.Accepted.{Accepted}
 use Rattle.header.proofs.Refusals.{accepted-of}
 use Rattle.univmon.specs.declared.Kind.{Kind}
 use Rattle.univmon.specs.declared.Kind.the-variants as kind
-use Rattle.univmon.specs.State.{State, sizesOk}
+use Rattle.layout.specs.State.{State, sizesOk}
 use Rattle.univmon.specs.Updates.{modeOf}
-use Rattle.univmon.specs.Slices.{Lent, lentOk, view, flat, freshLent}
-use Rattle.univmon.specs.Calls.{Outcome, updateCall, lentUpdateCall}
-use Rattle.univmon.specs.Needs.{Headed}
+use Rattle.layout.specs.Slices.{Lent, lentOk, view, flat, freshLent}
+use Rattle.layout.specs.Outcomes.{Outcome}
+use Rattle.univmon.specs.Calls.{updateCall, lentUpdateCall}
+use Rattle.layout.specs.Needs.{Headed}
 use Rattle.sums.specs.Terminal.{terminalSum, heavy}
 use Rattle.sums.specs.Layers.{standardSum}
 use Rattle.sums.specs.declared.G.the-variants as g

@@ -27,8 +27,8 @@ use Rattle.layer.specs.Layer.{addSketch, addLayer, addReads, addFits}
 use Rattle.layer.specs.Merge.{hasKey, firsts, whos, offerAll, mergeLayer, mergeReads, mergeFits}
 use Rattle.univmon.specs.declared.Kind.the-variants as kind
 use Rattle.univmon.specs.Calls.{updateCall}
-use Rattle.univmon.specs.Slices.{lengthsOk, view, flat, freshLent}
-use Rattle.univmon.specs.State.{rowsAt, colsAt, cellOff, normOff, candOff, layerAt, putLayer, overLayers, allLayers, sizesOk}
+use Rattle.layout.specs.Slices.{lengthsOk, view, flat, freshLent}
+use Rattle.layout.specs.State.{rowsAt, colsAt, cellOff, normOff, candOff, layerAt, putLayer, overLayers, allLayers, sizesOk}
 use Rattle.univmon.specs.Updates.{updateTests, updated, update}
 use Rattle.univmon_merge.specs.Merges.{mergeTests, merged, merge}
 use Rattle.univmon_merge.specs.Calls.{mergeCall}

@@ -11,7 +11,8 @@ use Rattle.words.proofs.Lists.{All}
 use Rattle.header.specs.declared.Shape.{Shape}
 use Rattle.header.specs.Shape.{shapeRefusal}
 use Rattle.univmon.specs.declared.Kind.{Kind}
-use Rattle.univmon.specs.Calls.{Outcome, updateCall}
+use Rattle.layout.specs.Outcomes.{Outcome}
+use Rattle.univmon.specs.Calls.{updateCall}
 use Rattle.univmon_merge.specs.Calls.{mergeCall}
 use Rattle.shared_streams.specs.Books.{Update, Book}
 use Rattle.shared_streams.specs.Relays.{Relay, freshRelay, start, relayAt, Call, feed, join, retirements, names, updateBy, fed, joinedTo, called, step, run, ifAccepted, updateOf, accepted}

@@ -12,8 +12,9 @@ use Rattle.words.specs.Num.{top}
 use Rattle.words.proofs.Lists.{all-at}
 use Rattle.header.specs.declared.Shape.{Shape}
 use Rattle.header.specs.Shape.{shapeRefusal}
-use Rattle.univmon.specs.Slices.{Lent}
-use Rattle.univmon.specs.Calls.{Outcome, updateCall}
+use Rattle.layout.specs.Slices.{Lent}
+use Rattle.layout.specs.Outcomes.{Outcome}
+use Rattle.univmon.specs.Calls.{updateCall}
 use Rattle.univmon_merge.specs.Calls.{mergeCall}
 use Rattle.shared_streams.specs.Books.{Update, Book, Among, OneMode, weightOf}
 use Rattle.shared_streams.specs.Relays.{Relay, freshRelay, Call, feed, join, start, relayAt, retirements, names, updateBy, fed, joinedBy, retire, joinedTo, called, step, run, ifAccepted, updateOf, accepted}

@@ -12,8 +12,9 @@ use Rattle.words.specs.Num.{top}
 use Rattle.header.specs.declared.Shape.{Shape}
 use Rattle.header.specs.Header.{clash}
 use Rattle.univmon.specs.declared.Kind.{Kind}
-use Rattle.univmon.specs.Updates.{recordLength, modeOf}
-use Rattle.univmon.specs.Calls.{Outcome}
+use Rattle.layout.specs.Records.{recordLength}
+use Rattle.univmon.specs.Updates.{modeOf}
+use Rattle.layout.specs.Outcomes.{Outcome}
 use Rattle.shared_streams.specs.Books.{Update, Book, weightOf, bookMode}
 use Rattle.shared_streams.specs.Relays.{Relay, Call, feed, join, names, updateBy}
 

@@ -27,13 +27,14 @@ use Rattle.layer.specs.Delta.{deltaLayer, deltaFits}
 use Rattle.layer.specs.Merge.{mergeLayer, mergeFits}
 use Rattle.layer.proofs.Gathers.{zero-cands}
 use Rattle.univmon.specs.declared.Kind.{Kind}
-use Rattle.univmon.specs.State.{State, shapeOf, rowsAt, colsAt, dimsAt, candOff, layerAt, allLayers, newState}
-use Rattle.univmon.specs.Judged.{done}
-use Rattle.univmon.specs.Slices.{cellsIn, normsIn, candsIn, lengthsOk, lentOk, view, freshLent}
-use Rattle.univmon.specs.Updates.{bottomWord, bottomBy, itemAt, modeOf, firstSent, manySent, sentAll, updateTests, updated, update}
-use Rattle.univmon.specs.Deltas.{Arrival, deltaBy, deltaTests, arrived, applyDelta}
-use Rattle.univmon.proofs.Judging.{layers-step}
-use Rattle.univmon.proofs.Offsets.{off-step}
+use Rattle.layout.specs.State.{State, shapeOf, rowsAt, colsAt, dimsAt, candOff, layerAt, allLayers, newState}
+use Rattle.layout.specs.Judged.{done}
+use Rattle.layout.specs.Slices.{cellsIn, normsIn, candsIn, lengthsOk, lentOk, view, freshLent}
+use Rattle.layout.specs.Records.{bottomWord}
+use Rattle.univmon.specs.Updates.{bottomBy, itemAt, modeOf, firstSent, manySent, sentAll, updateTests, updated, update}
+use Rattle.univmon_delta.specs.Deltas.{Arrival, deltaBy, deltaTests, arrived, applyDelta}
+use Rattle.layout.proofs.States.{layers-step}
+use Rattle.layout.proofs.Offsets.{off-step}
 use Rattle.univmon_merge.specs.Merges.{sameShape, mergeTests, merged, merge}
 use Rattle.univmon_merge.proofs.MergeCalls.{same-of}
 use Rattle.shared_streams.specs.Books.{sent}

@@ -23,13 +23,12 @@ use Rattle.header.proofs.Ranges.{ranged-of}
 use Rattle.header.proofs.Refusals.{accepted-of}
 use Rattle.header.proofs.Steps.{lens-step, lens-none}
 use Rattle.layer.specs.Layer.{Layer}
-use Rattle.univmon.specs.State.{State, dimsAt, layerAt, putLayer, overLayers, allLayers, withHead}
-use Rattle.univmon.specs.Slices.{Lent, lentOk, view, flat}
-use Rattle.univmon.specs.Needs.{Standing}
-use Rattle.univmon.proofs.States as univmon
-use Rattle.univmon.proofs.Lengths.{standing-of}
-use Rattle.univmon.proofs.Sending.{long-view}
-use Rattle.univmon.proofs.Judging.{layers-step, layers-none}
+use Rattle.layout.specs.State.{State, dimsAt, layerAt, putLayer, overLayers, allLayers, withHead}
+use Rattle.layout.specs.Slices.{Lent, lentOk, view, flat}
+use Rattle.layout.specs.Needs.{Standing}
+use Rattle.layout.proofs.States as univmon
+use Rattle.layout.proofs.Lengths.{standing-of, long-view}
+use Rattle.layout.proofs.States.{layers-step, layers-none}
 use Rattle.shared_streams.proofs.States.{Sized, Over, over}
 use Rattle.shared_streams.proofs.Values.{view-flat, flat-lengths}
 use Rattle.shared_streams.proofs.Relays.{wide}

@@ -6,19 +6,9 @@ use Prim.Native.Nat.{ℕ, zero, suc, _+_, _<_}
 use native.Mathlib.Omega.{arith}
 use Rattle.words.proofs.Bools.{and-cross}
 use Rattle.header.specs.declared.Shape.{Shape}
-use Rattle.layer.specs.Layer.{Layer}
-use Rattle.univmon.specs.State.{State, layerAt, allLayers}
-use Rattle.univmon.specs.Slices.{Lent}
+use Rattle.layout.specs.State.{State, layerAt, allLayers}
+use Rattle.layout.specs.Slices.{Lent}
 use Rattle.univmon.specs.Needs.{JudgeReady, readsAt, fitsAt, readyAt, judgedAt}
-
--- a scan over layers
-pub layers-step : (p : ℕ → Layer → Bool) (s : State) (k l : ℕ) → allLayers p (suc k) l s ≡ p l (layerAt s l) && allLayers p k (suc l) s
-unfolding allLayers
-layers-step p s k l = refl
-
-pub layers-none : (p : ℕ → Layer → Bool) (s : State) (l : ℕ) → allLayers p 0 l s ≡ true
-unfolding allLayers
-layers-none p s l = refl
 
 -- one layer of many
 pub judge-one : (r : Lent) (words : List ℕ) (w many first l : ℕ) → JudgeReady r words w many first → l < many + first → JudgeReady r words w 1 l

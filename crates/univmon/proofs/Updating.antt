@@ -18,20 +18,17 @@ use Rattle.header.proofs.Steps.{begin-by}
 use Rattle.layer.specs.Layer.{Layer}
 use Rattle.univmon.specs.declared.Kind.{Kind}
 use Rattle.univmon.specs.declared.Kind.the-variants as kind
-use Rattle.univmon.specs.State.{State, layerAt, putLayer, allLayers, overLayers, withHead}
-use Rattle.univmon.specs.Slices.{Lent, lent, lentOk, view, flat}
-use Rattle.univmon.specs.Judged.{Out, refused, done, unsound}
-use Rattle.univmon.specs.Updates.{recordLength, modeOf, firstSent, manySent, bottomBy, updateTests, updated, update}
-use Rattle.univmon.specs.Calls.{Outcome, Left, left, leftBy, outcomeOf, updateCall, lentUpdateCall}
-use Rattle.univmon.specs.Needs.{Standing, Headed, SendsReady, JudgeReady, KeyReady, readsAt, fitsAt, addsAt, judgedAt, sentBy, keySent, soundIn, soundNumber, sentAfter}
-use Rattle.univmon.proofs.Lengths.{standing-of, sized-view}
-use Rattle.univmon.proofs.Flatten.{lent-is}
-
--- ---- header and lengths
-
-pub sound-of : (r : Lent) → headerOk (r .head) ≡ true → lentOk r ≡ true → unsound (view r) ≡ false
-unfolding view
-sound-of r h z = simp (h, sized-view r z)
+use Rattle.layout.specs.State.{State, layerAt, putLayer, allLayers, overLayers, withHead}
+use Rattle.layout.specs.Slices.{Lent, lent, lentOk, view, flat}
+use Rattle.layout.specs.Judged.{Out, refused, done}
+use Rattle.layout.specs.Records.{recordLength}
+use Rattle.univmon.specs.Updates.{modeOf, firstSent, manySent, bottomBy, updateTests, updated, update}
+use Rattle.layout.specs.Outcomes.{Outcome, Left, left, leftBy, outcomeOf}
+use Rattle.univmon.specs.Calls.{updateCall, lentUpdateCall}
+use Rattle.layout.specs.Needs.{Standing, Headed}
+use Rattle.univmon.specs.Needs.{SendsReady, JudgeReady, KeyReady, readsAt, fitsAt, addsAt, judgedAt, sentBy, keySent, soundIn, soundNumber, sentAfter}
+use Rattle.layout.proofs.Lengths.{standing-of}
+use Rattle.layout.proofs.Flatten.{lent-is}
 
 -- ---- a header that begins an update changes no layer, before the layers or after them
 

@@ -13,33 +13,9 @@ use Rattle.header.specs.declared.Answered.{Answered}
 use Rattle.header.specs.Shape.{maxLayers, shapeRefusal}
 use Rattle.header.specs.Header.{zeroHeader, withWeight, withMode, withFlags, settled, clash, headerOk}
 use Rattle.univmon.specs.declared.Kind.{Kind}
-use Rattle.univmon.specs.Judged.{Out, refused, done}
 use Rattle.univmon.specs.Updates.{update}
-use Rattle.univmon.specs.Deltas.{Arrival, applyDelta}
-use Rattle.univmon.specs.Slices.{Lent, lent, lentOk, lengthsOk, view, flat, freshLent}
-
--- ---- what a call on slices answers
-
--- a refusal's number, or the header and slices after it
-pub data Outcome : Type 0 where
-  no : ℕ → Outcome
-  yes : Lent → Outcome
-
-abbrev pub outcomeOf : Out → Outcome
-outcomeOf (refused n) = Outcome.no n
-outcomeOf (done s) = Outcome.yes (flat s)
-
--- the number that is answered, 0 for none, and what is left: "Header and slices remain unchanged" on a refusal
-pub record Left : Type 0 where
-  pub refusal : ℕ
-  pub lends : Lent
-
-abbrev pub left : ℕ → Lent → Left
-left n r = record { refusal = n; lends = r }
-
-abbrev pub leftBy : Lent → Outcome → Left
-leftBy r (Outcome.no n) = left n r
-leftBy r (Outcome.yes t) = left 0 t
+use Rattle.layout.specs.Slices.{Lent, lent, lentOk, lengthsOk, view, freshLent}
+use Rattle.layout.specs.Outcomes.{Outcome, outcomeOf, Left, left}
 
 -- ---- the calls
 
@@ -56,9 +32,6 @@ updateCall k r words w = cond (lentOk r) (outcomeOf (update k (view r) words w))
 -- an update whose header's lengths and flags are lent beside the slices: both have 19 places, or 9 "wrong slice length"
 unfoldable pub lentUpdateCall : Kind → Lent → List ℕ → ℤ → Outcome
 lentUpdateCall k r words w = cond (eqb (length (r .head .lens)) maxLayers && eqb (length (r .head .flags)) maxLayers) (updateCall k r words w) (Outcome.no 9)
-
-unfoldable pub deltaCall : Lent → List ℕ → Arrival → Outcome
-deltaCall r words a = cond (lentOk r) (outcomeOf (applyDelta (view r) words a)) (Outcome.no 9)
 
 -- "`clear` zeroes every slice", and the header is a fresh one
 unfoldable pub clearCall : Lent → Outcome

@@ -1,41 +1,23 @@
 -- What the inner functions need, by name.
-use Prim.Native.Nat.{ℕ, _+_, _*_, _≤_, _<_}
+use Prim.Native.Nat.{ℕ, _+_, _≤_, _<_}
 use mathlib.Core.Path.{_≡_}
 use mathlib.Core.Bool.{Bool, true, cond, not, _&&_}
 use mathlib.Core.List.{List}
-use lib.ListN.{length, getD}
+use lib.ListN.{length}
 use lib.IntN.{ℤ, natAbs}
 use lib.Dec.{eqb}
 use Rattle.words.specs.Num.{top}
 use Rattle.header.specs.declared.Shape.{Shape}
 use Rattle.header.specs.declared.Header.{Header}
 use Rattle.header.specs.Shape.{maxLayers}
-use Rattle.header.specs.Accepted.{Accepted}
 use Rattle.header.specs.Header.{headerOk}
 use Rattle.layer.specs.Layer.{Layer, addLayer, addReads, addFits, item}
 use Rattle.univmon.specs.declared.Kind.{Kind}
-use Rattle.univmon.specs.State.{State, dimsAt, layerAt, allLayers, overLayers}
-use Rattle.univmon.specs.Slices.{Lent, lengthsOk, view, flat, cellsIn, normsIn, candsIn}
-use Rattle.univmon.specs.Updates.{recordLength, whoAt, firstSent, manySent, bottomBy}
-use Rattle.univmon.specs.Calls.{Left, left}
-
--- slices of these lengths are a shape's
-pub record Sizes (sh : Shape) (a b c d : ℕ) : Type 0 where
-  pub cells : a ≡ cellsIn sh
-  pub norms : b ≡ 2 * normsIn sh
-  pub entries : c ≡ 4 * candsIn sh
-  pub counts : d ≡ candsIn sh
-
--- a header and slices that fit together: an accepted shape, its lengths, and no layer with more candidates than seats
-pub record Standing (r : Lent) : Type 0 where
-  pub accepted : Accepted (r .head .shape)
-  pub sizes : Sizes (r .head .shape) (length (r .counters)) (length (r .norms)) (length (r .entries)) (length (r .counts))
-  pub lens : (m : ℕ) → m < r .head .shape .layers → getD (r .head .lens) m 0 ≤ r .head .shape .«heap_size»
-
--- lengths and flags have a place for each layer that a shape may have
-pub record Headed (h : Header) : Type 0 where
-  pub lens : length (h .lens) ≡ maxLayers
-  pub flags : length (h .flags) ≡ maxLayers
+use Rattle.layout.specs.State.{State, dimsAt, layerAt, allLayers, overLayers}
+use Rattle.layout.specs.Slices.{Lent, lengthsOk, view, flat}
+use Rattle.layout.specs.Records.{recordLength, whoAt}
+use Rattle.univmon.specs.Updates.{firstSent, manySent, bottomBy}
+use Rattle.layout.specs.Outcomes.{Left, left}
 
 -- what the update of layer l needs
 pub record SendReady (r : Lent) (words : List ℕ) (w l : ℕ) : Type 0 where

@@ -1,13 +1,12 @@
 -- The two updates.
-use Prim.Native.Nat.{ℕ, _+_, _*_}
+use Prim.Native.Nat.{ℕ, _+_}
 use mathlib.Core.Bool.{Bool, not}
 use mathlib.Core.List.{List, [], _∷_}
-use lib.ListN.{length, getD}
+use lib.ListN.{length}
 use lib.IntN.{ℤ, natAbs}
 use lib.Signed.{nonNeg}
 use lib.Dec.{eqb, leb}
 use Rattle.words.specs.Num.{top}
-use Rattle.heap_moves.specs.declared.Who.{Who}
 use Rattle.header.specs.declared.Mode.{Mode}
 use Rattle.header.specs.declared.Mode.the-variants as mode
 use Rattle.header.specs.Shape.{bottomOf}
@@ -15,19 +14,8 @@ use Rattle.header.specs.Header.{clash, begun}
 use Rattle.layer.specs.Layer.{Layer, Item, addLayer, addReads, addFits}
 use Rattle.univmon.specs.declared.Kind.{Kind}
 use Rattle.univmon.specs.declared.Kind.the-variants as kind
-use Rattle.univmon.specs.State.{State, shapeOf, dimsAt, overLayers, allLayers, withHead}
-use Rattle.univmon.specs.Judged.{Out, judge, unsound}
-
--- "a record is key, bottom hash (seed index 19), then high and low half of the 128-bit hash for each layer, 2 + 2 × layers words"
-abbrev pub recordLength : ℕ → ℕ
-recordLength layers = 2 + 2 * layers
-
-abbrev pub bottomWord : List ℕ → ℕ
-bottomWord words = getD words 1 0
-
--- the key of a record, with layer l's hash
-abbrev pub whoAt : List ℕ → ℕ → Who
-whoAt words l = record { key = getD words 0 0; bottom = bottomWord words; high = getD words (2 + 2 * l) 0; low = getD words (3 + 2 * l) 0 }
+use Rattle.layout.specs.State.{State, shapeOf, dimsAt, overLayers, allLayers, withHead}
+use Rattle.layout.specs.Judged.{Out, judge, unsound}
 
 -- the update as layer l sees it
 abbrev pub itemAt : List ℕ → ℤ → ℕ → Item

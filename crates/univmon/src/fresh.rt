@@ -1,14 +1,15 @@
 // States with nothing counted.
-use crate::sizes::lengths_match;
 use header::Answered;
 use header::CheckedShape;
 use header::Header;
 use header::Shape;
+use layout::lengths_match;
 ghost use mathlib.Core.Path.{_≡_};
 ghost use lib.ListN.{length, replicate};
 ghost use lib.IntN.{pos};
-ghost use Rattle.univmon.specs.Slices.{lent};
-ghost use Rattle.univmon.specs.Calls.{left, leftBy, newCall, clearCall};
+ghost use Rattle.layout.specs.Slices.{lent};
+ghost use Rattle.layout.specs.Outcomes.{left, leftBy};
+ghost use Rattle.univmon.specs.Calls.{newCall, clearCall};
 
 fn zero_all(counters: &mut [i64], norms: &mut [u64], entries: &mut [u64], counts: &mut [i64])
     ensures { λ _. ⌜ now (counters .exit) ≡ replicate (length (now (counters .entry))) (pos 0) ⌝ }

@@ -1,15 +1,15 @@
 // What an update reads of the layers that it touches, and whether it fits: nothing is written here.
 // The state is lent whole, so that a contract can name it; no entry is read.
-use crate::sizes::dims;
-use crate::sizes::span_of;
-use crate::update::who_in;
 use header::Fixed;
+use layout::dims;
+use layout::span_of;
+use layout::who_in;
 ghost use mathlib.Core.Path.{_≡_};
 ghost use mathlib.Core.Bool.{Bool, true};
 ghost use Prim.Native.Nat.{ℕ, _+_, _<_};
 ghost use Rattle.header.specs.Header.{headOf};
-ghost use Rattle.univmon.specs.State.{layerAt, allLayers};
-ghost use Rattle.univmon.specs.Slices.{lent, view};
+ghost use Rattle.layout.specs.State.{layerAt, allLayers};
+ghost use Rattle.layout.specs.Slices.{lent, view};
 ghost use Rattle.univmon.specs.Needs.{JudgeReady, readsAt, readyAt, judgedAt};
 
 // Whether one layer is ready for the update.

@@ -2,19 +2,19 @@
 // and mode. Everything is judged before anything is written, so a refused call leaves all as it was.
 use crate::Kind;
 use crate::judge::judge_layers;
-use crate::sizes::lengths_match;
 use crate::update::send;
 use header::Fixed;
 use header::Mode;
 use header::Shape;
+use layout::lengths_match;
 ghost use mathlib.Core.Path.{_≡_};
 ghost use Prim.Native.Nat.{ℕ, _≤_};
 ghost use lib.IntN.{natAbs};
 ghost use Rattle.words.specs.Num.{top};
 ghost use Rattle.header.specs.Header.{headOf};
-ghost use Rattle.univmon.specs.Slices.{lent};
+ghost use Rattle.layout.specs.Slices.{lent};
 ghost use Rattle.univmon.specs.Updates.{modeOf, firstSent};
-ghost use Rattle.univmon.specs.Calls.{left};
+ghost use Rattle.layout.specs.Outcomes.{left};
 ghost use Rattle.univmon.specs.Needs.{JudgeReady, KeyReady, soundNumber, sentBy, keySent, sentAfter};
 
 pub fn mode_of(kind: Kind) -> Mode

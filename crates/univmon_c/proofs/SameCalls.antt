@@ -3,8 +3,9 @@ use mathlib.Core.Path.{_≡_, refl, ap, ap₂, _∙_}
 use mathlib.Core.Bool.{true}
 use Rattle.header.specs.declared.Mode.{Mode}
 use Rattle.header.specs.declared.Mode.the-variants as mode
-use Rattle.univmon.specs.Slices.{Lent, lent}
-use Rattle.univmon.specs.Calls.{Outcome, leftBy, updateCall, lentUpdateCall}
+use Rattle.layout.specs.Slices.{Lent, lent}
+use Rattle.layout.specs.Outcomes.{Outcome, leftBy}
+use Rattle.univmon.specs.Calls.{updateCall, lentUpdateCall}
 use Rattle.univmon_merge.specs.Calls.{mergeCall}
 use Rattle.univmon_c.specs.Crossing.{isMode, modeOf, modeNumber}
 use Rattle.univmon_c.specs.Calls.{ofLent, crossed, changeBy, mergeBy}

@@ -9,11 +9,12 @@ use lib.IntN.{ℤ}
 use Rattle.header.specs.Shape.{maxLayers}
 use Rattle.layer.specs.Layer.{Layer}
 use Rattle.univmon.specs.declared.Kind.{Kind}
-use Rattle.univmon.specs.State.{State, layerAt, putLayer, overLayers}
-use Rattle.univmon.specs.Slices.{Lent, lentOk, view, flat}
-use Rattle.univmon.specs.Judged.{refused, judge}
+use Rattle.layout.specs.State.{State, layerAt, putLayer, overLayers}
+use Rattle.layout.specs.Slices.{Lent, lentOk, view, flat}
+use Rattle.layout.specs.Judged.{refused, judge}
 use Rattle.univmon.specs.Updates.{updateTests, updated, update}
-use Rattle.univmon.specs.Calls.{Outcome, leftBy, outcomeOf, updateCall, lentUpdateCall}
+use Rattle.layout.specs.Outcomes.{Outcome, leftBy, outcomeOf}
+use Rattle.univmon.specs.Calls.{updateCall, lentUpdateCall}
 
 over-shape : (f : ℕ → Layer → Layer) (k l : ℕ) (s : State) → overLayers f k l s .head .shape ≡ s .head .shape
 unfolding overLayers putLayer

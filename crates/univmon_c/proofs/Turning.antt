@@ -9,9 +9,10 @@ use borrow.Author.Tests.{le-leb, lt-leb}
 use Rattle.header.specs.declared.Shape.{Shape}
 use Rattle.header.specs.declared.Header.{Header}
 use Rattle.header.specs.declared.Answered.{Answered}
-use Rattle.univmon.specs.Slices.{Lent}
+use Rattle.layout.specs.Slices.{Lent}
 use Rattle.univmon.specs.declared.Kind.{Kind}
-use Rattle.univmon.specs.Calls.{Outcome, Left, left, leftBy, lentUpdateCall}
+use Rattle.layout.specs.Outcomes.{Outcome, Left, left, leftBy}
+use Rattle.univmon.specs.Calls.{lentUpdateCall}
 use Rattle.univmon_c.proofs.Shapes.{update-shape}
 use Rattle.estimates.specs.declared.Answer.{Answer}
 use Rattle.estimates.specs.declared.PanelAnswer.{PanelAnswer}

@@ -11,8 +11,8 @@ use Rattle.header.specs.declared.Fixed.{Fixed}
 use Rattle.header.specs.declared.Begun.{Begun}
 use Rattle.header.specs.declared.BottomLayer.{BottomLayer}
 use Rattle.header.specs.declared.BottomLayer.the-variants as bottom
-use Rattle.univmon.specs.declared.Fidelity.{Fidelity}
-use Rattle.univmon.specs.declared.Fidelity.the-variants as fidelity
+use Rattle.univmon_delta.specs.declared.Fidelity.{Fidelity}
+use Rattle.univmon_delta.specs.declared.Fidelity.the-variants as fidelity
 use Rattle.sums.specs.declared.G.{G}
 use Rattle.sums.specs.declared.G.the-variants as g
 use Rattle.estimates.specs.declared.Answer.{Answer}

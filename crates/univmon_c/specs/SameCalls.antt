@@ -7,8 +7,9 @@ use Prim.Native.Nat.{ℕ}
 use lib.IntN.{ℤ}
 use Rattle.header.specs.declared.Shape.{Shape}
 use Rattle.univmon.specs.declared.Kind.{Kind}
-use Rattle.univmon.specs.Slices.{Lent}
-use Rattle.univmon.specs.Calls.{leftBy, updateCall, lentUpdateCall}
+use Rattle.layout.specs.Slices.{Lent}
+use Rattle.layout.specs.Outcomes.{leftBy}
+use Rattle.univmon.specs.Calls.{updateCall, lentUpdateCall}
 use Rattle.univmon_merge.specs.Calls.{mergeCall}
 use Rattle.shared_streams.specs.Relays.{Relay}
 use Rattle.shared_streams.specs.SharedStreams.{Claimed}

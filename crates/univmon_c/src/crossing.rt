@@ -16,7 +16,7 @@ use header::Header;
 use header::Mode;
 use header::Shape;
 use sums::G;
-use univmon::Fidelity;
+use univmon_delta::Fidelity;
 ghost use mathlib.Core.Path.{_≡_};
 ghost use mathlib.Core.Bool.{Bool};
 ghost use Prim.Native.Nat.{ℕ};

@@ -12,15 +12,15 @@ use Rattle.header.specs.declared.Mode.{Mode}
 use Rattle.header.specs.Header.{headerOk, clash, begun}
 use Rattle.header.proofs.Ranges.{ranged-of}
 use Rattle.layer.specs.Layer.{Layer}
-use Rattle.univmon.specs.State.{State, sizesOk, layerAt, overLayers, allLayers}
-use Rattle.univmon.specs.Slices.{Lent, lent, lentOk, view, flat}
-use Rattle.univmon.specs.Judged.{refused, done}
+use Rattle.layout.specs.State.{State, sizesOk, layerAt, overLayers, allLayers}
+use Rattle.layout.specs.Slices.{Lent, lent, lentOk, view, flat}
+use Rattle.layout.specs.Judged.{refused, done}
 use Rattle.univmon_merge.specs.Merges.{sameShape, mergeTests, merged, merge}
-use Rattle.univmon.specs.Calls.{Outcome, outcomeOf, left, leftBy}
+use Rattle.layout.specs.Outcomes.{Outcome, outcomeOf, left, leftBy}
 use Rattle.univmon_merge.specs.Calls.{mergeCall}
-use Rattle.univmon.specs.Needs.{Standing}
+use Rattle.layout.specs.Needs.{Standing}
 use Rattle.univmon_merge.specs.Pairs.{Paired, MergesReady, readsWith, fitsWith, mergesWith, lentStands, headsNumber, layersNumber, mergeNumber}
-use Rattle.univmon.proofs.Lengths.{standing-of, sized-view}
+use Rattle.layout.proofs.Lengths.{standing-of, sized-view}
 
 -- a header in range and slices of its lengths fit together
 pub stands-of : (r : Lent) → lentStands r ≡ true → Standing r

@@ -15,11 +15,11 @@ use Rattle.layer.specs.Merge.{mergeReads, mergeFits}
 use Rattle.layer.specs.Gather as gather
 use Rattle.layer.specs.Needs.{Housed}
 use Rattle.layer.proofs.Merges.{merge-reads-are, merge-fits-are}
-use Rattle.univmon.specs.State.{dimsAt, layerAt}
-use Rattle.univmon.specs.Slices.{Lent, view}
+use Rattle.layout.specs.State.{dimsAt, layerAt}
+use Rattle.layout.specs.Slices.{Lent, view}
 use Rattle.univmon_merge.specs.Pairs.{Paired, MergeReady, readsWith, fitsWith}
-use Rattle.univmon.proofs.Views.{shapeBy}
-use Rattle.univmon.proofs.Sends.{Spanned, housed, words-long, handed-is}
+use Rattle.layout.proofs.Views.{shapeBy}
+use Rattle.layout.proofs.Handed.{Spanned, housed, words-long, handed-is}
 
 module _ (r t : Lent) (l : ℕ) (p : Paired r t 1 l) (ca ce na ne ea ee ta te : ℕ) (s : Spanned (shapeBy r) l ca ce na ne ea ee ta te) where
   pub pair-inside : l < shapeBy r .layers

@@ -1,7 +1,7 @@
 -- The public call: what a merge answers, and what it leaves of the header and the slices that it is lent.
 use mathlib.Core.Bool.{cond, not, _||_}
-use Rattle.univmon.specs.Slices.{Lent, lentOk, view}
-use Rattle.univmon.specs.Calls.{Outcome, outcomeOf}
+use Rattle.layout.specs.Slices.{Lent, lentOk, view}
+use Rattle.layout.specs.Outcomes.{Outcome, outcomeOf}
 use Rattle.univmon_merge.specs.Merges.{merge}
 
 unfoldable pub mergeCall : Lent → Lent → Outcome

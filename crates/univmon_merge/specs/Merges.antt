@@ -7,8 +7,8 @@ use Rattle.words.specs.Num.{top}
 use Rattle.header.specs.declared.Shape.{Shape}
 use Rattle.header.specs.Header.{clash, begun}
 use Rattle.layer.specs.Merge.{mergeLayer, mergeReads, mergeFits}
-use Rattle.univmon.specs.State.{State, shapeOf, dimsAt, layerAt, overLayers, allLayers, withHead}
-use Rattle.univmon.specs.Judged.{Out, judge, unsound}
+use Rattle.layout.specs.State.{State, shapeOf, dimsAt, layerAt, overLayers, allLayers, withHead}
+use Rattle.layout.specs.Judged.{Out, judge, unsound}
 
 -- 10 "layers, rows, cols or heap sizes differ in merge"
 abbrev pub sameShape : Shape → Shape → Bool

@@ -9,10 +9,10 @@ use Rattle.header.specs.declared.Header.{Header}
 use Rattle.header.specs.Header.{headerOk, clash}
 use Rattle.layer.specs.Layer.{Layer}
 use Rattle.layer.specs.Merge.{mergeLayer, mergeReads, mergeFits}
-use Rattle.univmon.specs.State.{State, dimsAt, layerAt, allLayers}
-use Rattle.univmon.specs.Slices.{Lent, lentOk, view}
+use Rattle.layout.specs.State.{State, dimsAt, layerAt, allLayers}
+use Rattle.layout.specs.Slices.{Lent, lentOk, view}
 use Rattle.univmon_merge.specs.Merges.{sameShape}
-use Rattle.univmon.specs.Needs.{Standing}
+use Rattle.layout.specs.Needs.{Standing}
 
 -- the tests and the step of a merge at each layer, by the second state
 abbrev pub readsWith : State → ℕ → Layer → Bool

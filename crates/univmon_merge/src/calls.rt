@@ -4,8 +4,8 @@ use crate::layers::merge_layers;
 use header::Answered;
 use header::Header;
 ghost use mathlib.Core.Path.{_≡_};
-ghost use Rattle.univmon.specs.Slices.{lent};
-ghost use Rattle.univmon.specs.Calls.{left, leftBy};
+ghost use Rattle.layout.specs.Slices.{lent};
+ghost use Rattle.layout.specs.Outcomes.{left, leftBy};
 ghost use Rattle.univmon_merge.specs.Calls.{mergeCall};
 
 // A second state merged into a first: 9, 10, 6, 7, 9, 11.

@@ -2,13 +2,13 @@
 // is written here. Both states are lent whole, so that a contract can name them.
 use header::Header;
 use header::Shape;
-use univmon::sizes::lengths_match;
-use univmon::sizes::span_of;
+use layout::lengths_match;
+use layout::span_of;
 ghost use mathlib.Core.Path.{_≡_};
 ghost use Prim.Native.Nat.{_≤_};
 ghost use Rattle.words.specs.Num.{top};
-ghost use Rattle.univmon.specs.State.{layerAt, allLayers};
-ghost use Rattle.univmon.specs.Slices.{lent, view};
+ghost use Rattle.layout.specs.State.{layerAt, allLayers};
+ghost use Rattle.layout.specs.Slices.{lent, view};
 ghost use Rattle.univmon_merge.specs.Merges.{sameShape};
 ghost use Rattle.univmon_merge.specs.Pairs.{Paired, PairRead, PairsRead, readsWith, fitsWith, lentStands, headsNumber, layersNumber, mergeNumber};
 

@@ -1,14 +1,14 @@
 // The layers of a second state merged into those of a first, once everything is judged. Both states are
 // lent whole, so that a contract can name them; no norm of the second is read.
 use header::Header;
-use univmon::sizes::dims;
-use univmon::sizes::span_of;
+use layout::dims;
+use layout::span_of;
 ghost use mathlib.Core.Path.{_≡_};
 ghost use mathlib.Core.Bool.{_&&_};
 ghost use lib.Dec.{leb};
-ghost use Rattle.univmon.specs.State.{layerAt, putLayer, overLayers};
-ghost use Rattle.univmon.specs.Slices.{lent, view};
-ghost use Rattle.univmon.specs.Needs.{Standing};
+ghost use Rattle.layout.specs.State.{layerAt, putLayer, overLayers};
+ghost use Rattle.layout.specs.Slices.{lent, view};
+ghost use Rattle.layout.specs.Needs.{Standing};
 ghost use Rattle.univmon_merge.specs.Pairs.{MergeReady, MergesReady, mergesWith};
 
 // Whether no key was lost: the other layer's flag, and a seat for every distinct key.

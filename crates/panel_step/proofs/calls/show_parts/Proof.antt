@@ -6,8 +6,8 @@ use lib.Seq.{sets, length-take-le}
 use native.Mathlib.Omega.{arith}
 use borrow.Author.Needs.{needs}
 use denote.Ref.{now}
-use Rattle.univmon.specs.Slices.{Lent, lent}
-use Rattle.univmon.specs.Calls.{left}
+use Rattle.layout.specs.Slices.{Lent, lent}
+use Rattle.layout.specs.Outcomes.{left}
 use Rattle.panel_step.specs.Panel.{panelText}
 use Rattle.panel_step.proofs.Replies.{panel-refused, panel-shown, as-many}
 use Rattle.panel_step.proofs.calls.show_parts.Statement.{statement}

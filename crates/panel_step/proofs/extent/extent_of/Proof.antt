@@ -3,7 +3,7 @@
 use Prim.Native.Nat.{_*_, _≤_}
 use native.Mathlib.Omega.{arith}
 use native.Mathlib.Nat.{le-refl}
-use Rattle.univmon.proofs.Offsets.{rows-few, seats-few, cells-few}
+use Rattle.layout.proofs.Offsets.{rows-few, seats-few, cells-few}
 use Rattle.panel_step.proofs.Rooms.{extent-is}
 use Rattle.panel_step.proofs.extent.extent_of.Statement.{statement}
 use Rattle.panel_step.proofs.extent.extent_of.Tie as tie

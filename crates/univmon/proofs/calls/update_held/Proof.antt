@@ -5,8 +5,9 @@ use borrow.Author.Needs.{needs}
 use denote.Ref.{now}
 use mir.Facts.{toZ-ofZ}
 use Rattle.header.specs.Header.{headOf, beginHeader, beginOf, fixedOf}
-use Rattle.univmon.specs.Slices.{lent, Lent}
-use Rattle.univmon.specs.Calls.{left, leftBy, updateCall, lentUpdateCall}
+use Rattle.layout.specs.Slices.{lent, Lent}
+use Rattle.layout.specs.Outcomes.{left, leftBy}
+use Rattle.univmon.specs.Calls.{updateCall, lentUpdateCall}
 use Rattle.univmon.specs.Needs.{sentAfter}
 use Rattle.header.specs.declared.Answered.{Answered}
 use Rattle.header.proofs.Steps.{header-begun, begin-light}

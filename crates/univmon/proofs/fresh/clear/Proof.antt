@@ -9,9 +9,10 @@ use borrow.Author.Tests.{not-true, not-false}
 use denote.Ref.{now}
 use Rattle.header.specs.Header.{headerOk}
 use Rattle.header.proofs.Ranges.{ranged-of}
-use Rattle.univmon.specs.Slices.{lengthsOk}
-use Rattle.univmon.specs.Calls.{left, clearCall}
-use Rattle.univmon.proofs.Lengths.{sizes-of, zeroed}
+use Rattle.layout.specs.Slices.{lengthsOk}
+use Rattle.layout.specs.Outcomes.{left}
+use Rattle.univmon.specs.Calls.{clearCall}
+use Rattle.layout.proofs.Lengths.{sizes-of, zeroed}
 use Rattle.univmon.proofs.fresh.clear.Statement.{statement}
 use Rattle.univmon.proofs.fresh.clear.Tie as tie
 

@@ -8,10 +8,11 @@ use native.Mathlib.Omega.{arith}
 use borrow.Author.Needs.{needs}
 use denote.Ref.{now}
 use Rattle.header.specs.Header.{headOf}
-use Rattle.univmon.specs.Slices.{lent, Lent}
-use Rattle.univmon.proofs.Offsets.{norm-off, cand-off, cells-are, rows-few, seats-few, cells-few}
+use Rattle.layout.specs.Slices.{lent, Lent}
+use Rattle.layout.proofs.Offsets.{norm-off, cand-off, cells-are, rows-few, seats-few, cells-few}
 use Rattle.words.specs.Parts.{part}
-use Rattle.univmon.proofs.Sends.{Spanned, spanned-of, cells-room, norms-room, seats-room, housed, ready-here}
+use Rattle.layout.proofs.Handed.{Spanned, spanned-of, cells-room, norms-room, seats-room, housed}
+use Rattle.univmon.proofs.Sends.{ready-here}
 use Rattle.univmon.proofs.judge.ready_at.Statement.{statement}
 use Rattle.univmon.proofs.judge.ready_at.Tie as tie
 

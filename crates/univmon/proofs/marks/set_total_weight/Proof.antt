@@ -5,7 +5,8 @@ use mathlib.Core.Bool.{true}
 use borrow.Author.Needs.{needs}
 use borrow.Author.Tests.{lt-ltb, le-ltb, not-true, not-false}
 use Rattle.header.specs.Header.{headerOk}
-use Rattle.univmon.specs.Calls.{left, weightCall}
+use Rattle.layout.specs.Outcomes.{left}
+use Rattle.univmon.specs.Calls.{weightCall}
 use Rattle.univmon.proofs.marks.set_total_weight.Statement.{statement}
 use Rattle.univmon.proofs.marks.set_total_weight.Tie as tie
 

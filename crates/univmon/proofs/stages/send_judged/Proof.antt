@@ -4,8 +4,8 @@ use mathlib.Core.Path.{_≡_, sym, _∙_}
 use borrow.Author.Needs.{needs}
 use denote.Ref.{now}
 use Rattle.header.specs.Header.{headOf}
-use Rattle.univmon.specs.Slices.{lent, view, Lent}
-use Rattle.univmon.specs.Calls.{left}
+use Rattle.layout.specs.Slices.{lent, view, Lent}
+use Rattle.layout.specs.Outcomes.{left}
 use Rattle.univmon.specs.Needs.{judgedAt}
 use Rattle.univmon.proofs.Updating.{sent-refused, sends-ready, sent-done}
 use Rattle.univmon.proofs.stages.send_judged.Statement.{statement}

@@ -8,8 +8,8 @@ use denote.Ref.{now}
 use Rattle.header.specs.Shape.{maxLayers}
 use Rattle.header.specs.Header.{headerOk, headOf}
 use Rattle.header.proofs.Ranges.{ranged-of}
-use Rattle.univmon.specs.Slices.{lengthsOk, lent}
-use Rattle.univmon.specs.Calls.{left}
+use Rattle.layout.specs.Slices.{lengthsOk, lent}
+use Rattle.layout.specs.Outcomes.{left}
 use Rattle.univmon.specs.Needs.{soundNumber}
 use Rattle.header.specs.declared.Header.{Header}
 use Rattle.univmon.proofs.stages.sound_refusal.Statement.{statement}

@@ -6,8 +6,8 @@ use borrow.Author.Needs.{needs}
 use denote.Ref.{now}
 use mir.Facts.{toZ-ofZ}
 use Rattle.header.specs.Header.{headOf}
-use Rattle.univmon.specs.Slices.{lent, Lent}
-use Rattle.univmon.specs.Calls.{left}
+use Rattle.layout.specs.Slices.{lent, Lent}
+use Rattle.layout.specs.Outcomes.{left}
 use Rattle.univmon.specs.Needs.{soundIn}
 use Rattle.univmon.proofs.Updating.{ready-of, key-ready, after-unsound, after-unbegun, after-begun}
 use Rattle.univmon.proofs.stages.update.Statement.{statement}

@@ -8,16 +8,17 @@ use native.Mathlib.Omega.{arith}
 use borrow.Author.Needs.{needs}
 use denote.Ref.{now}
 use Rattle.header.specs.Header.{headOf, withLayer}
-use Rattle.univmon.specs.Slices.{lent, view, Lent}
-use Rattle.univmon.specs.Calls.{left}
-use Rattle.univmon.proofs.Offsets.{norm-off, cand-off, cells-are, rows-few, seats-few, cells-few}
+use Rattle.layout.specs.Slices.{lent, view, Lent}
+use Rattle.layout.specs.Outcomes.{left}
+use Rattle.layout.proofs.Offsets.{norm-off, cand-off, cells-are, rows-few, seats-few, cells-few}
 use Rattle.header.proofs.Steps.{touched-kept, touched-lost}
 use Rattle.layer.specs.Layer.{Layer, layerOf, item, addLayer}
 use Rattle.layer.proofs.Steps.{add-few}
-use Rattle.univmon.specs.State.{dimsAt, layerAt}
-use Rattle.univmon.specs.Updates.{whoAt}
+use Rattle.layout.specs.State.{dimsAt, layerAt}
+use Rattle.layout.specs.Records.{whoAt}
 use Rattle.heap.specs.Offer.{keptBy, lenBy}
-use Rattle.univmon.proofs.Sends.{Spanned, spanned-of, cells-room, norms-room, words-room, seats-room, send-ready, handed-is, Back, back-view, back-standing}
+use Rattle.layout.proofs.Handed.{Spanned, spanned-of, cells-room, norms-room, words-room, seats-room, handed-is, Back, back-view, back-standing}
+use Rattle.univmon.proofs.Sends.{send-ready}
 use Rattle.univmon.proofs.update.send_one.Statement.{statement}
 use Rattle.univmon.proofs.update.send_one.Tie as tie
 

@@ -6,7 +6,8 @@ use borrow.Author.Needs.{needs}
 use denote.Ref.{now}
 use mir.Facts.{toZ-ofZ}
 use Rattle.univmon.specs.declared.Kind.the-variants as kind
-use Rattle.univmon.specs.Calls.{left, lentUpdateCall}
+use Rattle.layout.specs.Outcomes.{left}
+use Rattle.univmon.specs.Calls.{lentUpdateCall}
 use Rattle.univmon_c.specs.Crossing.{cHead}
 use Rattle.univmon_c.specs.Calls.{CLent, cLent}
 use Rattle.univmon_c.proofs.Turning.{change-no-mode, stepped}

@@ -4,12 +4,12 @@ use mathlib.Core.Path.{_≡_, sym, ap, _∙_}
 use native.Mathlib.Omega.{arith}
 use borrow.Author.Needs.{needs}
 use denote.Ref.{now}
-use Rattle.univmon.specs.Slices.{lent, view, Lent}
+use Rattle.layout.specs.Slices.{lent, view, Lent}
 use Rattle.header.specs.Header.{begun}
-use Rattle.univmon.specs.Calls.{left}
+use Rattle.layout.specs.Outcomes.{left}
 use Rattle.univmon_merge.specs.Merges.{merged}
 use Rattle.univmon_merge.specs.Pairs.{mergeNumber}
-use Rattle.univmon.proofs.Flatten.{lent-is}
+use Rattle.layout.proofs.Flatten.{lent-is}
 use Rattle.univmon_merge.proofs.MergeCalls.{merge-refused, merge-done, weights-fit, merges-of, merged-is}
 use Rattle.univmon_merge.proofs.calls.merge.Statement.{statement}
 use Rattle.univmon_merge.proofs.calls.merge.Tie as tie

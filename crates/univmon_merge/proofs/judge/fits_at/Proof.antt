@@ -7,11 +7,11 @@ use lib.ListN.{length, getD}
 use native.Mathlib.Omega.{arith}
 use borrow.Author.Needs.{needs}
 use denote.Ref.{now}
-use Rattle.univmon.specs.Slices.{lent, Lent}
+use Rattle.layout.specs.Slices.{lent, Lent}
 use Rattle.words.specs.Parts.{part}
-use Rattle.univmon.specs.State.{dimsAt}
+use Rattle.layout.specs.State.{dimsAt}
 use Rattle.univmon_merge.specs.Pairs.{Paired}
-use Rattle.univmon.proofs.Sends.{Spanned, spanned-of, cells-room}
+use Rattle.layout.proofs.Handed.{Spanned, spanned-of, cells-room}
 use Rattle.univmon_merge.proofs.Pairing.{other-inside, other-spanned, own-housed, other-housed, fits-here, own-in, other-in}
 use Rattle.univmon_merge.proofs.judge.fits_at.Statement.{statement}
 use Rattle.univmon_merge.proofs.judge.fits_at.Tie as tie

@@ -4,8 +4,8 @@ use mathlib.Core.Path.{_≡_, sym, _∙_}
 use mathlib.Core.Bool.{true}
 use borrow.Author.Tests.{not-true, not-false}
 use denote.Ref.{now}
-use Rattle.univmon.specs.Slices.{lent, view, Lent}
-use Rattle.univmon.specs.State.{allLayers}
+use Rattle.layout.specs.Slices.{lent, view, Lent}
+use Rattle.layout.specs.State.{allLayers}
 use Rattle.univmon_merge.specs.Pairs.{readsWith, layersNumber}
 use Rattle.univmon_merge.proofs.judge.layers_refusal.Statement.{statement}
 use Rattle.univmon_merge.proofs.judge.layers_refusal.Tie as tie

@@ -5,7 +5,7 @@ use mathlib.Core.Bool.{true}
 use borrow.Author.Needs.{needs}
 use borrow.Author.Tests.{eq-eqb, ne-eqb, not-true, not-false}
 use denote.Ref.{now}
-use Rattle.univmon.specs.Slices.{lent, Lent}
+use Rattle.layout.specs.Slices.{lent, Lent}
 use Rattle.univmon_merge.specs.Pairs.{lentStands, headsNumber, mergeNumber}
 use Rattle.univmon_merge.proofs.MergeCalls.{light-of, paired-of}
 use Rattle.univmon_merge.proofs.judge.merge_refusal.Statement.{statement}

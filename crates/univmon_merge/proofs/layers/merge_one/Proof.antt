@@ -8,16 +8,16 @@ use lib.Dec.{leb}
 use native.Mathlib.Omega.{arith}
 use borrow.Author.Needs.{needs}
 use denote.Ref.{now}
-use Rattle.univmon.specs.Slices.{lent, view, Lent}
-use Rattle.univmon.proofs.Offsets.{cand-off, seats-few}
+use Rattle.layout.specs.Slices.{lent, view, Lent}
+use Rattle.layout.proofs.Offsets.{cand-off, seats-few}
 use Rattle.words.specs.Parts.{part}
 use Rattle.header.specs.Header.{withLayer}
 use Rattle.layer.specs.Layer.{Layer, layerOf}
 use Rattle.layer.specs.Merge.{mergeLayer}
 use Rattle.layer.proofs.Merges.{merge-few}
-use Rattle.univmon.specs.State.{dimsAt, layerAt}
+use Rattle.layout.specs.State.{dimsAt, layerAt}
 use Rattle.univmon_merge.specs.Pairs.{Paired, mergesWith}
-use Rattle.univmon.proofs.Sends.{Spanned, spanned-of, cells-room, norms-room, words-room, seats-room, Back, back-view, back-standing}
+use Rattle.layout.proofs.Handed.{Spanned, spanned-of, cells-room, norms-room, words-room, seats-room, Back, back-view, back-standing}
 use Rattle.univmon_merge.proofs.Pairing.{other-inside, other-spanned, own-is, other-is, other-housed, merge-ready, flag-is}
 use Rattle.univmon_merge.proofs.layers.merge_one.Statement.{statement}
 use Rattle.univmon_merge.proofs.layers.merge_one.Tie as tie
