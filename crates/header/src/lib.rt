@@ -7,9 +7,12 @@ ghost use mathlib.Core.Bool.{Bool, true, false, _&&_};
 ghost use mathlib.Core.List.{List};
 ghost use Prim.Native.Nat.{ℕ, _+_, _-_, _<_, _≤_};
 ghost use lib.ListN.{length, getD, set, replicate};
+ghost use Rattle.words.specs.Num.{top};
+ghost use Rattle.words.specs.Tests.{number};
 ghost use Rattle.header.specs.declared.Mode.{Mode};
+ghost use Rattle.header.specs.Totals.{noTotals, updateTotals, addTotals, setWeight, totalsOk, totalsTests};
 ghost use Rattle.header.specs.Shape.{shapeRefusal, checkedShape, bottomOf, bottomLayer};
-ghost use Rattle.header.specs.Header.{zeroHeader, freshHeader, withWeight, withMode, withFlags, withLens, withLayer, withLayers, headOf, fixedOf, clash, joined, beginOf, beginHeader, freshFlags, lensFrom, headerOk};
+ghost use Rattle.header.specs.Header.{zeroHeader, freshHeader, withTotals, withMode, withFlags, withLens, withLayer, withLayers, headOf, scalarsOf, clash, joined, beginTests, beginOf, beginHeader, freshFlags, lensFrom, headerOk};
 
 // 2^52, the greatest weight.
 const TOP: u64 = 4503599627370496;
@@ -43,20 +46,25 @@ pub enum Mode {
     Terminal,
 }
 
+// What updates and merges add up, beside the layers: the weight of all that was counted.
+pub struct Totals {
+    pub weight: u64,
+}
+
 // The fields stand by falling alignment, so that no copy of a header starts at an odd byte.
 pub struct Header {
     pub shape: Shape,
-    pub weight: u64,
+    pub totals: Totals,
     pub lens: [usize; 19],
     pub flags: [bool; 19],
     pub mode: Mode,
 }
 
-// What of a header no layer's step changes. It goes beside lengths and flags, which are lent: a header
-// by value would be copied at each call.
-pub struct Fixed {
+// A header without what it holds by layer. It goes beside lengths and flags, which are lent: a header by
+// value would be copied at each call.
+pub struct Scalars {
     pub shape: Shape,
-    pub weight: u64,
+    pub totals: Totals,
     pub mode: Mode,
 }
 
@@ -67,9 +75,9 @@ pub struct Answered {
 }
 
 // The same where lengths and flags are lent.
-pub struct Begun {
+pub struct AnsweredLent {
     pub refusal: u64,
-    pub fixed: Fixed,
+    pub scalars: Scalars,
 }
 
 impl Shape {
@@ -216,7 +224,7 @@ impl Header {
         };
         Header {
             shape,
-            weight: 0,
+            totals: Totals::zero(),
             mode: Mode::Unset,
             flags: [false; 19],
             lens: [0usize; 19],
@@ -232,7 +240,7 @@ impl Header {
         let flags = fresh_flags(layers);
         Header {
             shape,
-            weight: 0,
+            totals: Totals::zero(),
             mode: Mode::Unset,
             flags,
             lens: [0usize; 19],
@@ -240,34 +248,45 @@ impl Header {
     }
 
     // What is left without lengths and flags.
-    pub fn fixed(self) -> Fixed
-        ensures { λ r. ⌜ r ≡ fixedOf self ⌝ }
+    pub fn scalars(self) -> Scalars
+        ensures { λ r. ⌜ r ≡ scalarsOf self ⌝ }
     {
         let shape = self.shape;
+        let totals = self.totals;
         let mode = self.mode;
-        Fixed {
+        Scalars {
             shape,
-            weight: self.weight,
+            totals,
             mode,
         }
     }
 
-    pub fn with_weight(mut self, weight: u64) -> Self
-        ensures { λ r. ⌜ r ≡ withWeight self weight ⌝ }
+    pub fn with_totals(self, totals: Totals) -> Self
+        ensures { λ r. ⌜ r ≡ withTotals self totals ⌝ }
     {
-        self.weight = weight;
-        self
+        let shape = self.shape;
+        let mode = self.mode;
+        let flags = self.flags;
+        let lens = self.lens;
+        Header {
+            shape,
+            totals,
+            mode,
+            flags,
+            lens,
+        }
     }
 
     pub fn with_mode(self, mode: Mode) -> Self
         ensures { λ r. ⌜ r ≡ withMode self mode ⌝ }
     {
         let shape = self.shape;
+        let totals = self.totals;
         let flags = self.flags;
         let lens = self.lens;
         Header {
             shape,
-            weight: self.weight,
+            totals,
             mode,
             flags,
             lens,
@@ -319,70 +338,115 @@ impl Header {
         self
     }
 
-    // Weight and mode of an update: 5, 6 or 7 and the header as it was, or 0 and the header that the
+    // Totals and mode of an update: 5, 6 or 7 and the header as it was, or 0 and the header that the
     // update begins with.
     pub fn begin_update(self, weight: i64, mode: Mode) -> Answered
         ensures { λ r. ⌜ r ≡ beginHeader self weight mode ⌝ }
     {
-        let begun = self.fixed().begin_update(weight, mode);
-        let fixed = begun.fixed;
-        let next = fixed.mode;
+        let begun = self.scalars().begin_update(weight, mode);
+        let scalars = begun.scalars;
+        let totals = scalars.totals;
+        let next = scalars.mode;
         Answered {
             refusal: begun.refusal,
-            header: self.with_weight(fixed.weight).with_mode(next),
+            header: self.with_totals(totals).with_mode(next),
         }
     }
 
-    // Whether dimensions, weight, lengths and flags are in range.
+    // Whether dimensions, totals, lengths and flags are in range.
     pub fn in_range(self) -> bool
         ensures { λ r. ⌜ r ≡ headerOk self ⌝ }
     {
         let lens = self.lens;
         let flags = self.flags;
-        fields_in_range(self.shape, self.weight, &lens, &flags)
+        fields_in_range(self.shape, self.totals, &lens, &flags)
     }
 }
 
-impl Fixed {
-    // The same without lengths and flags, which an update's beginning does not change: here it is
-    // tested, for any weight that was there.
-    pub fn begin_update(self, weight: i64, mode: Mode) -> Begun
-        ensures { λ r. ⌜ r ≡ beginOf self weight mode ⌝ }
+impl Totals {
+    pub fn zero() -> Self
+        ensures { λ r. ⌜ r ≡ noTotals ⌝ }
+    {
+        Totals { weight: 0 }
+    }
+
+    // What one update adds.
+    pub fn of_update(weight: u64) -> Self
+        ensures { λ r. ⌜ r ≡ updateTotals weight ⌝ }
+    {
+        Totals { weight }
+    }
+
+    pub fn with_weight(self, weight: u64) -> Self
+        ensures { λ r. ⌜ r ≡ setWeight self weight ⌝ }
+    {
+        Totals { weight }
+    }
+
+    pub fn in_range(self) -> bool
+        ensures { λ r. ⌜ r ≡ totalsOk self ⌝ }
+    {
+        self.weight <= TOP
+    }
+
+    // 7 where the sum would pass 2^52, 0 where not; of any two.
+    pub fn sum_refusal(self, more: Totals) -> u64
+        ensures { λ r. ⌜ r ≡ number (totalsTests self more) ⌝ }
+    {
+        if TOP < more.weight {
+            return 7;
+        }
+        if TOP - more.weight < self.weight {
+            return 7;
+        }
+        0
+    }
+
+    pub fn plus(self, more: Totals) -> Self
+        requires { ⌜ number (totalsTests self more) ≡ 0 ⌝ }
+        ensures { λ r. ⌜ r ≡ addTotals self more ⌝ }
+    {
+        Totals {
+            weight: self.weight + more.weight,
+        }
+    }
+}
+
+impl Scalars {
+    // The number that an update's beginning is refused with, 0 for none: 5, 6, 7.
+    pub fn begin_refusal(self, weight: i64, mode: Mode) -> u64
+        ensures { λ r. ⌜ r ≡ number (beginTests self weight mode) ⌝ }
     {
         if weight < 0 {
-            return Begun {
-                refusal: 5,
-                fixed: self,
+            return 5;
+        }
+        let before = self.mode;
+        if clashes(before, mode) {
+            return 6;
+        }
+        self.totals.sum_refusal(Totals::of_update(weight as u64))
+    }
+
+    // An update's beginning without lengths and flags, which it does not change; for any totals that
+    // were there.
+    pub fn begin_update(self, weight: i64, mode: Mode) -> AnsweredLent
+        ensures { λ r. ⌜ r ≡ beginOf self weight mode ⌝ }
+    {
+        let refusal = self.begin_refusal(weight, mode);
+        if refusal != 0 {
+            return AnsweredLent {
+                refusal,
+                scalars: self,
             };
         }
-        let had = self.mode;
-        if clashes(had, mode) {
-            return Begun {
-                refusal: 6,
-                fixed: self,
-            };
-        }
-        let w = weight as u64;
-        if TOP < w {
-            return Begun {
-                refusal: 7,
-                fixed: self,
-            };
-        }
-        if TOP - w < self.weight {
-            return Begun {
-                refusal: 7,
-                fixed: self,
-            };
-        }
-        let sum = self.weight + w;
         let shape = self.shape;
-        let fixed = Fixed {
+        let before = self.mode;
+        let scalars = Scalars {
             shape,
-            weight: sum,
-            mode: join(had, mode),
+            totals: self.totals.plus(Totals::of_update(weight as u64)),
+            mode: join(before, mode),
         };
-        Begun { refusal: 0, fixed }
+        AnsweredLent { refusal: 0, scalars }
     }
 }
 
@@ -431,15 +495,15 @@ fn rest_clear(lens: &[usize], flags: &[bool], layers: usize) -> bool
     clear
 }
 
-// Whether dimensions, weight, lengths and flags are in range; of the mode nothing is asked.
-pub fn fields_in_range(shape: Shape, weight: u64, lens: &[usize], flags: &[bool]) -> bool
+// Whether dimensions, totals, lengths and flags are in range; of the mode nothing is asked.
+pub fn fields_in_range(shape: Shape, totals: Totals, lens: &[usize], flags: &[bool]) -> bool
     requires { ⌜ (length (now lens) ≡ 19) × (length (now flags) ≡ 19) ⌝ }
-    ensures { λ r. ⌜ ((m : Mode) → r ≡ headerOk (headOf (record { shape = shape; weight = weight; mode = m }) (now (flags .entry)) (now (lens .entry)))) ⌝ }
+    ensures { λ r. ⌜ ((m : Mode) → r ≡ headerOk (headOf (record { shape = shape; totals = totals; mode = m }) (now (flags .entry)) (now (lens .entry)))) ⌝ }
 {
     if shape.refusal() != 0 {
         return false;
     }
-    if TOP < weight {
+    if !totals.in_range() {
         return false;
     }
     let few = lens_few(lens, shape.layers, shape.heap_size);

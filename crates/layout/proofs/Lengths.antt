@@ -1,21 +1,21 @@
 -- The lengths of the slices, and what a passed test of them says. Assumes nothing.
-use mathlib.Core.Path.{_≡_, _∙_}
-use mathlib.Core.Bool.{true, false, _&&_}
+use mathlib.Core.Path.{_≡_, refl, _∙_}
+use mathlib.Core.Bool.{true, _&&_}
 use Prim.Native.Nat.{ℕ, _*_}
-use borrow.Author.Tests.{eqb-true, eq-eqb}
+use borrow.Author.Tests.{eqb-true, not-false}
 use lib.Dec.{eqb}
-use lib.ListN.{length, replicate}
+use lib.ListN.{replicate}
 use lib.IntN.{pos}
-use Rattle.words.proofs.Bools.{and-left, and-right, both}
+use Rattle.words.specs.Tests.{number}
+use Rattle.words.proofs.Tests.{off-number}
+use Rattle.words.proofs.Bools.{and-left, and-right}
 use Rattle.countsketch_l2_norm.proofs.Norms.{length-norms}
 use Rattle.heap_moves.proofs.Views.{length-cands}
 use Rattle.header.specs.declared.Shape.{Shape}
 use Rattle.header.specs.Header.{freshHeader, headerOk}
-use Rattle.header.proofs.Ranges.{ranged-of, len-few}
-use Rattle.layout.specs.State.{sizesOk}
-use Rattle.layout.specs.Judged.{unsound}
+use Rattle.header.proofs.Ranges.{Ranged, ranged-of, len-few}
 use Rattle.layout.specs.Slices.{Lent, cellsIn, normsIn, candsIn, lengthsOk, lent, lentOk, view, freshLent}
-use Rattle.layout.specs.Outcomes.{left}
+use Rattle.layout.specs.Outcomes.{left, lentTests}
 use Rattle.layout.specs.Needs.{Sizes, Standing}
 use Rattle.layout.proofs.States.{Long}
 
@@ -49,19 +49,16 @@ standing-of r h z =
       lens = λ m k. len-few (r .head) (ranged-of (r .head) h) m k;
     }
 
--- and the state that they show has its sizes
-pub sized-view : (r : Lent) → lentOk r ≡ true → sizesOk (view r) ≡ true
-unfolding sizesOk view
-sized-view r z =
-    let s = sizes-of (r .head .shape) (length (r .counters)) (length (r .norms)) (length (r .entries)) (length (r .counts)) z in
-    both (both (eq-eqb _ _ (s .cells)) (eq-eqb _ _ (length-norms (r .norms) (normsIn (r .head .shape))))) (eq-eqb _ _ (length-cands (r .entries) (r .counts) ∙ s .counts))
-
 -- a lent state's lists are as long as its shape's
 pub long-view : (r : Lent) → Standing r → Long (view r)
 unfolding view
 long-view r z = record { counters = z .sizes .cells; norms = length-norms (r .norms) _; cands = length-cands (r .entries) (r .counts) ∙ z .sizes .counts }
 
--- nor is it refused for them
-pub sound-of : (r : Lent) → headerOk (r .head) ≡ true → lentOk r ≡ true → unsound (view r) ≡ false
-unfolding view
-sound-of r h z = simp (h, sized-view r z)
+-- what is not refused for header or lengths
+pub stands-of : (r : Lent) → number (lentTests r) ≡ 0 → Standing r
+stands-of r z =
+    let p = off-number (lentTests r) refl z in
+    standing-of r (not-false _ (p .0)) (not-false _ (p .1 .0))
+
+pub ranges-of : (r : Lent) → number (lentTests r) ≡ 0 → Ranged (r .head)
+ranges-of r z = ranged-of (r .head) (not-false _ (off-number (lentTests r) refl z .0))

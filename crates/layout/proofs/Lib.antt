@@ -1,6 +1,7 @@
-pub mod Flatten
-pub mod Handed
-pub mod Lengths
 pub mod Offsets
 pub mod States
+pub mod Lengths
 pub mod Views
+pub mod Handed
+pub mod Flatten
+pub mod Judged

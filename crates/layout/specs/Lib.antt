@@ -1,7 +1,6 @@
-pub mod Judged
-pub mod Needs
-pub mod Outcomes
-pub mod Records
+pub mod State
 pub mod Slices
 pub mod Spans
-pub mod State
+pub mod Records
+pub mod Outcomes
+pub mod Needs

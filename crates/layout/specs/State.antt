@@ -2,9 +2,8 @@
 use Prim.Native.Nat.{ℕ, zero, suc, _*_}
 use mathlib.Core.Bool.{Bool, true, false, _&&_}
 use mathlib.Core.List.{List}
-use lib.ListN.{length, getD, replicate}
+use lib.ListN.{getD, replicate}
 use lib.IntN.{ℤ, pos}
-use lib.Dec.{eqb}
 use Rattle.words.specs.Parts.{part, putPart}
 use Rattle.countsketch_l2_norm.specs.Merge.{sumBelow}
 use Rattle.heap_moves.specs.Cands.{Cand, noCand}
@@ -76,12 +75,6 @@ overLayers f (suc k) l s = overLayers f k (suc l) (putLayer s l (f l (layerAt s 
 unfoldable pub allLayers : (ℕ → Layer → Bool) → ℕ → ℕ → State → Bool
 allLayers p zero l s = true
 allLayers p (suc k) l s = p l (layerAt s l) && allLayers p k (suc l) s
-
--- "Their lengths are exactly layers × rows × cols counters, .. layers × heap size counts."
-unfoldable pub sizesOk : State → Bool
-sizesOk s =
-    eqb (length (s .counters)) (cellOff (shapeOf s) (shapeOf s .layers)) && eqb (length (s .norms)) (normOff (shapeOf s) (shapeOf s .layers))
-    && eqb (length (s .cands)) (candOff (shapeOf s) (shapeOf s .layers))
 
 -- "An accepted `new` fills every slice with zeros."
 unfoldable pub newState : Shape → State

@@ -1,14 +1,17 @@
 // Where layers stand in the slices that a caller lends, and hashes in a key's record. For the crates of
 // this repository, which show first that the shape is accepted.
+use header::Header;
 use header::Shape;
 use heap_moves::Who;
 use layer::Dims;
 ghost use mathlib.Core.Path.{_≡_};
 ghost use Prim.Native.Nat.{ℕ, _+_, _*_, _≤_, _<_};
 ghost use lib.ListN.{length};
+ghost use Rattle.words.specs.Tests.{number};
 ghost use Rattle.header.specs.Accepted.{Accepted};
 ghost use Rattle.layout.specs.State.{dimsAt};
-ghost use Rattle.layout.specs.Slices.{lengthsOk};
+ghost use Rattle.layout.specs.Slices.{lengthsOk, lent};
+ghost use Rattle.layout.specs.Outcomes.{lentTests};
 ghost use Rattle.layout.specs.Spans.{spanOf};
 ghost use Rattle.layout.specs.Records.{whoAt};
 
@@ -35,6 +38,31 @@ pub fn lengths_match(
         return false;
     }
     counts == seats
+}
+
+// 9 for a header out of range or slices that are not its shape's, 0 for none.
+pub fn lent_refusal(
+    h: Header,
+    counters: &[i64],
+    norms: &[u64],
+    entries: &[u64],
+    counts: &[i64],
+) -> u64
+    ensures { λ r. ⌜ r ≡ number (lentTests (lent h (now (counters .entry)) (now (norms .entry)) (now (entries .entry)) (now (counts .entry)))) ⌝ }
+{
+    if !h.in_range() {
+        return 9;
+    }
+    if !lengths_match(
+        h.shape,
+        counters.len(),
+        norms.len(),
+        entries.len(),
+        counts.len(),
+    ) {
+        return 9;
+    }
+    0
 }
 
 // Where a layer's counters, norm words, entry words and counts begin and end.

@@ -68,7 +68,7 @@ kind-unset kind.Terminal e = cc
 counts : (sh : Shape) → shapeRefusal sh ≡ 0 → (b : Book) (s : State) → RelayBy sh b s → OneRecord b → distinct (bookKeys b) ≤ sh .«heap_size»
     → cardinalityOf s ≡ ofInt binary64 (pos (distinct (bookKeys b)))
 unfolding gSumOf standardSum terminalSum
-counts sh w b s r one few = rw (and-false (eqb (s .head .weight) 0)) (go (s .head .mode) refl)
+counts sh w b s r one few = rw (and-false (eqb (s .head .totals .weight) 0)) (go (s .head .mode) refl)
   where
     v : Accepted sh
     v = accepted-of sh w

@@ -31,7 +31,7 @@ use Rattle.layout.specs.Slices.{lengthsOk, view, flat, freshLent}
 use Rattle.layout.specs.State.{rowsAt, colsAt, cellOff, normOff, candOff, layerAt, putLayer, overLayers, allLayers, sizesOk}
 use Rattle.univmon.specs.Updates.{updateTests, updated, update}
 use Rattle.univmon_merge.specs.Merges.{mergeTests, merged, merge}
-use Rattle.univmon_merge.specs.Calls.{mergeCall}
+use Rattle.univmon_merge.specs.Merges.{mergeCall}
 use Rattle.sums.specs.Layers.{gSum, standardSum}
 use Rattle.sums.specs.Terminal.{gatherOne, gather, ahead, rankIn, ranked, gathered, terminalSum, flagged, complete, squares}
 use Rattle.sums.specs.Terms.{gOf, factor, counted, addTerm, sumOver}

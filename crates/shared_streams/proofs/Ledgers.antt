@@ -13,7 +13,7 @@ use Rattle.header.specs.Shape.{shapeRefusal}
 use Rattle.univmon.specs.declared.Kind.{Kind}
 use Rattle.layout.specs.Outcomes.{Outcome}
 use Rattle.univmon.specs.Calls.{updateCall}
-use Rattle.univmon_merge.specs.Calls.{mergeCall}
+use Rattle.univmon_merge.specs.Merges.{mergeCall}
 use Rattle.shared_streams.specs.Books.{Update, Book}
 use Rattle.shared_streams.specs.Relays.{Relay, freshRelay, start, relayAt, Call, feed, join, retirements, names, updateBy, fed, joinedTo, called, step, run, ifAccepted, updateOf, accepted}
 use Rattle.shared_streams.specs.Ledger.{feedNumber, joinNumber, Answers, Account, opened, accountOf, accountAt, entered, united, booked, gone, bookStep, ledger, books, entryOf, entries}

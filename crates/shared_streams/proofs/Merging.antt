@@ -15,7 +15,7 @@ use Rattle.header.specs.Shape.{shapeRefusal}
 use Rattle.layout.specs.Slices.{Lent}
 use Rattle.layout.specs.Outcomes.{Outcome}
 use Rattle.univmon.specs.Calls.{updateCall}
-use Rattle.univmon_merge.specs.Calls.{mergeCall}
+use Rattle.univmon_merge.specs.Merges.{mergeCall}
 use Rattle.shared_streams.specs.Books.{Update, Book, Among, OneMode, weightOf}
 use Rattle.shared_streams.specs.Relays.{Relay, freshRelay, Call, feed, join, start, relayAt, retirements, names, updateBy, fed, joinedBy, retire, joinedTo, called, step, run, ifAccepted, updateOf, accepted}
 use Rattle.shared_streams.specs.Ledger.{joinNumber, Answers}

@@ -60,7 +60,7 @@ unfolding update updateTests updated layerAt
 update-state k s t words w g e =
     subst WholeState (sym (out .0))
     (over-whole (λ l y. addLayer (dimsAt (s .head .shape) l) (itemAt words w l) y) M F
-    _ (head-whole s (s .head .weight + natAbs w) (joined (s .head .mode) (modeOf k)) g light) room
+    _ (head-whole s (s .head .totals .weight + natAbs w) (joined (s .head .mode) (modeOf k)) g light) room
     (λ m p q x. add-whole (dimsAt (s .head .shape) m) (itemAt words w m) (layerAt s m) (wide (s .head .shape) a m) (a .seats) x
     (each (λ l y. addFits (dimsAt (s .head .shape) l) (itemAt words w l) y) s M F m p q fits)))
   where
@@ -79,8 +79,8 @@ update-state k s t words w g e =
     room : firstSent k (bottomBy s words) + manySent k (bottomBy s words) ≤ s .head .shape .layers
     room = sent-room k (bottomBy s words) (s .head .shape .layers) (bottom-lt (bottomWord words) (s .head .shape .layers) (state-accepted s g .some))
 
-    light : s .head .weight + natAbs w ≤ top
-    light = leb-true (s .head .weight + natAbs w) top (not-false (leb (s .head .weight + natAbs w) top) (out .1 .1 .1 .1 .1 .0))
+    light : s .head .totals .weight + natAbs w ≤ top
+    light = leb-true (s .head .totals .weight + natAbs w) top (not-false (leb (s .head .totals .weight + natAbs w) top) (out .1 .1 .1 .1 .1 .0))
 
     fits : sentAll k (λ l y. addFits (dimsAt (shapeOf s) l) (itemAt words w l) y) s words ≡ true
     fits = not-false (sentAll k (λ l y. addFits (dimsAt (shapeOf s) l) (itemAt words w l) y) s words) (out .1 .1 .1 .1 .1 .1 .1 .0)
@@ -92,7 +92,7 @@ unfolding applyDelta deltaTests arrived layerAt
 delta-state s t words a g e =
     subst WholeState (sym (out .0))
     (put-whole _ (a .layer) (deltaLayer (dimsAt (s .head .shape) (a .layer)) (deltaBy a words) (layerAt s (a .layer)))
-    (head-whole s (s .head .weight) (settled (s .head .mode)) g (g .light)) inside
+    (head-whole s (s .head .totals .weight) (settled (s .head .mode)) g (g .light)) inside
     (delta-whole (dimsAt (s .head .shape) (a .layer)) (deltaBy a words) (layerAt s (a .layer)) below within (state-accepted s g .seats) (g .layers (a .layer) inside)
     (not-false (deltaFits (dimsAt (s .head .shape) (a .layer)) (deltaBy a words) (layerAt s (a .layer))) (out .1 .1 .1 .1 .1 .0))))
   where
@@ -124,7 +124,7 @@ unfolding merge mergeTests merged layerAt
 merge-state s q t g h e =
     subst WholeState (sym (out .0))
     (over-whole (λ l y. mergeLayer (dimsAt (s .head .shape) l) y (layerAt q l)) (s .head .shape .layers) 0
-    _ (head-whole s (s .head .weight + q .head .weight) (joined (s .head .mode) (q .head .mode)) g light) (omega arith)
+    _ (head-whole s (s .head .totals .weight + q .head .totals .weight) (joined (s .head .mode) (q .head .mode)) g light) (omega arith)
     (λ m i j x. merge-whole (dimsAt (s .head .shape) m) (layerAt s m) (layerAt q m) (state-accepted s g .seats) x (other m (omega arith))
     (each (λ l y. mergeFits y (layerAt q l)) s (s .head .shape .layers) 0 m i j fits)))
   where
@@ -134,8 +134,8 @@ merge-state s q t g h e =
     same : q .head .shape ≡ s .head .shape
     same = same-of (s .head .shape) (q .head .shape) (not-false (sameShape (s .head .shape) (q .head .shape)) (out .1 .1 .0))
 
-    light : s .head .weight + q .head .weight ≤ top
-    light = leb-true (s .head .weight + q .head .weight) top (not-false (leb (s .head .weight + q .head .weight) top) (out .1 .1 .1 .1 .0))
+    light : s .head .totals .weight + q .head .totals .weight ≤ top
+    light = leb-true (s .head .totals .weight + q .head .totals .weight) top (not-false (leb (s .head .totals .weight + q .head .totals .weight) top) (out .1 .1 .1 .1 .0))
 
     fits : allLayers (λ l y. mergeFits y (layerAt q l)) (s .head .shape .layers) 0 s ≡ true
     fits = not-false (allLayers (λ l y. mergeFits y (layerAt q l)) (s .head .shape .layers) 0 s) (out .1 .1 .1 .1 .1 .1 .0)

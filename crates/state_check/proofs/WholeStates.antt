@@ -70,7 +70,7 @@ module _ (r : Lent) (e : stateOk r ≡ true) where
 pub record WholeState (s : State) : Type 0 where
   pub sized : Sized s
   pub shape : shapeRefusal (s .head .shape) ≡ 0
-  pub light : s .head .weight ≤ top
+  pub light : s .head .totals .weight ≤ top
   pub pastLens : (l : ℕ) → s .head .shape .layers ≤ l → getD (s .head .lens) l 0 ≡ 0
   pub pastFlags : (l : ℕ) → s .head .shape .layers ≤ l → getD (s .head .flags) l false ≡ false
   pub layers : (l : ℕ) → l < s .head .shape .layers → Whole (dimsAt (s .head .shape) l) (layerAt s l)
@@ -125,7 +125,7 @@ module _ (s : State) (w : WholeState s) where
   head-pass : headerOk (s .head) ≡ true
   unfolding headerOk layerAt
   head-pass =
-      both (both (eq-eqb (shapeRefusal (s .head .shape)) 0 (w .shape)) (le-leb (s .head .weight) top (w .light)))
+      both (both (eq-eqb (shapeRefusal (s .head .shape)) 0 (w .shape)) (le-leb (s .head .totals .weight) top (w .light)))
       (passed-all (lensFrom (s .head .shape .layers) (s .head .shape .«heap_size») (s .head .lens) (s .head .flags))
       (λ l. head.layerOk l (s .head .shape .layers) (s .head .shape .«heap_size») (getD (s .head .lens) l 0) (getD (s .head .flags) l false))
       (lens-step (s .head .shape .layers) (s .head .shape .«heap_size») (s .head .lens) (s .head .flags)) (lens-none (s .head .shape .layers) (s .head .shape .«heap_size») (s .head .lens) (s .head .flags)) maxLayers 0

@@ -12,7 +12,7 @@ use lib.Dec.{eqb, leb}
 use Rattle.words.specs.Num.{top, wordSize}
 use Rattle.header.specs.declared.Mode.{Mode}
 use Rattle.header.specs.Shape.{maxLayers}
-use Rattle.header.specs.Header.{clash, begun, beginOf, fixedOf, headerOk}
+use Rattle.header.specs.Header.{clash, begun, beginOf, scalarsOf, headerOk}
 use Rattle.header.proofs.Bottoms.{bottom-lt}
 use Rattle.header.proofs.Steps.{begin-by}
 use Rattle.layer.specs.Layer.{Layer}
@@ -221,26 +221,26 @@ module _ (k : Kind) (r : Lent) (words : List ℕ) (w : ℤ) (p : UpdateReady r w
   begins : update k (view r) words w
       ≡ cond (not (nonNeg w)) (refused 5)
       (cond (clash (r .head .mode) (modeOf k)) (refused 6)
-      (cond (not (leb (r .head .weight + natAbs w) top)) (refused 7) (cond (not reads) (refused 9) (cond (not fits) (refused 11) (done (updated k (view r) words w))))))
+      (cond (not (leb (r .head .totals .weight + natAbs w) top)) (refused 7) (cond (not reads) (refused 9) (cond (not fits) (refused 11) (done (updated k (view r) words w))))))
   unfolding update updateTests view
   begins = simp (sound-of r (p .ranged) (p .sized), eq-eqb _ _ (p .recorded))
 
   -- the number that the beginning is refused with
   abbrev pub number : ℕ
-  number = beginOf (fixedOf (r .head)) w (modeOf k) .refusal
+  number = beginOf (scalarsOf (r .head)) w (modeOf k) .refusal
 
   -- 5, 6 or 7
   pub not-begun : (number ≡ 0 → ⊥) → left number r ≡ leftBy r (outcomeOf (update k (view r) words w))
   unfolding beginOf
   not-begun =
-      begin-by (fixedOf (r .head)) w (modeOf k) (λ b. (b .refusal ≡ 0 → ⊥) → left (b .refusal) r ≡ leftBy r (outcomeOf (update k (view r) words w)))
+      begin-by (scalarsOf (r .head)) w (modeOf k) (λ b. (b .refusal ≡ 0 → ⊥) → left (b .refusal) r ≡ leftBy r (outcomeOf (update k (view r) words w)))
       (λ p n. rw (begins, p)) (λ p q n. rw (begins, p, q)) (λ p q s n. rw (begins, p, q, s)) (λ p q s n. absurd (n (rw (p, q, s))))
 
   -- none of the three
   has-begun : number ≡ 0 → update k (view r) words w ≡ cond (not reads) (refused 9) (cond (not fits) (refused 11) (done (updated k (view r) words w)))
   unfolding beginOf
   has-begun =
-      begin-by (fixedOf (r .head)) w (modeOf k) (λ b. b .refusal ≡ 0 → update k (view r) words w ≡ cond (not reads) (refused 9) (cond (not fits) (refused 11) (done (updated k (view r) words w))))
+      begin-by (scalarsOf (r .head)) w (modeOf k) (λ b. b .refusal ≡ 0 → update k (view r) words w ≡ cond (not reads) (refused 9) (cond (not fits) (refused 11) (done (updated k (view r) words w))))
       (λ p z. absurd (omega (arith, rw p at z))) (λ p q z. absurd (omega (arith, rw (p, q) at z))) (λ p q s z. absurd (omega (arith, rw (p, q, s) at z)))
       (λ p q s z. rw (begins, p, q, s))
 
@@ -281,9 +281,9 @@ module _ (k : Kind) (r : Lent) (words : List ℕ) (w : ℤ) (p : UpdateReady r w
 
 -- ---- what the call answers, by what all but its beginning left
 
-module _ (k : Kind) (r : Lent) (words : List ℕ) (w : ℤ) (m : ℕ) (t : Lent) (e : left m t ≡ sentAfter k (beginOf (fixedOf (r .head)) w (modeOf k) .refusal) words w r) where
+module _ (k : Kind) (r : Lent) (words : List ℕ) (w : ℤ) (m : ℕ) (t : Lent) (e : left m t ≡ sentAfter k (beginOf (scalarsOf (r .head)) w (modeOf k) .refusal) words w r) where
   abbrev begins-by : ℕ
-  begins-by = beginOf (fixedOf (r .head)) w (modeOf k) .refusal
+  begins-by = beginOf (scalarsOf (r .head)) w (modeOf k) .refusal
 
   -- header, lengths and record are right
   called : UpdateReady r words → leftBy r (outcomeOf (update k (view r) words w)) ≡ leftBy r (lentUpdateCall k r words w)

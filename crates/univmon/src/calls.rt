@@ -34,7 +34,7 @@ fn update_held(
     let mut lens = header.lens;
     let refusal = update(
         kind,
-        header.fixed(),
+        header.scalars(),
         begun.refusal,
         &mut flags,
         &mut lens,

@@ -4,6 +4,7 @@ use header::CheckedShape;
 use header::Header;
 use header::Shape;
 use layout::lengths_match;
+use layout::lent_refusal;
 ghost use mathlib.Core.Path.{_≡_};
 ghost use lib.ListN.{length, replicate};
 ghost use lib.IntN.{pos};
@@ -78,22 +79,13 @@ pub fn clear(
         ≡ leftBy (lent header (now (counters .entry)) (now (norms .entry)) (now (entries .entry)) (now (counts .entry)))
         (clearCall (lent header (now (counters .entry)) (now (norms .entry)) (now (entries .entry)) (now (counts .entry)))) ⌝ }
 {
-    if !header.in_range() {
-        return Answered { refusal: 9, header };
-    }
-    let shape = header.shape;
-    if !lengths_match(
-        shape,
-        counters.len(),
-        norms.len(),
-        entries.len(),
-        counts.len(),
-    ) {
-        return Answered { refusal: 9, header };
+    let refusal = lent_refusal(header, &*counters, &*norms, &*entries, &*counts);
+    if refusal != 0 {
+        return Answered { refusal, header };
     }
     zero_all(counters, norms, entries, counts);
     Answered {
         refusal: 0,
-        header: Header::fresh(shape),
+        header: Header::fresh(header.shape),
     }
 }

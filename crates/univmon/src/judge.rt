@@ -1,6 +1,6 @@
 // What an update reads of the layers that it touches, and whether it fits: nothing is written here.
 // The state is lent whole, so that a contract can name it; no entry is read.
-use header::Fixed;
+use header::Scalars;
 use layout::dims;
 use layout::span_of;
 use layout::who_in;
@@ -10,11 +10,11 @@ ghost use Prim.Native.Nat.{ℕ, _+_, _<_};
 ghost use Rattle.header.specs.Header.{headOf};
 ghost use Rattle.layout.specs.State.{layerAt, allLayers};
 ghost use Rattle.layout.specs.Slices.{lent, view};
-ghost use Rattle.univmon.specs.Needs.{JudgeReady, readsAt, readyAt, judgedAt};
+ghost use Rattle.univmon.specs.Needs.{JudgeReady, readsAt, readyAt, layersTests};
 
 // Whether one layer is ready for the update.
 fn ready_at(
-    h: Fixed,
+    h: Scalars,
     flags: &[bool],
     lens: &[usize],
     counters: &[i64],
@@ -52,7 +52,7 @@ fn ready_at(
 
 // Whether what the update reads of one layer is in range.
 fn reads_at(
-    h: Fixed,
+    h: Scalars,
     flags: &[bool],
     lens: &[usize],
     counters: &[i64],
@@ -88,7 +88,7 @@ fn reads_at(
 
 // Whether every touched layer is ready.
 fn all_ready(
-    h: Fixed,
+    h: Scalars,
     flags: &[bool],
     lens: &[usize],
     counters: &[i64],
@@ -127,7 +127,7 @@ fn all_ready(
 
 // Whether all that is read of the touched layers is in range.
 fn all_read(
-    h: Fixed,
+    h: Scalars,
     flags: &[bool],
     lens: &[usize],
     counters: &[i64],
@@ -156,7 +156,7 @@ fn all_read(
 // leave the range. One pass where all is well; only a refusal looks again, since 9 anywhere comes
 // before 11 anywhere.
 pub fn judge_layers(
-    h: Fixed,
+    h: Scalars,
     flags: &[bool],
     lens: &[usize],
     counters: &[i64],
@@ -169,7 +169,7 @@ pub fn judge_layers(
     many: usize,
 ) -> u64
     requires { ⌜ JudgeReady (lent (headOf h (now flags) (now lens)) (now counters) (now norms) (now entries) (now counts)) (now words) weight many first ⌝ }
-    ensures { λ r. ⌜ r ≡ judgedAt (h .shape) (now (words .entry)) weight many first (view (lent (headOf h (now (flags .entry)) (now (lens .entry))) (now (counters .entry)) (now (norms .entry)) (now (entries .entry)) (now (counts .entry)))) ⌝ }
+    ensures { λ r. ⌜ r ≡ number (layersTests (h .shape) (now (words .entry)) weight many first (view (lent (headOf h (now (flags .entry)) (now (lens .entry))) (now (counters .entry)) (now (norms .entry)) (now (entries .entry)) (now (counts .entry))))) ⌝ }
 {
     if all_ready(
         h,

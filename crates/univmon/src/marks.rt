@@ -25,7 +25,9 @@ pub fn set_total_weight(header: Header, weight: u64) -> Answered
     let settled = header::join(had, Mode::Standard);
     Answered {
         refusal: 0,
-        header: header.with_weight(weight).with_mode(settled),
+        header: header
+            .with_totals(header.totals.with_weight(weight))
+            .with_mode(settled),
     }
 }
 

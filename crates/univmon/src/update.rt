@@ -1,6 +1,6 @@
 // What both updates write, once everything is judged: functions of this crate only, so they may ask for
 // what `stages` has tested.
-use header::Fixed;
+use header::Scalars;
 use layout::dims;
 use layout::span_of;
 use layout::who_in;
@@ -17,7 +17,7 @@ ghost use Rattle.univmon.specs.Needs.{SendReady, SendsReady, addsAt};
 
 // Sends an update to one layer.
 fn send_one(
-    h: Fixed,
+    h: Scalars,
     flags: &mut [bool],
     lens: &mut [usize],
     counters: &mut [i64],
@@ -66,7 +66,7 @@ fn send_one(
 
 // Sends an update to many layers from the first on.
 pub fn send(
-    h: Fixed,
+    h: Scalars,
     flags: &mut [bool],
     lens: &mut [usize],
     counters: &mut [i64],

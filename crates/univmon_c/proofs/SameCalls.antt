@@ -6,7 +6,7 @@ use Rattle.header.specs.declared.Mode.the-variants as mode
 use Rattle.layout.specs.Slices.{Lent, lent}
 use Rattle.layout.specs.Outcomes.{Outcome, leftBy}
 use Rattle.univmon.specs.Calls.{updateCall, lentUpdateCall}
-use Rattle.univmon_merge.specs.Calls.{mergeCall}
+use Rattle.univmon_merge.specs.Merges.{mergeCall}
 use Rattle.univmon_c.specs.Crossing.{isMode, modeOf, modeNumber}
 use Rattle.univmon_c.specs.Calls.{ofLent, crossed, changeBy, mergeBy}
 use Rattle.univmon_c.specs.SameCalls.{ThereAndBack, FromC}
@@ -24,7 +24,7 @@ is-mode mode.Terminal = refl
 
 pub there-and-back : ThereAndBack
 there-and-back r =
-    λ i. lent (record { shape = r .head .shape; weight = r .head .weight; mode = mode-back (r .head .mode) i; flags = r .head .flags; lens = r .head .lens }) (r .counters) (r .norms) (r .entries) (r .counts)
+    λ i. lent (record { shape = r .head .shape; weight = r .head .totals .weight; mode = mode-back (r .head .mode) i; flags = r .head .flags; lens = r .head .lens }) (r .counters) (r .norms) (r .entries) (r .counts)
 
 change-same : (f : Lent → Outcome) (r : Lent) → changeBy true f (ofLent r) ≡ crossed (leftBy r (f r))
 unfolding changeBy

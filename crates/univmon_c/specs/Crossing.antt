@@ -7,8 +7,8 @@ use Rattle.header.specs.declared.Mode.{Mode}
 use Rattle.header.specs.declared.Mode.the-variants as mode
 use Rattle.header.specs.declared.Header.{Header}
 use Rattle.header.specs.declared.Answered.{Answered}
-use Rattle.header.specs.declared.Fixed.{Fixed}
-use Rattle.header.specs.declared.Begun.{Begun}
+use Rattle.header.specs.declared.Scalars.{Scalars}
+use Rattle.header.specs.declared.AnsweredLent.{AnsweredLent}
 use Rattle.header.specs.declared.BottomLayer.{BottomLayer}
 use Rattle.header.specs.declared.BottomLayer.the-variants as bottom
 use Rattle.univmon_delta.specs.declared.Fidelity.{Fidelity}
@@ -81,13 +81,13 @@ cHeader h =
 abbrev pub cHead : CShape → ℕ → ℕ → List ℕ → List Bool → CHeader
 cHead s w m ns fs = record { «heap_size» = s .«heap_size»; rows = s .rows; cols = s .cols; layers = s .layers; weight = w; mode = m; lens = ns; flags = fs }
 
-abbrev pub cFixed : CShape → ℕ → ℕ → Fixed
-cFixed s w m = record { shape = record { «heap_size» = s .«heap_size»; rows = s .rows; cols = s .cols; layers = s .layers }; weight = w; mode = modeOf m }
+abbrev pub cScalars : CShape → ℕ → ℕ → Scalars
+cScalars s w m = record { shape = record { «heap_size» = s .«heap_size»; rows = s .rows; cols = s .cols; layers = s .layers }; weight = w; mode = modeOf m }
 
 -- ---- answers
 
-abbrev pub cStep : Begun → CStep
-cStep b = record { refusal = b .refusal; weight = b .fixed .weight; mode = modeNumber (b .fixed .mode) }
+abbrev pub cStep : AnsweredLent → CStep
+cStep b = record { refusal = b .refusal; weight = b .scalars .weight; mode = modeNumber (b .scalars .mode) }
 
 abbrev pub cAnswered : Answered → CAnswered
 cAnswered a = record { refusal = a .refusal; header = cHeader (a .header) }

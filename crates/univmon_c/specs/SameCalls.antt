@@ -10,7 +10,7 @@ use Rattle.univmon.specs.declared.Kind.{Kind}
 use Rattle.layout.specs.Slices.{Lent}
 use Rattle.layout.specs.Outcomes.{leftBy}
 use Rattle.univmon.specs.Calls.{updateCall, lentUpdateCall}
-use Rattle.univmon_merge.specs.Calls.{mergeCall}
+use Rattle.univmon_merge.specs.Merges.{mergeCall}
 use Rattle.shared_streams.specs.Relays.{Relay}
 use Rattle.shared_streams.specs.SharedStreams.{Claimed}
 use Rattle.univmon_c.specs.Calls.{lentOf, ofLent, crossed, changeBy, mergeBy}

@@ -15,7 +15,7 @@ ghost use Rattle.univmon.specs.declared.Kind.the-variants as kind;
 ghost use Rattle.univmon_delta.specs.Arriving.{arrival};
 ghost use Rattle.univmon.specs.Calls.{newCall, updateCall, clearCall, weightCall, markCall, markLayerCall};
 ghost use Rattle.univmon_delta.specs.Deltas.{deltaCall};
-ghost use Rattle.univmon_merge.specs.Calls.{mergeCall};
+ghost use Rattle.univmon_merge.specs.Merges.{mergeCall};
 ghost use Rattle.univmon_c.specs.Crossing.{isFidelity, fidelityOf, cBottom};
 ghost use Rattle.univmon_c.specs.Calls.{cLent, cLeft, crossed, changeBy, mergeBy, headBy};
 

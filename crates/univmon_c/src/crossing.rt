@@ -9,9 +9,9 @@ use crate::CStep;
 use estimates::Answer;
 use estimates::PanelAnswer;
 use header::Answered;
-use header::Begun;
+use header::AnsweredLent;
 use header::BottomLayer;
-use header::Fixed;
+use header::Scalars;
 use header::Header;
 use header::Mode;
 use header::Shape;
@@ -32,7 +32,7 @@ ghost use Rattle.univmon_c.specs.Crossing.{
   cBottom,
   cAnswer,
   cPanel,
-  cFixed,
+  cScalars,
   cStep,
 };
 
@@ -127,8 +127,8 @@ fn c_header(h: Header) -> CHeader
 }
 
 // What is left of a header without lengths and flags.
-pub fn fixed_of(s: CShape, weight: u64, mode: u64) -> Fixed
-    ensures { λ r. ⌜ r ≡ cFixed s weight mode ⌝ }
+pub fn scalars_of(s: CShape, weight: u64, mode: u64) -> Scalars
+    ensures { λ r. ⌜ r ≡ cScalars s weight mode ⌝ }
 {
     let shape = Shape {
         heap_size: s.heap_size,
@@ -137,7 +137,7 @@ pub fn fixed_of(s: CShape, weight: u64, mode: u64) -> Fixed
         layers: s.layers,
     };
     let had = mode_of(mode);
-    Fixed {
+    Scalars {
         shape,
         weight,
         mode: had,
@@ -146,15 +146,15 @@ pub fn fixed_of(s: CShape, weight: u64, mode: u64) -> Fixed
 
 // ---- answers
 
-pub fn c_step(b: Begun) -> CStep
+pub fn c_step(b: AnsweredLent) -> CStep
     ensures { λ r. ⌜ r ≡ cStep b ⌝ }
 {
-    let fixed = b.fixed;
-    let now = fixed.mode;
+    let scalars = b.scalars;
+    let now = scalars.mode;
     let mode = mode_number(now);
     CStep {
         refusal: b.refusal,
-        weight: fixed.weight,
+        weight: scalars.weight,
         mode,
     }
 }

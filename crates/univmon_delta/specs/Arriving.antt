@@ -1,21 +1,17 @@
 -- What the functions of a delta need, by name, and the number that a delta is refused with.
 use Prim.Native.Nat.{ℕ, _≤_, _<_}
 use mathlib.Core.Path.{_≡_}
-use mathlib.Core.Bool.{true, cond, not}
+use mathlib.Core.Bool.{true}
 use mathlib.Core.List.{List}
 use lib.ListN.{length}
 use lib.IntN.{ℤ, natAbs}
-use lib.Dec.{eqb, leb}
 use Rattle.words.specs.Num.{top}
-use Rattle.header.specs.Header.{headerOk}
-use Rattle.layer.specs.declared.Dims.{Dims}
-use Rattle.layer.specs.Layer.{Layer}
-use Rattle.layer.specs.Delta.{Delta, delta, deltaReads, deltaFits}
+use Rattle.layer.specs.Delta.{delta, deltaReads, deltaFits}
 use Rattle.univmon_delta.specs.declared.Fidelity.{Fidelity}
 use Rattle.layout.specs.State.{dimsAt, layerAt}
-use Rattle.layout.specs.Slices.{Lent, lentOk, view}
+use Rattle.layout.specs.Slices.{Lent, view}
 use Rattle.layout.specs.Records.{recordLength, whoAt}
-use Rattle.univmon_delta.specs.Deltas.{Arrival, deltaBy}
+use Rattle.univmon_delta.specs.Deltas.{Arrival}
 use Rattle.layout.specs.Needs.{Standing}
 
 abbrev pub arrival : ℕ → ℕ → ℕ → ℤ → Fidelity → Arrival
@@ -35,18 +31,3 @@ pub record Arrives (r : Lent) (words : List ℕ) (l row col : ℕ) (n : ℤ) : T
   pub small : natAbs n ≤ top
   pub read : deltaReads (dimsAt (r .head .shape) l) (delta row col n (whoAt words l) true) (layerAt (view r) l) ≡ true
   pub fit : deltaFits (dimsAt (r .head .shape) l) (delta row col n (whoAt words l) true) (layerAt (view r) l) ≡ true
-
--- the number of the first of the two refusals that applies to the layer, 0 for none
-unfoldable pub judgedDelta : Dims → Delta → Layer → ℕ
-judgedDelta d u y = cond (not (deltaReads d u y)) 9 (cond (not (deltaFits d u y)) 11 0)
-
--- the number of the first of all refusals that applies, 0 for none
-unfoldable pub deltaNumber : Lent → List ℕ → Arrival → ℕ
-deltaNumber r words a =
-    cond (not (headerOk (r .head))) 9
-    (cond (not (lentOk r)) 9
-    (cond (not (eqb (length words) (recordLength (r .head .shape .layers)))) 12
-    (cond (leb (r .head .shape .layers) (a .layer)) 8
-    (cond (leb (dimsAt (r .head .shape) (a .layer) .rows) (a .row)) 8
-    (cond (leb (dimsAt (r .head .shape) (a .layer) .cols) (a .col)) 8
-    (judgedDelta (dimsAt (r .head .shape) (a .layer)) (deltaBy a words) (layerAt (view r) (a .layer))))))))

@@ -1,19 +1,20 @@
 -- A delta: "A delta's count has 32 bits, signed; it is accepted in terminal mode too, and an unset mode becomes standard."
 use Prim.Native.Nat.{ℕ}
-use mathlib.Core.Bool.{Bool, true, false, cond, not, _||_}
-use mathlib.Core.List.{List, [], _∷_}
-use lib.ListN.{length}
+use mathlib.Core.Bool.{Bool, true, false, not}
+use mathlib.Core.List.{List, [], _∷_, _++_}
 use lib.IntN.{ℤ}
-use lib.Dec.{eqb, leb}
+use lib.Dec.{leb}
 use Rattle.header.specs.Header.{withMode, settled}
+use Rattle.header.specs.declared.Shape.{Shape}
+use Rattle.layer.specs.declared.Dims.{Dims}
+use Rattle.layer.specs.Layer.{Layer}
 use Rattle.layer.specs.Delta.{Delta, deltaLayer, deltaReads, deltaFits}
 use Rattle.univmon_delta.specs.declared.Fidelity.{Fidelity}
 use Rattle.univmon_delta.specs.declared.Fidelity.the-variants as fidelity
-use Rattle.layout.specs.State.{State, shapeOf, dimsAt, layerAt, putLayer, withHead}
-use Rattle.layout.specs.Judged.{Out, judge, unsound}
-use Rattle.layout.specs.Records.{recordLength, whoAt}
-use Rattle.layout.specs.Slices.{Lent, lentOk, view}
-use Rattle.layout.specs.Outcomes.{Outcome, outcomeOf}
+use Rattle.layout.specs.State.{State, shapeOf, rowsAt, colsAt, dimsAt, layerAt, putLayer, withHead}
+use Rattle.layout.specs.Records.{whoAt}
+use Rattle.layout.specs.Slices.{Lent, view, flat}
+use Rattle.layout.specs.Outcomes.{Outcome, judge, recordTests}
 
 -- the arguments of a delta: "layer, row or column", count, and whether every insert was promoted
 pub record Arrival : Type 0 where
@@ -31,26 +32,23 @@ everyInsert fidelity.PromotedOnly = false
 abbrev pub deltaBy : Arrival → List ℕ → Delta
 deltaBy a words = record { row = a .row; col = a .col; count = a .count; who = whoAt words (a .layer); every = everyInsert (a .fidelity) }
 
--- 8 "layer, row or column outside the shape"
-abbrev pub outside : State → Arrival → Bool
-outside s a = leb (shapeOf s .layers) (a .layer) || (leb (dimsAt (shapeOf s) (a .layer) .rows) (a .row) || leb (dimsAt (shapeOf s) (a .layer) .cols) (a .col))
-
-unfoldable pub deltaTests : State → List ℕ → Arrival → List (Bool × ℕ)
-deltaTests s words a =
-    (unsound s, 9)
-    ∷ (not (eqb (length words) (recordLength (shapeOf s .layers))), 12)
-    ∷ (outside s a, 8)
-    ∷ (not (deltaReads (dimsAt (shapeOf s) (a .layer)) (deltaBy a words) (layerAt s (a .layer))), 9)
-    ∷ (not (deltaFits (dimsAt (shapeOf s) (a .layer)) (deltaBy a words) (layerAt s (a .layer))), 11)
-    ∷ []
-
 unfoldable pub arrived : State → List ℕ → Arrival → State
 arrived s words a =
     putLayer (withHead s (withMode (s .head) (settled (s .head .mode)))) (a .layer) (deltaLayer (dimsAt (shapeOf s) (a .layer)) (deltaBy a words) (layerAt s (a .layer)))
 
-unfoldable pub applyDelta : State → List ℕ → Arrival → Out
-applyDelta s words a = judge (deltaTests s words a) (arrived s words a)
+-- 8 "layer, row or column outside the shape"
+abbrev pub counterTests : Shape → Arrival → List (Bool × ℕ)
+counterTests sh a = (leb (sh .layers) (a .layer), 8) ∷ (leb (rowsAt sh (a .layer)) (a .row), 8) ∷ (leb (colsAt sh (a .layer)) (a .col), 8) ∷ []
 
--- the call on slices
+-- what is read of its layer, and its counter: 9, 11
+abbrev pub deltaTestsAt : Dims → Delta → Layer → List (Bool × ℕ)
+deltaTestsAt d u y = (not (deltaReads d u y), 9) ∷ (not (deltaFits d u y), 11) ∷ []
+
+-- "Other calls: 9 for lengths and headers, 12, 10, 5, 8, 6, 7, 9 for what is read, 11.": here 9, 12; 8; 9, 11
+unfoldable pub deltaTests : Lent → List ℕ → Arrival → List (Bool × ℕ)
+deltaTests r words a =
+    recordTests r words
+    ++ (counterTests (r .head .shape) a ++ deltaTestsAt (dimsAt (r .head .shape) (a .layer)) (deltaBy a words) (layerAt (view r) (a .layer)))
+
 unfoldable pub deltaCall : Lent → List ℕ → Arrival → Outcome
-deltaCall r words a = cond (lentOk r) (outcomeOf (applyDelta (view r) words a)) (Outcome.no 9)
+deltaCall r words a = judge (deltaTests r words a) (flat (arrived (view r) words a))

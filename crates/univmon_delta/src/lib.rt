@@ -5,7 +5,7 @@ use header::Header;
 use header::Mode;
 use heap::Answer;
 use layout::dims;
-use layout::lengths_match;
+use layout::lent_refusal;
 use layout::span_of;
 use layout::who_in;
 ghost use mathlib.Core.Path.{_≡_};
@@ -13,16 +13,17 @@ ghost use mathlib.Core.Bool.{Bool, true, _&&_};
 ghost use Prim.Native.Nat.{ℕ, _≤_, _<_};
 ghost use lib.IntN.{ℤ, natAbs};
 ghost use Rattle.words.specs.Num.{top};
+ghost use Rattle.words.specs.Tests.{number};
 ghost use Rattle.heap.specs.Offer.{keptBy};
 ghost use Rattle.layer.specs.Delta.{delta, deltaLayer};
 ghost use Rattle.univmon_delta.specs.declared.Fidelity.{Fidelity};
 ghost use Rattle.layout.specs.State.{dimsAt, layerAt, putLayer};
 ghost use Rattle.layout.specs.Slices.{lent, view};
 ghost use Rattle.layout.specs.Records.{whoAt};
-ghost use Rattle.univmon_delta.specs.Deltas.{everyInsert, deltaCall};
+ghost use Rattle.univmon_delta.specs.Deltas.{everyInsert, deltaTestsAt, deltaTests, deltaCall};
 ghost use Rattle.layout.specs.Outcomes.{left, leftBy};
 ghost use Rattle.layout.specs.Needs.{Standing};
-ghost use Rattle.univmon_delta.specs.Arriving.{Placed, Arrives, arrival, judgedDelta, deltaNumber};
+ghost use Rattle.univmon_delta.specs.Arriving.{Placed, Arrives, arrival};
 
 // How much of the stream reached a relay that is fed by deltas.
 pub enum Fidelity {
@@ -66,8 +67,8 @@ fn judge_delta(
 ) -> u64
     requires { ⌜ Placed (lent h (now counters) (now norms) (now entries) (now counts)) (now words) l row col ⌝ }
     requires { ⌜ natAbs count ≤ top ⌝ }
-    ensures { λ r. ⌜ ((every : Bool) → r ≡ judgedDelta (dimsAt (h .shape) l) (delta row col count (whoAt (now (words .entry)) l) every)
-        (layerAt (view (lent h (now (counters .entry)) (now (norms .entry)) (now (entries .entry)) (now (counts .entry)))) l)) ⌝ }
+    ensures { λ r. ⌜ ((every : Bool) → r ≡ number (deltaTestsAt (dimsAt (h .shape) l) (delta row col count (whoAt (now (words .entry)) l) every)
+        (layerAt (view (lent h (now (counters .entry)) (now (norms .entry)) (now (entries .entry)) (now (counts .entry)))) l))) ⌝ }
 {
     let shape = h.shape;
     let s = span_of(shape, l);
@@ -164,31 +165,24 @@ fn delta_refusal(
     count: i64,
 ) -> u64
     requires { ⌜ natAbs count ≤ top ⌝ }
-    ensures { λ r. ⌜ ((f : Fidelity) → r ≡ deltaNumber (lent h (now (counters .entry)) (now (norms .entry)) (now (entries .entry)) (now (counts .entry))) (now (words .entry)) (arrival l row col count f)) ⌝ }
+    ensures { λ r. ⌜ ((f : Fidelity) → r ≡ number (deltaTests (lent h (now (counters .entry)) (now (norms .entry)) (now (entries .entry)) (now (counts .entry))) (now (words .entry)) (arrival l row col count f))) ⌝ }
 {
-    if !h.in_range() {
-        return 9;
+    let unfit = lent_refusal(h, counters, norms, entries, counts);
+    if unfit != 0 {
+        return unfit;
     }
     let shape = h.shape;
-    if !lengths_match(
-        shape,
-        counters.len(),
-        norms.len(),
-        entries.len(),
-        counts.len(),
-    ) {
-        return 9;
-    }
     if words.len() != 2 + 2 * shape.layers {
         return 12;
     }
     if shape.layers <= l {
         return 8;
     }
-    if shape.rows <= row {
+    let d = dims(shape, l);
+    if d.rows <= row {
         return 8;
     }
-    if shape.cols <= col {
+    if d.cols <= col {
         return 8;
     }
     judge_delta(

@@ -17,7 +17,7 @@ use Rattle.layout.specs.Slices.{Lent, lent, lentOk, view, flat}
 use Rattle.layout.specs.Judged.{refused, done}
 use Rattle.univmon_merge.specs.Merges.{sameShape, mergeTests, merged, merge}
 use Rattle.layout.specs.Outcomes.{Outcome, outcomeOf, left, leftBy}
-use Rattle.univmon_merge.specs.Calls.{mergeCall}
+use Rattle.univmon_merge.specs.Merges.{mergeCall}
 use Rattle.layout.specs.Needs.{Standing}
 use Rattle.univmon_merge.specs.Pairs.{Paired, MergesReady, readsWith, fitsWith, mergesWith, lentStands, headsNumber, layersNumber, mergeNumber}
 use Rattle.layout.proofs.Lengths.{standing-of, sized-view}
@@ -26,7 +26,7 @@ use Rattle.layout.proofs.Lengths.{standing-of, sized-view}
 pub stands-of : (r : Lent) → lentStands r ≡ true → Standing r
 stands-of r e = standing-of r (and-left (headerOk (r .head)) (lentOk r) e) (and-right (headerOk (r .head)) (lentOk r) e)
 
-pub light-of : (r : Lent) → lentStands r ≡ true → r .head .weight ≤ top
+pub light-of : (r : Lent) → lentStands r ≡ true → r .head .totals .weight ≤ top
 light-of r e = ranged-of (r .head) (and-left (headerOk (r .head)) (lentOk r) e) .light
 
 -- ---- one shape
@@ -63,7 +63,7 @@ paired-of r t a b e =
     record {
       standing = stands-of r a;
       other = stands-of t b;
-      same = same-of (r .head .shape) (t .head .shape) (heads-same (sameShape (r .head .shape) (t .head .shape)) (clash (r .head .mode) (t .head .mode)) (leb (r .head .weight + t .head .weight) top) e);
+      same = same-of (r .head .shape) (t .head .shape) (heads-same (sameShape (r .head .shape) (t .head .shape)) (clash (r .head .mode) (t .head .mode)) (leb (r .head .totals .weight + t .head .totals .weight) top) e);
       inside = omega arith;
     }
 
@@ -127,7 +127,7 @@ module _ (r t : Lent) where
   unfolding mergeCall merge mergeTests mergeNumber headsNumber layersNumber view
   call-is =
       call-by (headerOk (r .head)) (lentOk r) (sizesOk (view r)) (headerOk (t .head)) (lentOk t) (sizesOk (view t)) (sameShape (r .head .shape) (t .head .shape)) (clash (r .head .mode) (t .head .mode))
-      (leb (r .head .weight + t .head .weight) top) (allLayers (readsWith (view t)) (r .head .shape .layers) 0 (view r)) (allLayers (fitsWith (view t)) (r .head .shape .layers) 0 (view r)) (merged (view r) (view t)) r
+      (leb (r .head .totals .weight + t .head .totals .weight) top) (allLayers (readsWith (view t)) (r .head .shape .layers) 0 (view r)) (allLayers (fitsWith (view t)) (r .head .shape .layers) 0 (view r)) (merged (view r) (view t)) r
       (sized-view r) (sized-view t)
 
   -- refused: the number, and nothing changed
@@ -140,14 +140,14 @@ module _ (r t : Lent) where
 
   passes : mergeNumber r t ≡ 0
       → Passed (headerOk (r .head)) (lentOk r) (headerOk (t .head)) (lentOk t) (sameShape (r .head .shape) (t .head .shape)) (clash (r .head .mode) (t .head .mode))
-      (leb (r .head .weight + t .head .weight) top) (allLayers (readsWith (view t)) (r .head .shape .layers) 0 (view r)) (allLayers (fitsWith (view t)) (r .head .shape .layers) 0 (view r))
+      (leb (r .head .totals .weight + t .head .totals .weight) top) (allLayers (readsWith (view t)) (r .head .shape .layers) 0 (view r)) (allLayers (fitsWith (view t)) (r .head .shape .layers) 0 (view r))
   unfolding mergeNumber headsNumber layersNumber
   passes z = passed (headerOk (r .head)) (lentOk r) (headerOk (t .head)) (lentOk t) (sameShape (r .head .shape) (t .head .shape)) (clash (r .head .mode) (t .head .mode))
-      (leb (r .head .weight + t .head .weight) top) (allLayers (readsWith (view t)) (r .head .shape .layers) 0 (view r)) (allLayers (fitsWith (view t)) (r .head .shape .layers) 0 (view r)) z
+      (leb (r .head .totals .weight + t .head .totals .weight) top) (allLayers (readsWith (view t)) (r .head .shape .layers) 0 (view r)) (allLayers (fitsWith (view t)) (r .head .shape .layers) 0 (view r)) z
 
   -- the weights may be added
-  pub weights-fit : mergeNumber r t ≡ 0 → r .head .weight + t .head .weight ≤ top
-  weights-fit z = leb-true (r .head .weight + t .head .weight) top ((passes z) .light)
+  pub weights-fit : mergeNumber r t ≡ 0 → r .head .totals .weight + t .head .totals .weight ≤ top
+  weights-fit z = leb-true (r .head .totals .weight + t .head .totals .weight) top ((passes z) .light)
 
   -- what is not refused may be made, with whatever weight and mode
   pub merges-of : (w : ℕ) (m : Mode) → mergeNumber r t ≡ 0 → MergesReady (lent (begun (r .head) w m) (r .counters) (r .norms) (r .entries) (r .counts)) t (r .head .shape .layers)
@@ -165,6 +165,6 @@ module _ (r t : Lent) where
       }
 
   -- the layers merged are the state after the merge
-  pub merged-is : overLayers (mergesWith (r .head .shape) (view t)) (r .head .shape .layers) 0 (view (lent (begun (r .head) (t .head .weight) (t .head .mode)) (r .counters) (r .norms) (r .entries) (r .counts))) ≡ merged (view r) (view t)
+  pub merged-is : overLayers (mergesWith (r .head .shape) (view t)) (r .head .shape .layers) 0 (view (lent (begun (r .head) (t .head .totals .weight) (t .head .mode)) (r .counters) (r .norms) (r .entries) (r .counts))) ≡ merged (view r) (view t)
   unfolding merged view
   merged-is = refl

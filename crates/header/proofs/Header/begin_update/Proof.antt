@@ -6,8 +6,8 @@ use Rattle.header.proofs.Steps.{header-begins}
 use Rattle.header.proofs.Header.begin_update.Statement.{statement}
 use Rattle.header.proofs.Header.begin_update.Tie as tie
 
-fixed-requires : tie.Need-fixed-requires
-fixed-requires c κs = search needs
+scalars-requires : tie.Need-scalars-requires
+scalars-requires c κs = search needs
 
 begin-update-requires : tie.Need-begin-update-requires
 begin-update-requires c κs = search needs
@@ -20,8 +20,8 @@ with-mode-requires c κs = search needs
 
 returns : tie.Need-returns
 returns c =
-    let b = rw (toZ-ofZ (c .before .before .before .before .before .fits .weight), c .before .before .before .before .fixed .ensures) at (c .before .before .before .begin-update .ensures) in
+    let b = rw (toZ-ofZ (c .before .before .before .before .before .fits .weight), c .before .before .before .before .scalars .ensures) at (c .before .before .before .begin-update .ensures) in
     rw (c .with-mode .ensures, c .before .with-weight .ensures) (header-begins (c .before .before .before .before .before .args .self) (c .before .before .before .before .before .args .weight) (c .before .before .before .before .before .args .mode) (c .before .before .before .begin-update .result) b)
 
 pub begin-update-spec : {M : Type 1} → statement M
-begin-update-spec = tie.close (tie.spec fixed-requires begin-update-requires with-weight-requires with-mode-requires returns)
+begin-update-spec = tie.close (tie.spec scalars-requires begin-update-requires with-weight-requires with-mode-requires returns)

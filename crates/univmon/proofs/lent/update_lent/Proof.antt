@@ -8,7 +8,7 @@ use Rattle.header.specs.Header.{headOf, beginOf}
 use Rattle.layout.specs.Slices.{lent, Lent}
 use Rattle.layout.specs.Outcomes.{left}
 use Rattle.univmon.specs.Needs.{sentAfter}
-use Rattle.header.specs.declared.Begun.{Begun}
+use Rattle.header.specs.declared.AnsweredLent.{AnsweredLent}
 use Rattle.header.proofs.Steps.{begun-is, begin-light}
 use Rattle.univmon.specs.Updates.{modeOf}
 use Rattle.univmon.proofs.Updating.{call-refused, call-done}
@@ -30,7 +30,7 @@ begins : (c : tie.After-begin-update) → c .begin-update .result ≡ beginOf (c
 begins c = rw (toZ-ofZ (c .before .before .before .before .before .before .before .fits .weight), c .before .mode-of .ensures) at (c .begin-update .ensures)
 
 number : (c : tie.After-begin-update) → c .begin-update .result .refusal ≡ beginOf (c .before .before .before .before .before .before .before .args .had) (c .before .before .before .before .before .before .before .args .weight) (modeOf (c .before .before .before .before .before .before .before .args .kind)) .refusal
-number c = ap (λ (b : Begun). b .refusal) (begins c)
+number c = ap (λ (b : AnsweredLent). b .refusal) (begins c)
 
 update-requires : tie.Need-update-requires
 update-requires c κs = λ z. let a = c .before .before .before .before .before .before .before .before .before .before .before .before .before .args in rw (toZ-ofZ (c .before .before .before .before .before .before .before .before .before .before .before .before .before .fits .weight)) (begin-light (a .had) (a .weight) (modeOf (a .kind)) (sym (number (c .before .before .before .before .before .before)) ∙ z))

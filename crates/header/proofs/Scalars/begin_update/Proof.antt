@@ -1,4 +1,4 @@
--- `header::Fixed::begin_update` meets its contract.
+-- `header::Scalars::begin_update` meets its contract.
 -- Written by tools/places.py from answers.txt; assumes nothing.
 use Prim.Native.Nat.{_+_, _≤_}
 use mathlib.Core.Path.{_≡_, sym, ap, _∙_}
@@ -15,8 +15,8 @@ use Rattle.words.specs.Num.{top}
 use Rattle.words.proofs.Signed.{not-negative}
 use Rattle.header.proofs.Steps.{weight-negative, weight-positive}
 use Rattle.header.specs.Header.{beginOf}
-use Rattle.header.proofs.Fixed.begin_update.Statement.{statement}
-use Rattle.header.proofs.Fixed.begin_update.Tie as tie
+use Rattle.header.proofs.Scalars.begin_update.Statement.{statement}
+use Rattle.header.proofs.Scalars.begin_update.Tie as tie
 
 -- the sign of the weight, by the code's test
 negative : (c : tie.Then1) → nonNeg (c .before .args .weight) ≡ false

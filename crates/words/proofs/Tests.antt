@@ -1,0 +1,48 @@
+-- Tests in their order: the number of the first that holds. Assumes nothing.
+use mathlib.Core.Path.{_≡_, refl, sym, _∙_}
+use mathlib.Core.Bool.{Bool, true, false, cond, not, _&&_}
+use mathlib.Core.List.{List, [], _∷_, _++_}
+use Prim.Native.Nat.{ℕ}
+use borrow.Author.Tests.{eqb-false, not-false}
+use lib.Dec.{eqb}
+use Rattle.words.specs.Tests.{number, numbered}
+use Rattle.words.proofs.Bools.{never, and-left, and-right}
+
+-- no test holds
+abbrev pub Off : List (Bool × ℕ) → Type 0
+Off [] = Unit {0}
+Off (t ∷ ts) = (t .0 ≡ false) × Off ts
+
+pub number-off : (ts : List (Bool × ℕ)) → Off ts → number ts ≡ 0
+number-off [] h = refl
+number-off (t ∷ ts) h = rw (h .0) (number-off ts (h .1))
+
+not-zero : (n : ℕ) → not (eqb n 0) ≡ true → n ≡ 0 → ⊥
+not-zero n e z = go (eqb n 0) refl e
+  where
+    go : (b : Bool) → eqb n 0 ≡ b → not b ≡ true → ⊥
+    go true q e = never e
+    go false q e = eqb-false n 0 q z
+
+-- where no test has the number 0, the number 0 says that none holds
+pub off-number : (ts : List (Bool × ℕ)) → numbered ts ≡ true → number ts ≡ 0 → Off ts
+off-number [] n e = tt
+off-number (t ∷ ts) n e = go (t .0) refl e
+  where
+    go : (b : Bool) → t .0 ≡ b → cond b (t .1) (number ts) ≡ 0 → (t .0 ≡ false) × Off ts
+    go true q e = absurd (not-zero (t .1) (and-left (not (eqb (t .1) 0)) (numbered ts) n) e)
+    go false q e = (q, off-number ts (and-right (not (eqb (t .1) 0)) (numbered ts) n) e)
+
+-- ---- tests and then others
+
+pub number-first : (ts us : List (Bool × ℕ)) → (number ts ≡ 0 → ⊥) → number (ts ++ us) ≡ number ts
+number-first [] us h = absurd (h refl)
+number-first (t ∷ ts) us h = go (t .0) h
+  where
+    go : (b : Bool) → (cond b (t .1) (number ts) ≡ 0 → ⊥) → cond b (t .1) (number (ts ++ us)) ≡ cond b (t .1) (number ts)
+    go true k = refl
+    go false k = number-first ts us k
+
+pub number-rest : (ts us : List (Bool × ℕ)) → Off ts → number (ts ++ us) ≡ number us
+number-rest [] us h = refl
+number-rest (t ∷ ts) us h = rw (h .0) (number-rest ts us (h .1))
