@@ -3,5 +3,7 @@ pub mod States
 pub mod Lengths
 pub mod Views
 pub mod Handed
+pub mod Replaced
 pub mod Flatten
 pub mod Judged
+pub mod Fresh
