@@ -10,7 +10,7 @@ use borrow.Author.Tests.{eqb-true, eqb-false, leb-true, not-false}
 use Rattle.words.specs.Num.{top}
 use Rattle.words.specs.Tests.{number, numbered}
 use Rattle.words.proofs.Bools.{never}
-use Rattle.words.proofs.Tests.{Off, number-off, off-number, number-first, number-rest}
+use Rattle.words.proofs.Tests.{Off, off-number, number-rest, number-alone}
 use Rattle.header.specs.declared.Shape.{Shape}
 use Rattle.header.specs.declared.Mode.{Mode}
 use Rattle.header.specs.Shape.{shapeRefusal}
@@ -39,13 +39,7 @@ judge-answers ts t n h e = go (eqb (number ts) 0) refl
 
 -- the first tests and the last are off, or those between refuse
 between : (us ts vs : List (Bool × ℕ)) → numbered ts ≡ true → Off us → (Off ts → Off vs) → number (us ++ (ts ++ vs)) ≡ number ts
-between us ts vs h o f = number-rest us (ts ++ vs) o ∙ go (eqb (number ts) 0) refl
-  where
-    go : (b : Bool) → eqb (number ts) 0 ≡ b → number (ts ++ vs) ≡ number ts
-    go true q =
-        let z = off-number ts h (eqb-true (number ts) 0 q) in
-        number-rest ts vs z ∙ number-off vs (f z) ∙ sym (eqb-true (number ts) 0 q)
-    go false q = number-first ts vs (eqb-false (number ts) 0 q)
+between us ts vs h o f = number-rest us (ts ++ vs) o ∙ number-alone ts vs h f
 
 -- ---- an update
 
@@ -67,8 +61,7 @@ feed-answers sh v b r x k words w =
     sent (pos m) o = update-sent sh v k b r words m x (leb-true (r .head .totals .weight + m) top (not-false (leb (r .head .totals .weight + m) top) (o .1 .1 .1 .0)))
     sent (negsuc m) o = absurd (never (sym (o .1 .0)))
 
-    by-book : number front ≡ number (feedTests sh b k words w)
-    unfolding front
+    by-book : number ((not (eqb (length words) (recordLength (r .head .shape .layers))), 12) ∷ beginTests (scalarsOf (r .head)) w (modeOf k)) ≡ number (feedTests sh b k words w)
     by-book =
         ap (λ (z : Shape). number ((not (eqb (length words) (recordLength (z .layers))), 12) ∷ beginTests (record { shape = z; totals = r .head .totals; mode = r .head .mode }) w (modeOf k))) (by .shape)
         ∙ ap₂ (λ (m : Mode) (n : ℕ). number ((not (eqb (length words) (recordLength (sh .layers))), 12) ∷ beginTests (record { shape = sh; totals = record { weight = n }; mode = m }) w (modeOf k))) (by .mode) (by .weight)
@@ -99,8 +92,7 @@ join-answers sh v a b r t x y =
     paired : Off ((clash (r .head .mode) (t .head .mode), 6) ∷ totalsTests (r .head .totals) (t .head .totals)) → Off (pairTests (r .head .shape .layers) (view r) (view t))
     paired o = merge-paired sh v a b r t x y (leb-true (r .head .totals .weight + t .head .totals .weight) top (not-false (leb (r .head .totals .weight + t .head .totals .weight) top) (o .1 .0)))
 
-    by-books : number heads ≡ number (joinTests a b)
-    unfolding heads
+    by-books : number ((clash (r .head .mode) (t .head .mode), 6) ∷ totalsTests (r .head .totals) (t .head .totals)) ≡ number (joinTests a b)
     by-books =
         ap₂ (λ (m n : Mode). number ((clash m n, 6) ∷ totalsTests (r .head .totals) (t .head .totals))) (by .mode) (to .mode)
         ∙ ap₂ (λ (m n : ℕ). number ((clash (bookMode a) (bookMode b), 6) ∷ totalsTests (record { weight = m }) (record { weight = n }))) (by .weight) (to .weight)

@@ -138,8 +138,8 @@ formed-by sh v b s r =
     }
 
 lent-same : (k : Kind) (r : Lent) (words : List ℕ) (w : ℤ) → Headed (r .head) → lentUpdateCall k r words w ≡ updateCall k r words w
-unfolding lentUpdateCall
-lent-same k r words w h = rw (eq-eqb (length (r .head .lens)) maxLayers (h .lens), eq-eqb (length (r .head .flags)) maxLayers (h .flags))
+unfolding lentUpdateCall updateCall
+lent-same k r words w h = rw (eq-eqb (length (r .head .lens)) maxLayers (h .lens), eq-eqb (length (r .head .flags)) maxLayers (h .flags)) refl
 
 -- ---- a fresh relay that takes the book in any order
 

@@ -29,7 +29,7 @@ use Rattle.layout.specs.Records.{bottomWord}
 use Rattle.layout.proofs.States.{layers-step}
 use Rattle.layout.proofs.Fresh.{new-layer, new-sized, new-past-lens, new-past-flags}
 use Rattle.univmon.specs.Updates.{bottomBy, itemAt, modeOf, firstSent, manySent, sentAll, sentTests, updated}
-use Rattle.univmon.proofs.Kinds.{sent-room}
+use Rattle.univmon.proofs.Touched.{sent-room}
 use Rattle.univmon_delta.specs.Deltas.{Arrival, deltaBy, counterTests, deltaTestsAt, arrived}
 use Rattle.univmon_merge.specs.Merges.{sameShape, pairTests, merged}
 use Rattle.univmon_merge.proofs.MergeCalls.{same-of}

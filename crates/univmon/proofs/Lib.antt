@@ -2,4 +2,4 @@ pub mod Judging
 pub mod Sending
 pub mod Sends
 pub mod Updating
-pub mod Kinds
+pub mod Touched
