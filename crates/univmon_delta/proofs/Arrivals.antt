@@ -8,6 +8,7 @@ use lib.IntN.{ℤ}
 use lib.Dec.{leb}
 use Rattle.words.specs.Num.{inRange, allIn, squareCap, capped}
 use Rattle.words.specs.Parts.{part}
+use Rattle.words.specs.Tests.{number}
 use Rattle.words.proofs.Bools.{and-left}
 use Rattle.countsketch_l2_norm.specs.Sketch.{sketchOf, cellAt}
 use Rattle.countsketch_l2_norm.specs.Estimate.{cellsIn}
@@ -20,22 +21,20 @@ use Rattle.layer.proofs.Tests.{delta-reads-are}
 use Rattle.layout.specs.State.{dimsAt, layerAt}
 use Rattle.layout.specs.Slices.{Lent, view}
 use Rattle.layout.specs.Records.{whoAt}
-use Rattle.univmon_delta.specs.Arriving.{Arrives, judgedDelta}
+use Rattle.univmon_delta.specs.Deltas.{deltaTestsAt}
+use Rattle.univmon_delta.specs.Arriving.{Arrives}
 use Rattle.layout.proofs.Views.{shapeBy}
 use Rattle.layout.proofs.Handed.{Spanned, housed, words-long, handed-is}
 
 -- ---- the two tests of a layer
 
-pub judged-unread : (d : Dims) (u : Delta) (y : Layer) → deltaReads d u y ≡ false → 9 ≡ judgedDelta d u y
-unfolding judgedDelta
+pub judged-unread : (d : Dims) (u : Delta) (y : Layer) → deltaReads d u y ≡ false → 9 ≡ number (deltaTestsAt d u y)
 judged-unread d u y e = rw e
 
-pub judged-unfit : (d : Dims) (u : Delta) (y : Layer) → deltaReads d u y ≡ true → deltaFits d u y ≡ false → 11 ≡ judgedDelta d u y
-unfolding judgedDelta
+pub judged-unfit : (d : Dims) (u : Delta) (y : Layer) → deltaReads d u y ≡ true → deltaFits d u y ≡ false → 11 ≡ number (deltaTestsAt d u y)
 judged-unfit d u y e f = rw (e, f)
 
-pub judged-well : (d : Dims) (u : Delta) (y : Layer) → deltaReads d u y ≡ true → deltaFits d u y ≡ true → 0 ≡ judgedDelta d u y
-unfolding judgedDelta
+pub judged-well : (d : Dims) (u : Delta) (y : Layer) → deltaReads d u y ≡ true → deltaFits d u y ≡ true → 0 ≡ number (deltaTestsAt d u y)
 judged-well d u y e f = rw (e, f)
 
 -- the counter of a delta was read
@@ -104,5 +103,3 @@ module _ (r : Lent) (words : List ℕ) (l row col : ℕ) (n : ℤ) (p : Arrives 
 
       here : layerAt (view r) l ≡ layerOf d xs ws es ns len flag
       here = handed-is r (p .placed .standing) l (p .placed .inside) ca ce na ne ea ee ta te s
-
--- ---- a layer keeps its lengths

@@ -81,7 +81,9 @@ part-apply-delta-end-2 : tie.Need-part-apply-delta-end-2
 part-apply-delta-end-2 c = let b = norms-ok (c .before .before .before .before) in search needs
 
 mul-apply-delta-3 : tie.Need-mul-apply-delta-3
-mul-apply-delta-3 c = let b = words-ok (c .before .before .before .before .before) in search needs
+mul-apply-delta-3 c =
+    let z = c .before .before .before .before .before .before .before .before .before .before .pre .placed in
+    record { fits = omega (arith, (spanned (c .before .before .before .before .before)) .words, cand-off (c .before .before .before .before .before .before .before .before .before .before .args .h .shape) (c .before .before .before .before .before .before .before .before .before .before .args .l), seats-few (c .before .before .before .before .before .before .before .before .before .before .args .h .shape) (z .standing .accepted) (c .before .before .before .before .before .before .before .before .before .before .args .l) (omega (arith, z .inside))) }
 
 sub-apply-delta-3 : tie.Need-sub-apply-delta-3
 sub-apply-delta-3 c = let b = words-ok (c .before .before .before .before .before) in search needs
