@@ -155,9 +155,6 @@ fn all_fit(
 
 // ---- the number that a merge is refused with
 
-// 2^52, the greatest weight.
-const TOP: u64 = 4503599627370496;
-
 fn same_shape(a: Shape, b: Shape) -> bool
     ensures { λ r. ⌜ r ≡ sameShape a b ⌝ }
 {
@@ -202,7 +199,7 @@ fn heads_refusal(h: Header, other: Header) -> u64
     if header::clashes(had, came) {
         return 6;
     }
-    if TOP - h.weight < other.weight {
+    if words::MAX_WEIGHT - h.weight < other.weight {
         return 7;
     }
     0
