@@ -45,7 +45,7 @@ and-end true = refl
 and-end false = refl
 
 -- a short counter and a weight that is not near the end of the range: only the norm is asked for
-pub small-ready : (x d : ℤ) (n cols : ℕ) → natAbs x ≤ shortTop → natAbs d ≤ 4503597479886848 → leb n (cols * squareCap) && leb (natAbs x * natAbs x) n ≡ rowRead x n cols && inRange (x +ℤ d)
+pub small-ready : (x d : ℤ) (n cols : ℕ) → natAbs x ≤ shortTop → natAbs d ≤ top - shortTop → leb n (cols * squareCap) && leb (natAbs x * natAbs x) n ≡ rowRead x n cols && inRange (x +ℤ d)
 small-ready x d n cols h k =
     rw (capped-small x (omega arith), range-of x (omega arith), range-of (x +ℤ d) (omega (arith, abs-add x d))) (and-end (leb n (cols * squareCap) && leb (capped x) n))
 

@@ -3,6 +3,7 @@ use Prim.Native.Nat.{ℕ, zero, suc, _+_, _-_, _*_, _/_, _%_, _^_}
 use mathlib.Core.Bool.{cond, _||_}
 use lib.Dec.{eqb, ltb}
 use Rattle.matrix_storage.specs.Bits.{maxRows, maxCols, hashBits, maskBits}
+use Rattle.heap_moves.specs.Cands.{mostCands}
 use Rattle.header.specs.declared.Shape.{Shape}
 use Rattle.header.specs.declared.CheckedShape.{CheckedShape}
 use Rattle.header.specs.declared.CheckedShape.the-variants as checked
@@ -14,7 +15,7 @@ abbrev pub maxLayers : ℕ
 maxLayers = 19
 
 abbrev pub maxHeap : ℕ
-maxHeap = 1024
+maxHeap = mostCands
 
 -- 1 "a dimension is 0", 2 "layers above 19", 3 "hash bits above 128", 4 "rows, cols or heap size above the domain"; 0 where nothing is refused
 unfoldable pub shapeRefusal : Shape → ℕ

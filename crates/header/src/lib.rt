@@ -11,13 +11,8 @@ ghost use Rattle.words.specs.Num.{top};
 ghost use Rattle.words.specs.Tests.{number};
 ghost use Rattle.header.specs.declared.Mode.{Mode};
 ghost use Rattle.header.specs.Totals.{noTotals, updateTotals, addTotals, setWeight, totalsOk, totalsTests};
-ghost use Rattle.header.specs.Shape.{shapeRefusal, checkedShape, bottomOf, bottomLayer};
+ghost use Rattle.header.specs.Shape.{maxLayers, shapeRefusal, checkedShape, bottomOf, bottomLayer};
 ghost use Rattle.header.specs.Header.{zeroHeader, freshHeader, withTotals, withMode, withFlags, withLens, withLayer, withLayers, headOf, scalarsOf, clash, joined, beginTests, beginOf, beginHeader, freshFlags, lensFrom, headerOk};
-
-// 2^52, the greatest weight.
-const TOP: u64 = 4503599627370496;
-
-const WORD_MAX: u64 = 18446744073709551615;
 
 // Heap size, rows, columns and layers.
 pub struct Shape {
@@ -55,8 +50,8 @@ pub struct Totals {
 pub struct Header {
     pub shape: Shape,
     pub totals: Totals,
-    pub lens: [usize; 19],
-    pub flags: [bool; 19],
+    pub lens: [usize; Shape::MAX_LAYERS],
+    pub flags: [bool; Shape::MAX_LAYERS],
     pub mode: Mode,
 }
 
@@ -87,7 +82,7 @@ impl Shape {
 
     pub const MAX_COLS: usize = matrix_storage::MAX_COLS;
 
-    pub const MAX_HEAP_SIZE: usize = 1024;
+    pub const MAX_HEAP_SIZE: usize = heap_moves::MAX_HEAP_SIZE;
 
     // 0, or the refusal of the dimensions: 1, 2, 3, 4 in this order.
     pub fn refusal(self) -> u64
@@ -155,10 +150,10 @@ pub fn check_shape(heap_size: usize, rows: usize, cols: usize, layers: usize) ->
 // The last layer that a key with this bottom hash reaches, of at least one layer: as many as there
 // are ones from bit 1 on, by the zeros of their opposites, so that no jump depends on the hash.
 pub fn bottom_of(hash: u64, layers: usize) -> usize
-    requires { ⌜ (1 ≤ layers) × (layers ≤ 19) ⌝ }
+    requires { ⌜ (1 ≤ layers) × (layers ≤ maxLayers) ⌝ }
     ensures { λ r. ⌜ (r ≡ bottomOf hash layers) × (r < layers) ⌝ }
 {
-    let ones = u64::trailing_zeros(WORD_MAX - (hash >> 1)) as usize;
+    let ones = u64::trailing_zeros(u64::MAX - (hash >> 1)) as usize;
     let last = layers - 1;
     if ones < last {
         return ones;
@@ -166,7 +161,7 @@ pub fn bottom_of(hash: u64, layers: usize) -> usize
     last
 }
 
-// The same for any number of layers: 1 for none, 2 above 19.
+// The same for any number of layers: 1 for none, 2 above the domain.
 pub fn bottom_layer_for_hash(hash: u64, layers: usize) -> BottomLayer
     ensures { λ r. ⌜ r ≡ bottomLayer hash layers ⌝ }
 {
@@ -226,14 +221,14 @@ impl Header {
             shape,
             totals: Totals::zero(),
             mode: Mode::Unset,
-            flags: [false; 19],
-            lens: [0usize; 19],
+            flags: [false; Shape::MAX_LAYERS],
+            lens: [0usize; Shape::MAX_LAYERS],
         }
     }
 
     // Nothing counted yet, every layer complete.
     pub fn fresh(shape: Shape) -> Self
-        requires { ⌜ shape .layers ≤ 19 ⌝ }
+        requires { ⌜ shape .layers ≤ maxLayers ⌝ }
         ensures { λ r. ⌜ r ≡ freshHeader shape ⌝ }
     {
         let layers = shape.layers;
@@ -243,7 +238,7 @@ impl Header {
             totals: Totals::zero(),
             mode: Mode::Unset,
             flags,
-            lens: [0usize; 19],
+            lens: [0usize; Shape::MAX_LAYERS],
         }
     }
 
@@ -294,7 +289,7 @@ impl Header {
     }
 
     pub fn clear_flag(mut self, layer: usize) -> Self
-        requires { ⌜ layer < 19 ⌝ }
+        requires { ⌜ layer < maxLayers ⌝ }
         ensures { λ r. ⌜ r ≡ withFlags self (set (self .flags) layer false) ⌝ }
     {
         self.flags[layer] = false;
@@ -303,14 +298,14 @@ impl Header {
 
     // No layer is complete any more.
     pub fn clear_flags(mut self) -> Self
-        ensures { λ r. ⌜ r ≡ withFlags self (replicate 19 false) ⌝ }
+        ensures { λ r. ⌜ r ≡ withFlags self (replicate maxLayers false) ⌝ }
     {
-        self.flags = [false; 19];
+        self.flags = [false; Shape::MAX_LAYERS];
         self
     }
 
     pub fn with_len(mut self, layer: usize, len: usize) -> Self
-        requires { ⌜ layer < 19 ⌝ }
+        requires { ⌜ layer < maxLayers ⌝ }
         ensures { λ r. ⌜ r ≡ withLens self (set (self .lens) layer len) ⌝ }
     {
         self.lens[layer] = len;
@@ -320,7 +315,7 @@ impl Header {
     // A layer's new length; its flag falls where a key was not kept. The test comes first: each way
     // then copies the header no more than storing in place would.
     pub fn touched(self, layer: usize, len: usize, kept: bool) -> Self
-        requires { ⌜ layer < 19 ⌝ }
+        requires { ⌜ layer < maxLayers ⌝ }
         ensures { λ r. ⌜ r ≡ withLayer self layer (getD (self .flags) layer false && kept) len ⌝ }
     {
         if kept {
@@ -330,7 +325,11 @@ impl Header {
     }
 
     // Every length and flag anew, after a call that was lent them.
-    pub fn with_layers(mut self, lens: [usize; 19], flags: [bool; 19]) -> Self
+    pub fn with_layers(
+        mut self,
+        lens: [usize; Shape::MAX_LAYERS],
+        flags: [bool; Shape::MAX_LAYERS],
+    ) -> Self
         ensures { λ r. ⌜ r ≡ withLayers self flags lens ⌝ }
     {
         self.lens = lens;
@@ -386,17 +385,17 @@ impl Totals {
     pub fn in_range(self) -> bool
         ensures { λ r. ⌜ r ≡ totalsOk self ⌝ }
     {
-        self.weight <= TOP
+        self.weight <= words::MAX_WEIGHT
     }
 
     // 7 where the sum would pass 2^52, 0 where not; of any two.
     pub fn sum_refusal(self, more: Totals) -> u64
         ensures { λ r. ⌜ r ≡ number (totalsTests self more) ⌝ }
     {
-        if TOP < more.weight {
+        if words::MAX_WEIGHT < more.weight {
             return 7;
         }
-        if TOP - more.weight < self.weight {
+        if words::MAX_WEIGHT - more.weight < self.weight {
             return 7;
         }
         0
@@ -456,11 +455,11 @@ impl Scalars {
 }
 
 // True for the layers, false past the last.
-fn fresh_flags(layers: usize) -> [bool; 19]
-    requires { ⌜ layers ≤ 19 ⌝ }
+fn fresh_flags(layers: usize) -> [bool; Shape::MAX_LAYERS]
+    requires { ⌜ layers ≤ maxLayers ⌝ }
     ensures { λ r. ⌜ r ≡ freshFlags layers ⌝ }
 {
-    let mut flags = [false; 19];
+    let mut flags = [false; Shape::MAX_LAYERS];
     let mut l = 0;
     while l < layers {
         flags[l] = true;
@@ -488,12 +487,12 @@ fn lens_few(lens: &[usize], layers: usize, heap_size: usize) -> bool
 
 // Whether past the last layer lengths are 0 and flags false.
 fn rest_clear(lens: &[usize], flags: &[bool], layers: usize) -> bool
-    requires { ⌜ (layers ≤ 19) × ((length (now lens) ≡ 19) × (length (now flags) ≡ 19)) ⌝ }
-    ensures { λ r. ⌜ ((size : ℕ) → r ≡ lensFrom layers size (now (lens .entry)) (now (flags .entry)) (19 - layers) layers) ⌝ }
+    requires { ⌜ (layers ≤ maxLayers) × ((length (now lens) ≡ maxLayers) × (length (now flags) ≡ maxLayers)) ⌝ }
+    ensures { λ r. ⌜ ((size : ℕ) → r ≡ lensFrom layers size (now (lens .entry)) (now (flags .entry)) (maxLayers - layers) layers) ⌝ }
 {
     let mut clear = true;
     let mut l = layers;
-    while l < 19 {
+    while l < Shape::MAX_LAYERS {
         clear = clear & (lens[l] == 0) & !flags[l];
         l += 1;
     }
@@ -502,7 +501,7 @@ fn rest_clear(lens: &[usize], flags: &[bool], layers: usize) -> bool
 
 // Whether dimensions, totals, lengths and flags are in range; of the mode nothing is asked.
 pub fn fields_in_range(shape: Shape, totals: Totals, lens: &[usize], flags: &[bool]) -> bool
-    requires { ⌜ (length (now lens) ≡ 19) × (length (now flags) ≡ 19) ⌝ }
+    requires { ⌜ (length (now lens) ≡ maxLayers) × (length (now flags) ≡ maxLayers) ⌝ }
     ensures { λ r. ⌜ ((m : Mode) → r ≡ headerOk (headOf (record { shape = shape; totals = totals; mode = m }) (now (flags .entry)) (now (lens .entry)))) ⌝ }
 {
     if shape.refusal() != 0 {

@@ -8,7 +8,7 @@ use lib.IntN.{ℤ, natAbs}
 use Rattle.words.specs.Num.{top}
 use Rattle.matrix_storage.specs.Bits.{Shaped}
 use Rattle.heap_moves.specs.declared.Who.{Who}
-use Rattle.heap.specs.Offer.{mostCands}
+use Rattle.heap_moves.specs.Cands.{mostCands}
 use Rattle.layer.specs.declared.Dims.{Dims}
 use Rattle.layer.specs.Layer.{Layer, layerOf, item, addReads, addFits}
 use Rattle.layer.specs.Delta.{delta, deltaReads, deltaFits}

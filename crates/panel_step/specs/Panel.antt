@@ -10,7 +10,7 @@ use lib.Dec.{eqb, ltb, leb}
 use lib.Ieee.{binary64, toBits}
 use Rattle.header.specs.declared.Shape.{Shape}
 use Rattle.header.specs.declared.Header.{Header}
-use Rattle.header.specs.Shape.{shapeRefusal}
+use Rattle.header.specs.Shape.{maxLayers, shapeRefusal}
 use Rattle.univmon.specs.declared.Kind.the-variants as kind
 use Rattle.layout.specs.Slices.{Lent, lent, cellsIn, normsIn, candsIn, freshLent}
 use Rattle.layout.specs.Outcomes.{Outcome, Left, left, leftBy}
@@ -21,7 +21,7 @@ use Rattle.panel_lines.specs.declared.line.Request.{Request}
 use Rattle.panel_lines.specs.declared.line.Request.the-variants as ask
 use Rattle.panel_lines.specs.Line.{readOf}
 use Rattle.panel_lines.specs.Split.{someLast, chunkLines, chunkHeld}
-use Rattle.panel_lines.specs.Answers.{okText, refusedText, showText}
+use Rattle.panel_lines.specs.Answers.{okText, refusedText, showBytes, showText}
 use Rattle.panel_step.specs.declared.extent.Extent.{Extent}
 
 -- ---- the state: a header, all zero before the first shape, and four slices, of which a shape uses the front
@@ -155,9 +155,9 @@ put a o = found (a .lends) (length (a .text)) (sets o 0 (a .text))
 abbrev pub behind : ℕ → Answer → List ℕ → Found
 behind at a o = found (a .lends) (at + length (a .text)) (sets o at (a .text))
 
--- `(show ..)` of 19 layers, and a newline
+-- `(show ..)` of the most layers, and a newline
 abbrev pub longest : ℕ
-longest = 121
+longest = showBytes maxLayers + 1
 
 -- nothing is done where the longest answer has no room
 unfoldable pub answerWithin : ℕ → Lent → List ℕ → Answer

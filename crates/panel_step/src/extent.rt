@@ -7,9 +7,9 @@ ghost use Rattle.header.specs.Accepted.{Accepted};
 ghost use Rattle.panel_step.specs.Panel.{extentOf, roomy, panelRefusal};
 
 // The greatest numbers of counters and of candidates, over all layers.
-const MAX_COUNTERS: usize = 4096;
+pub const MAX_COUNTERS: usize = 4096;
 
-const MAX_CANDIDATES: usize = 512;
+pub const MAX_CANDIDATES: usize = 512;
 
 // Counters, norm words, entry words and counts of a shape.
 pub struct Extent {

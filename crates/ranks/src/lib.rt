@@ -9,6 +9,7 @@ mod order;
 mod parts;
 mod step;
 
+pub use marks::SPOTS;
 pub use marks::mark_first;
 pub use order::absorb_one;
 pub use parts::rank;

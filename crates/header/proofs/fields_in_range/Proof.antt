@@ -9,6 +9,7 @@ use borrow.Author.Tests.{eq-eqb, ne-eqb, not-true, not-false}
 use denote.Ref.{now}
 use Rattle.header.proofs.Refusals.{accepted-of}
 use Rattle.header.proofs.Steps.{lens-split}
+use Rattle.header.specs.Shape.{maxLayers}
 use Rattle.header.specs.Header.{lensFrom, headerOk}
 use Rattle.header.specs.Accepted.{Accepted}
 use Rattle.header.proofs.fields_in_range.Statement.{statement}
@@ -40,16 +41,16 @@ rest-clear-requires c κs = (omega (arith, (shaped (c .before .before .before)) 
 
 -- both runs of places together
 all-places : (c : tie.After-rest-clear) → let a = c .before .before .before .before .before .before .before .before .args in
-    lensFrom (a .shape .layers) (a .shape .«heap_size») (now (a .lens)) (now (a .flags)) 19 0 ≡ c .before .lens-few .result && c .rest-clear .result
+    lensFrom (a .shape .layers) (a .shape .«heap_size») (now (a .lens)) (now (a .flags)) maxLayers 0 ≡ c .before .lens-few .result && c .rest-clear .result
 all-places c =
     let a = c .before .before .before .before .before .before .before .before .args in
     let n = a .shape .layers in
-    let p : 19 ≡ n + (19 - n) = omega (arith, (shaped (c .before .before .before .before)) .few) in
+    let p : maxLayers ≡ n + (maxLayers - n) = omega (arith, (shaped (c .before .before .before .before)) .few) in
     let q : n ≡ n + 0 = omega arith in
     rw (c .before .lens-few .ensures (now (a .flags)), c .rest-clear .ensures (a .shape .«heap_size»))
     (ap (λ (k : ℕ). lensFrom n (a .shape .«heap_size») (now (a .lens)) (now (a .flags)) k 0) p
-    ∙ lens-split n (a .shape .«heap_size») (now (a .lens)) (now (a .flags)) n (19 - n) 0
-    ∙ ap (λ (k : ℕ). lensFrom n (a .shape .«heap_size») (now (a .lens)) (now (a .flags)) n 0 && lensFrom n (a .shape .«heap_size») (now (a .lens)) (now (a .flags)) (19 - n) k) (sym q))
+    ∙ lens-split n (a .shape .«heap_size») (now (a .lens)) (now (a .flags)) n (maxLayers - n) 0
+    ∙ ap (λ (k : ℕ). lensFrom n (a .shape .«heap_size») (now (a .lens)) (now (a .flags)) n 0 && lensFrom n (a .shape .«heap_size») (now (a .lens)) (now (a .flags)) (maxLayers - n) k) (sym q))
 
 returns-3 : tie.Need-returns-3
 unfolding headerOk
