@@ -8,6 +8,7 @@ ghost use mathlib.Core.Path.{_≡_};
 ghost use Prim.Native.Nat.{ℕ, _+_, _*_, _≤_, _<_};
 ghost use lib.ListN.{length};
 ghost use Rattle.words.specs.Tests.{number};
+ghost use Rattle.header.specs.Shape.{maxLayers};
 ghost use Rattle.header.specs.Accepted.{Accepted};
 ghost use Rattle.layout.specs.State.{dimsAt};
 ghost use Rattle.layout.specs.Slices.{lengthsOk, lent};
@@ -118,7 +119,7 @@ pub fn dims(shape: Shape, l: usize) -> Dims
 
 // Who a record names, with the hash of a layer.
 pub fn who_in(words: &[u64], l: usize) -> Who
-    requires { ⌜ (l < 19) × (4 + 2 * l ≤ length (now words)) ⌝ }
+    requires { ⌜ (l < maxLayers) × (4 + 2 * l ≤ length (now words)) ⌝ }
     ensures { λ r. ⌜ r ≡ whoAt (now (words .entry)) l ⌝ }
 {
     let at = 2 + 2 * l;

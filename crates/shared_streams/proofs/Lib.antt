@@ -13,6 +13,7 @@ pub mod Values
 pub mod Same
 pub mod Calls
 pub mod Takes
+pub mod FeedRuns
 pub mod Runs
 pub mod Acceptance
 pub mod Ledgers

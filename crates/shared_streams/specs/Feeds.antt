@@ -47,10 +47,14 @@ retirements {E} rs = map (λ (r : Relay E). r .retired) rs
 abbrev pub live : List Bool → ℕ → Bool
 live gone i = ltb i (length gone) && not (getD gone i false)
 
+-- a merge that may be listed: of a second relay "into a different first"
+abbrev pub joinable : List Bool → ℕ → ℕ → Bool
+joinable gone i j = live gone i && live gone j && not (eqb i j)
+
 -- a call that may be listed: it names relays that are not retired, and not one relay twice
 abbrev pub names : {A : Type 0} → List Bool → Call A → Bool
 names gone (feed i a) = live gone i
-names gone (join i j) = live gone i && live gone j && not (eqb i j)
+names gone (join i j) = joinable gone i j
 
 -- ---- what a call leaves; "Accepted means that no refusal of these papers applies": the outcome is `yes`
 

@@ -18,7 +18,8 @@ use Rattle.layout.specs.Records.{recordLength}
 use Rattle.univmon.specs.Updates.{modeOf}
 use Rattle.layout.specs.Outcomes.{Outcome}
 use Rattle.shared_streams.specs.Books.{Update, Book, weightOf, bookMode}
-use Rattle.shared_streams.specs.Relays.{Relay, Call, feed, join, names, updateBy}
+use Rattle.shared_streams.specs.Feeds.{feed, join, names}
+use Rattle.shared_streams.specs.Relays.{Feed, updating, Relay, Call}
 
 -- ---- what a call is answered with, by books and arguments: the number of its refusal, 0 where "no refusal of these papers applies"
 
@@ -35,6 +36,9 @@ feedTests sh b k words w = (not (eqb (length words) (recordLength (sh .layers)))
 
 unfoldable pub feedNumber : Shape → Book → Kind → List ℕ → ℤ → ℕ
 feedNumber sh b k words w = number (feedTests sh b k words w)
+
+abbrev pub answeredWith : Shape → Book → Feed → ℕ
+answeredWith sh b f = feedNumber sh b (f .kind) (f .words) (f .weight)
 
 -- a merge of a second relay into a first, both of one shape: 6 "mode mixed in .. merge" and 7
 abbrev pub joinTests : Book → Book → List (Bool × ℕ)
@@ -76,7 +80,7 @@ united n xs i j a b =
     cond (eqb n 0) (set (set xs j (record { book = b .book; retired = true })) i (record { book = a .book ++ b .book; retired = a .retired })) xs
 
 unfoldable pub booked : Shape → List Account → Call → List Account
-booked sh xs (feed k i words w) = set xs i (entered (feedNumber sh (accountAt xs i .book) k words w) (accountAt xs i) (updateBy k words w))
+booked sh xs (feed i f) = set xs i (entered (answeredWith sh (accountAt xs i .book) f) (accountAt xs i) (updating .enter f))
 booked sh xs (join i j) = united (joinNumber (accountAt xs i .book) (accountAt xs j .book)) xs i j (accountAt xs i) (accountAt xs j)
 
 -- who is retired
@@ -98,7 +102,7 @@ books sh n calls = ledger sh (replicate n opened) calls
 -- ---- "all accepted updates of the list"
 
 abbrev pub acceptedOne : Shape → List Account → Call → Book
-acceptedOne sh xs (feed k i words w) = cond (eqb (feedNumber sh (accountAt xs i .book) k words w) 0) (updateBy k words w ∷ []) []
+acceptedOne sh xs (feed i f) = cond (eqb (answeredWith sh (accountAt xs i .book) f) 0) (updating .enter f ∷ []) []
 acceptedOne sh xs (join i j) = []
 
 unfoldable pub acceptedAll : Shape → List Account → List Call → Book
