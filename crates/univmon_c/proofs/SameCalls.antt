@@ -1,5 +1,5 @@
 -- Calls from C on what the library left are the library's own: the statements stand in specs/SameCalls.antt. Assumes nothing.
-use mathlib.Core.Path.{_≡_, refl, ap, ap₂, _∙_}
+use mathlib.Core.Path.{_≡_, refl, ap, ap₂}
 use mathlib.Core.Bool.{true}
 use Rattle.header.specs.declared.Mode.{Mode}
 use Rattle.header.specs.declared.Mode.the-variants as mode
@@ -37,9 +37,9 @@ merge-same f r t =
     (ap₂ (λ (y z : Lent). crossed (leftBy y (f y z))) (there-and-back r) (there-and-back t))
 
 pub from-c : FromC
-from-c sh r c =
+from-c r =
     record {
-      update = λ k words w. change-same (λ s. updateCall k s words w) (r .lends);
-      lent = λ k words w. change-same (λ s. lentUpdateCall k s words w) (r .lends) ∙ ap (λ (o : Outcome). crossed (leftBy (r .lends) o)) (c .lent k words w);
-      merge = merge-same mergeCall (r .lends);
+      update = λ k words w. change-same (λ s. updateCall k s words w) r;
+      lent = λ k words w. change-same (λ s. lentUpdateCall k s words w) r;
+      merge = merge-same mergeCall r;
     }
