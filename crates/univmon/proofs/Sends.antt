@@ -17,6 +17,7 @@ use Rattle.layout.specs.Slices.{Lent, view}
 use Rattle.layout.specs.Records.{whoAt}
 use Rattle.univmon.specs.Needs.{SendReady, JudgeReady, readsAt, readyAt}
 use Rattle.layout.proofs.Views.{shapeBy}
+use Rattle.layout.proofs.Handed.{Spanned, housed, words-long, handed-is}
 
 -- ---- an update of one layer
 

@@ -7,6 +7,7 @@ use layout::who_in;
 ghost use mathlib.Core.Path.{_≡_};
 ghost use mathlib.Core.Bool.{Bool, true};
 ghost use Prim.Native.Nat.{ℕ, _+_, _<_};
+ghost use Rattle.words.specs.Tests.{number};
 ghost use Rattle.header.specs.Header.{headOf};
 ghost use Rattle.layout.specs.State.{layerAt, allLayers};
 ghost use Rattle.layout.specs.Slices.{lent, view};
