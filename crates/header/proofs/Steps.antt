@@ -14,10 +14,10 @@ use lib.Dec.{eqb, leb}
 use Rattle.words.specs.Num.{top}
 use Rattle.words.specs.Tests.{number}
 use Rattle.words.proofs.Bools.{never}
-use Rattle.words.proofs.Tests.{off-number}
+use Rattle.words.proofs.Tests.{number-off, off-number}
 use Rattle.header.proofs.Sweeps.{and-assoc}
 use Rattle.header.specs.Header.{withTotals, withMode, withFlags, withLens, withLayer, headOf, scalarsOf, begun, begunScalars, beginTests, beginOf, beginHeader, layerOk, lensFrom}
-use Rattle.header.specs.Totals.{updateTotals}
+use Rattle.header.specs.Totals.{updateTotals, totalsTests}
 use Rattle.header.specs.declared.Shape.{Shape}
 use Rattle.header.specs.declared.Header.{Header}
 use Rattle.header.specs.declared.Scalars.{Scalars}
@@ -67,6 +67,19 @@ module _ (f : Scalars) (w : ℤ) (m : Mode) where
   pub begin-number : beginOf f w m .refusal ≡ number tests
   unfolding beginOf
   begin-number = refl
+
+  -- the totals may be added
+  pub begin-sum : number tests ≡ 0 → number (totalsTests (f .totals) (updateTotals (natAbs w))) ≡ 0
+  begin-sum z = number-off (totalsTests (f .totals) (updateTotals (natAbs w))) (off-number tests refl z .1 .1)
+
+  -- what the code answers
+  pub begin-refused : (n : ℕ) → n ≡ number tests → (n ≡ 0 → ⊥) → record { refusal = n; scalars = f } ≡ beginOf f w m
+  unfolding beginOf
+  begin-refused n e h = rw (ne-eqb (number tests) 0 (λ z. h (e ∙ z))) (ap (λ (k : ℕ). record { refusal = k; scalars = f }) e)
+
+  pub begin-done : number tests ≡ 0 → record { refusal = 0; scalars = begunScalars f (updateTotals (natAbs w)) m } ≡ beginOf f w m
+  unfolding beginOf
+  begin-done z = rw z
 
 module _ (h : Header) (w : ℤ) (m : Mode) where
   -- the same of a header

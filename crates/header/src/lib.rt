@@ -424,7 +424,8 @@ impl Scalars {
         if clashes(before, mode) {
             return 6;
         }
-        self.totals.sum_refusal(Totals::of_update(weight as u64))
+        self.totals
+            .sum_refusal(Totals::of_update(words::magnitude(weight)))
     }
 
     // An update's beginning without lengths and flags, which it does not change; for any totals that
@@ -443,10 +444,14 @@ impl Scalars {
         let before = self.mode;
         let scalars = Scalars {
             shape,
-            totals: self.totals.plus(Totals::of_update(weight as u64)),
+            totals: self.totals
+                .plus(Totals::of_update(words::magnitude(weight))),
             mode: join(before, mode),
         };
-        AnsweredLent { refusal: 0, scalars }
+        AnsweredLent {
+            refusal: 0,
+            scalars,
+        }
     }
 }
 

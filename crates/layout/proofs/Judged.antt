@@ -36,11 +36,11 @@ passed (x ∷ ts) r h = rw (h .0) (passed ts r (h .1))
 -- one that is not accepted is refused with the number of its tests
 pub refused : (ts : List (Bool × ℕ)) (r : Lent) → (number ts ≡ 0 → ⊥) → judge ts r ≡ Outcome.no (number ts)
 refused [] r h = absurd (h refl)
-refused (x ∷ ts) r h = go (x .0) h
+refused (x ∷ ts) r h = go (refused ts r) (x .0) h
   where
-    go : (b : Bool) → (cond b (x .1) (number ts) ≡ 0 → ⊥) → cond b (Outcome.no (x .1)) (judge ts r) ≡ Outcome.no (cond b (x .1) (number ts))
-    go true k = refl
-    go false k = refused ts r k
+    go : ((number ts ≡ 0 → ⊥) → judge ts r ≡ Outcome.no (number ts)) → (b : Bool) → (cond b (x .1) (number ts) ≡ 0 → ⊥) → cond b (Outcome.no (x .1)) (judge ts r) ≡ Outcome.no (cond b (x .1) (number ts))
+    go ih true k = refl
+    go ih false k = ih k
 
 -- so the number alone tells the answer, where no test has the number 0
 pub judge-number : (ts : List (Bool × ℕ)) (r : Lent) → numbered ts ≡ true → judge ts r ≡ cond (eqb (number ts) 0) (Outcome.yes r) (Outcome.no (number ts))

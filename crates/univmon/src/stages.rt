@@ -3,8 +3,8 @@
 use crate::Kind;
 use crate::judge::judge_layers;
 use crate::update::send;
-use header::Scalars;
 use header::Mode;
+use header::Scalars;
 use header::Shape;
 use layout::lengths_match;
 ghost use mathlib.Core.Path.{_≡_};

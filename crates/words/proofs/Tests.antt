@@ -27,21 +27,21 @@ not-zero n e z = go (eqb n 0) refl e
 -- where no test has the number 0, the number 0 says that none holds
 pub off-number : (ts : List (Bool × ℕ)) → numbered ts ≡ true → number ts ≡ 0 → Off ts
 off-number [] n e = tt
-off-number (t ∷ ts) n e = go (t .0) refl e
+off-number (t ∷ ts) n e = go (off-number ts (and-right (not (eqb (t .1) 0)) (numbered ts) n)) (t .0) refl e
   where
-    go : (b : Bool) → t .0 ≡ b → cond b (t .1) (number ts) ≡ 0 → (t .0 ≡ false) × Off ts
-    go true q e = absurd (not-zero (t .1) (and-left (not (eqb (t .1) 0)) (numbered ts) n) e)
-    go false q e = (q, off-number ts (and-right (not (eqb (t .1) 0)) (numbered ts) n) e)
+    go : (number ts ≡ 0 → Off ts) → (b : Bool) → t .0 ≡ b → cond b (t .1) (number ts) ≡ 0 → (t .0 ≡ false) × Off ts
+    go ih true q e = absurd (not-zero (t .1) (and-left (not (eqb (t .1) 0)) (numbered ts) n) e)
+    go ih false q e = (q, ih e)
 
 -- ---- tests and then others
 
 pub number-first : (ts us : List (Bool × ℕ)) → (number ts ≡ 0 → ⊥) → number (ts ++ us) ≡ number ts
 number-first [] us h = absurd (h refl)
-number-first (t ∷ ts) us h = go (t .0) h
+number-first (t ∷ ts) us h = go (number-first ts us) (t .0) h
   where
-    go : (b : Bool) → (cond b (t .1) (number ts) ≡ 0 → ⊥) → cond b (t .1) (number (ts ++ us)) ≡ cond b (t .1) (number ts)
-    go true k = refl
-    go false k = number-first ts us k
+    go : ((number ts ≡ 0 → ⊥) → number (ts ++ us) ≡ number ts) → (b : Bool) → (cond b (t .1) (number ts) ≡ 0 → ⊥) → cond b (t .1) (number (ts ++ us)) ≡ cond b (t .1) (number ts)
+    go ih true k = refl
+    go ih false k = ih k
 
 pub number-rest : (ts us : List (Bool × ℕ)) → Off ts → number (ts ++ us) ≡ number us
 number-rest [] us h = refl
