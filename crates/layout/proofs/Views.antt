@@ -88,12 +88,15 @@ norms-put a n m ws vs lw h lv =
 abbrev pub shapeBy : Lent → Shape
 shapeBy r = r .head .shape
 
--- the layer in the parts of the slices
+-- the layer in the parts of the slices, where a shape says that they stand
+abbrev pub layerBy : Shape → Lent → ℕ → Layer
+layerBy sh r l =
+    let d : Dims = dimsAt sh l in
+    layerOf d (part (cellOff sh l) (d .rows * d .cols) (r .counters)) (part (2 * normOff sh l) (2 * d .rows) (r .norms))
+    (part (4 * candOff sh l) (4 * d .size) (r .entries)) (part (candOff sh l) (d .size) (r .counts)) (getD (r .head .lens) l 0) (getD (r .head .flags) l false)
+
 abbrev pub layerHere : Lent → ℕ → Layer
-layerHere r l =
-    let d : Dims = dimsAt (shapeBy r) l in
-    layerOf d (part (cellOff (shapeBy r) l) (d .rows * d .cols) (r .counters)) (part (2 * normOff (shapeBy r) l) (2 * d .rows) (r .norms))
-    (part (4 * candOff (shapeBy r) l) (4 * d .size) (r .entries)) (part (candOff (shapeBy r) l) (d .size) (r .counts)) (getD (r .head .lens) l 0) (getD (r .head .flags) l false)
+layerHere r l = layerBy (shapeBy r) r l
 
 module _ (r : Lent) (z : Sizes (shapeBy r) (length (r .counters)) (length (r .norms)) (length (r .entries)) (length (r .counts))) (l : ℕ) (h : l < shapeBy r .layers) where
   four : length (r .entries) ≡ 4 * length (r .counts)

@@ -2,15 +2,14 @@
 // this repository, which show first that the shape is accepted.
 mod parts;
 
-pub use parts::cells_at;
-pub use parts::norms_at;
-pub use parts::seats_at;
-pub use parts::words_at;
-
 use header::Header;
 use header::Shape;
 use heap_moves::Who;
 use layer::Dims;
+pub use parts::cells_at;
+pub use parts::norms_at;
+pub use parts::seats_at;
+pub use parts::words_at;
 ghost use mathlib.Core.Path.{_≡_};
 ghost use Prim.Native.Nat.{ℕ, _+_, _*_, _≤_, _<_};
 ghost use lib.ListN.{length};
