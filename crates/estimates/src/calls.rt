@@ -4,7 +4,6 @@ ghost use mathlib.Core.Bool.{Bool, true, not, _&&_};
 ghost use Prim.Native.Nat.{ℕ, _*_};
 ghost use lib.Dec.{eqb};
 ghost use Rattle.header.specs.Accepted.{Accepted};
-ghost use Rattle.header.specs.Header.{headerOk};
 ghost use Rattle.layout.specs.Slices.{normsIn, lent, view};
 ghost use Rattle.layout.specs.Needs.{Standing};
 ghost use Rattle.estimates.specs.Norms.{isTerminal};

@@ -4,5 +4,7 @@ pub mod Lengths
 pub mod Pieces
 pub mod Views
 pub mod Handed
+pub mod Replaced
 pub mod Flatten
 pub mod Judged
+pub mod Fresh

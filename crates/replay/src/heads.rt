@@ -3,6 +3,7 @@ use crate::shelf::get;
 use header::Header;
 use header::Mode;
 use header::Shape;
+use header::Totals;
 ghost use Prim.Native.Nat.{_<_};
 
 fn mode_of(n: u64) -> Mode {
@@ -42,7 +43,7 @@ pub fn words_of(h: Header) -> [u64; 44] {
     words[1] = h.shape.rows as u64;
     words[2] = h.shape.cols as u64;
     words[3] = h.shape.layers as u64;
-    words[4] = h.weight;
+    words[4] = h.totals.weight;
     words[5] = number_of(mode);
     let mut l = 0;
     while l < 19 {
@@ -71,7 +72,9 @@ pub fn header_of(xs: &[u64], at: usize) -> Header {
     };
     Header {
         shape,
-        weight: get(xs, at, 4),
+        totals: Totals {
+            weight: get(xs, at, 4),
+        },
         lens,
         flags,
         mode: mode_of(get(xs, at, 5)),

@@ -28,15 +28,14 @@ use Rattle.layer.specs.Merge.{hasKey, firsts, whos, offerAll, mergeLayer, merge
 use Rattle.univmon.specs.declared.Kind.the-variants as kind
 use Rattle.univmon.specs.Calls.{updateCall}
 use Rattle.layout.specs.Slices.{lengthsOk, view, flat, freshLent}
-use Rattle.layout.specs.State.{rowsAt, colsAt, cellOff, normOff, candOff, layerAt, putLayer, overLayers, allLayers, sizesOk}
-use Rattle.univmon.specs.Updates.{updateTests, updated, update}
-use Rattle.univmon_merge.specs.Merges.{mergeTests, merged, merge}
-use Rattle.univmon_merge.specs.Merges.{mergeCall}
+use Rattle.layout.specs.State.{rowsAt, colsAt, cellOff, normOff, candOff, layerAt, putLayer, overLayers, allLayers}
+use Rattle.univmon.specs.Updates.{updateTests, updated}
+use Rattle.univmon_merge.specs.Merges.{mergeTests, merged, mergeCall}
 use Rattle.sums.specs.Layers.{gSum, standardSum}
 use Rattle.sums.specs.Terminal.{gatherOne, gather, ahead, rankIn, ranked, gathered, terminalSum, flagged, complete, squares}
 use Rattle.sums.specs.Terms.{gOf, factor, counted, addTerm, sumOver}
 use Rattle.estimates.specs.Calls.{sumCall, cardinalityCall}
-use Rattle.estimates.specs.Sums.{ownAt, gSumOf, whosRead, layerReads, sumRefusal}
+use Rattle.estimates.specs.Sums.{ownAt, gSumOf, whosRead, layerReads}
 use Rattle.shared_streams.specs.Books.{weightOf, bookMode, distinct, bookKeys}
 use Rattle.shared_streams.specs.Relays.{Relay, Call, feed, join, start, relayAt, called, run, accepted}
 use Rattle.shared_streams.specs.Ledger.{Account, feedNumber, joinNumber, booked, ledger, books}
@@ -80,7 +79,7 @@ said cs =
 pub examples : map said (standards ∷ terminals ∷ twoRecords ∷ twoHashes ∷ [])
     ≡ (3 ∷ 8 ∷ 2 ∷ 3 ∷ 0 ∷ 0x4000000000000000 ∷ []) ∷ (3 ∷ 0 ∷ 2 ∷ 3 ∷ 0 ∷ 0x4000000000000000 ∷ []) ∷ (2 ∷ 2 ∷ 1 ∷ 2 ∷ 0 ∷ 0x4008000000000000 ∷ [])
     ∷ (2 ∷ 2 ∷ 1 ∷ 2 ∷ 0 ∷ 0x3FF0000000000000 ∷ []) ∷ []
-unfolding ofInt ofBits toBits add sub mul div le inRange capped allIn log2In log2 maskBits hashOf column signed insertBy sortBy middleF median middle estimates estimateF estimateOf cellsIn sums sumBelow squaresFrom rowNorms normsOf wordsOf addCell addRows rowsRead rowsFit up down updateAt leftOr lower candsOf entriesOf find rescore replaceRoot displace seat offer freshHeader lensFrom headerOk shapeRefusal bottomFrom bottomOf addSketch addLayer addReads addFits hasKey firsts whos offerAll mergeLayer mergeReads mergeFits updateCall lengthsOk view flat freshLent rowsAt colsAt cellOff normOff candOff layerAt putLayer overLayers allLayers sizesOk updateTests updated update mergeTests merged merge mergeCall called run gSum standardSum gOf factor counted addTerm sumOver sumCall ownAt gSumOf whosRead layerReads sumRefusal weightOf distinct accepted normRead root l2Squared l2Of normsIn heavyThreshold gatherOne gather ahead rankIn ranked gathered flagged complete squares terminalSum
+unfolding ofInt ofBits toBits add sub mul div le inRange capped allIn log2In log2 maskBits hashOf column signed insertBy sortBy middleF median middle estimates estimateF estimateOf cellsIn sums sumBelow squaresFrom rowNorms normsOf wordsOf addCell addRows rowsRead rowsFit up down updateAt leftOr lower candsOf entriesOf find rescore replaceRoot displace seat offer freshHeader lensFrom headerOk shapeRefusal bottomFrom bottomOf addSketch addLayer addReads addFits hasKey firsts whos offerAll mergeLayer mergeReads mergeFits updateCall lengthsOk view flat freshLent rowsAt colsAt cellOff normOff candOff layerAt putLayer overLayers allLayers updateTests updated mergeTests merged mergeCall called run gSum standardSum gOf factor counted addTerm sumOver sumCall ownAt gSumOf whosRead layerReads weightOf distinct accepted normRead root l2Squared l2Of normsIn heavyThreshold gatherOne gather ahead rankIn ranked gathered flagged complete squares terminalSum
 examples = refl
 
 -- from the list alone: who is retired, and how many updates each book has

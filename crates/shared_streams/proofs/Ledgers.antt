@@ -16,7 +16,7 @@ use Rattle.univmon.specs.Calls.{updateCall}
 use Rattle.univmon_merge.specs.Merges.{mergeCall}
 use Rattle.shared_streams.specs.Books.{Update, Book}
 use Rattle.shared_streams.specs.Relays.{Relay, freshRelay, start, relayAt, Call, feed, join, retirements, names, updateBy, fed, joinedTo, called, step, run, ifAccepted, updateOf, accepted}
-use Rattle.shared_streams.specs.Ledger.{feedNumber, joinNumber, Answers, Account, opened, accountOf, accountAt, entered, united, booked, gone, bookStep, ledger, books, entryOf, entries}
+use Rattle.shared_streams.specs.Ledger.{feedNumber, joinNumber, Answers, Account, opened, accountOf, accountAt, entered, united, booked, gone, bookStep, ledger, books, acceptedOne, acceptedAll}
 use Rattle.shared_streams.proofs.Runs.{Every, live-lt, pair, step-good, start-good}
 use Rattle.shared_streams.proofs.Acceptance.{feed-answers, join-answers}
 
@@ -89,10 +89,10 @@ module _ (sh : Shape) (v : shapeRefusal sh ≡ 0) where
       joined-accounts rs i j (relayAt sh rs i) (relayAt sh rs j) (mergeCall (relayAt sh rs i .lends) (relayAt sh rs j .lends)) n (joins rs h i j q)
       ∙ ap₂ (united n (map accountOf rs) i j) (sym (account-at rs i)) (sym (account-at rs j))
 
-  called-entry : (rs : List Relay) → Every Any sh rs → (c : Call) → names (retirements rs) c ≡ true → updateOf sh rs c ≡ entryOf sh (map accountOf rs) c
-  called-entry rs h (feed k i words w) q =
+  called-accepted : (rs : List Relay) → Every Any sh rs → (c : Call) → names (retirements rs) c ≡ true → updateOf sh rs c ≡ acceptedOne sh (map accountOf rs) c
+  called-accepted rs h (feed k i words w) q =
       entry-of (updateBy k words w) (updateCall k (relayAt sh rs i .lends) words w) (feedNumber sh (accountAt (map accountOf rs) i .book) k words w) (feeds rs h k i words w q)
-  called-entry rs h (join i j) q = refl
+  called-accepted rs h (join i j) q = refl
 
   -- whether the call may be listed or not
   listed-alike : {A : Type 0} (rs : List Relay) (c : Call) (x y d e : A) → (names (retirements rs) c ≡ true → x ≡ y) → d ≡ e
@@ -119,18 +119,18 @@ module _ (sh : Shape) (v : shapeRefusal sh ≡ 0) where
       run-accounts cs (step sh rs c) (step-good Any sh v rs c (any (cond (names (retirements rs) c) (updateOf sh rs c) [])) h)
       ∙ ap (λ (xs : List Account). ledger sh xs cs) (step-accounts rs h c)
 
-  pub run-entries : (cs : List Call) (rs : List Relay) → Every Any sh rs → accepted sh rs cs ≡ entries sh (map accountOf rs) cs
-  unfolding accepted entries
-  run-entries [] rs h = refl
-  run-entries (c ∷ cs) rs h =
-      ap₂ (λ (a b : Book). a ++ b) (listed-alike rs c (updateOf sh rs c) (entryOf sh (map accountOf rs) c) [] [] (called-entry rs h c) refl)
-      (run-entries cs (step sh rs c) (step-good Any sh v rs c (any (cond (names (retirements rs) c) (updateOf sh rs c) [])) h)
-      ∙ ap (λ (xs : List Account). entries sh xs cs) (step-accounts rs h c))
+  pub run-accepted : (cs : List Call) (rs : List Relay) → Every Any sh rs → accepted sh rs cs ≡ acceptedAll sh (map accountOf rs) cs
+  unfolding accepted acceptedAll
+  run-accepted [] rs h = refl
+  run-accepted (c ∷ cs) rs h =
+      ap₂ (λ (a b : Book). a ++ b) (listed-alike rs c (updateOf sh rs c) (acceptedOne sh (map accountOf rs) c) [] [] (called-accepted rs h c) refl)
+      (run-accepted cs (step sh rs c) (step-good Any sh v rs c (any (cond (names (retirements rs) c) (updateOf sh rs c) [])) h)
+      ∙ ap (λ (xs : List Account). acceptedAll sh xs cs) (step-accounts rs h c))
 
   -- ---- from the start
 
   pub start-accounts : (n : ℕ) (cs : List Call) → map accountOf (run sh (start sh n) cs) ≡ books sh n cs
   start-accounts n cs = run-accounts cs (start sh n) (start-good Any sh v n) ∙ ap (λ (xs : List Account). ledger sh xs cs) (map-replicate accountOf n (freshRelay sh))
 
-  pub start-entries : (n : ℕ) (cs : List Call) → accepted sh (start sh n) cs ≡ entries sh (replicate n opened) cs
-  start-entries n cs = run-entries cs (start sh n) (start-good Any sh v n) ∙ ap (λ (xs : List Account). entries sh xs cs) (map-replicate accountOf n (freshRelay sh))
+  pub start-accepted : (n : ℕ) (cs : List Call) → accepted sh (start sh n) cs ≡ acceptedAll sh (replicate n opened) cs
+  start-accepted n cs = run-accepted cs (start sh n) (start-good Any sh v n) ∙ ap (λ (xs : List Account). acceptedAll sh xs cs) (map-replicate accountOf n (freshRelay sh))

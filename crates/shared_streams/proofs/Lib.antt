@@ -4,7 +4,6 @@ pub mod MergedTables
 pub mod Counters
 pub mod Ranges
 pub mod Layers
-pub mod States
 pub mod BookLaws
 pub mod Relays
 pub mod Fresh

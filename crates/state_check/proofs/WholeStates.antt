@@ -6,7 +6,7 @@ use native.Mathlib.Omega.{arith}
 use native.Mathlib.Decide.{decLt}
 use mathlib.Core.List.{List}
 use lib.ListN.{length, getD}
-use lib.Dec.{eqb, leb}
+use lib.Dec.{eqb}
 use borrow.Author.Tests.{eq-eqb, eqb-true, lt-ltb, le-ltb, le-leb, not-true}
 use Rattle.words.specs.Num.{top}
 use Rattle.words.proofs.Bools.{and-left, and-right, both}
@@ -16,8 +16,10 @@ use Rattle.header.specs.declared.Shape.{Shape}
 use Rattle.header.specs.declared.Header.{Header}
 use Rattle.header.specs.declared.Mode.{Mode}
 use Rattle.header.specs.Shape.{maxLayers, shapeRefusal}
+use Rattle.header.specs.declared.Totals.{Totals}
+use Rattle.header.specs.Totals.{totalsOk}
 use Rattle.header.specs.Header as head
-use Rattle.header.specs.Header.{headerOk, lensFrom, withMode, withWeight, withFlags}
+use Rattle.header.specs.Header.{headerOk, lensFrom, withMode, withTotals, withFlags}
 use Rattle.header.specs.Accepted.{Accepted}
 use Rattle.header.proofs.Ranges.{ranged-of}
 use Rattle.header.proofs.Refusals.{accepted-of}
@@ -29,8 +31,8 @@ use Rattle.layout.specs.Needs.{Standing}
 use Rattle.layout.proofs.States as univmon
 use Rattle.layout.proofs.Lengths.{standing-of, long-view}
 use Rattle.layout.proofs.States.{layers-step, layers-none}
-use Rattle.shared_streams.proofs.States.{Sized, Over, over}
-use Rattle.shared_streams.proofs.Values.{view-flat, flat-lengths}
+use Rattle.layout.proofs.Replaced.{Sized, Over, over}
+use Rattle.layout.proofs.Flatten.{view-flat, flat-lengths}
 use Rattle.shared_streams.proofs.Relays.{wide}
 use Rattle.state_check.specs.Check.{layerOk, layersOk, stateOk}
 use Rattle.state_check.specs.Reached.{Arrays}
@@ -101,8 +103,8 @@ module _ (h : Header) (a : Arrays h) (e : headerOk h ≡ true) where
   unfolding headerOk
   shape-good =
       eqb-true (shapeRefusal (h .shape)) 0
-      (and-left (eqb (shapeRefusal (h .shape)) 0) (leb (h .weight) top)
-      (and-left (eqb (shapeRefusal (h .shape)) 0 && leb (h .weight) top) (lensFrom (h .shape .layers) (h .shape .«heap_size») (h .lens) (h .flags) maxLayers 0) e))
+      (and-left (eqb (shapeRefusal (h .shape)) 0) (totalsOk (h .totals))
+      (and-left (eqb (shapeRefusal (h .shape)) 0 && totalsOk (h .totals)) (lensFrom (h .shape .layers) (h .shape .«heap_size») (h .lens) (h .flags) maxLayers 0) e))
 
 pub state-whole : (r : Lent) → Arrays (r .head) → stateOk r ≡ true → WholeState (view r)
 unfolding view
@@ -159,7 +161,7 @@ over-whole f k l s w room g =
     record {
       sized = o .sized;
       shape = ap shapeRefusal (o .shape) ∙ w .shape;
-      light = omega (arith, o .weight, w .light);
+      light = subst (λ (z : Totals). z .weight ≤ top) (sym (o .totals)) (w .light);
       pastLens = λ m h. o .pastLens m (here m h) ∙ w .pastLens m (here m h);
       pastFlags = λ m h. o .pastFlags m (here m h) ∙ w .pastFlags m (here m h);
       layers = subst (λ (sh : Shape). (m : ℕ) → m < sh .layers → Whole (dimsAt sh m) (layerAt t m)) (sym (o .shape)) (λ m h. at m h (decLt m l) (decLt m (l + k)));
@@ -189,11 +191,11 @@ put-whole s l y w h n =
     (λ m p q x. let e : l ≡ m = omega arith in
     subst (λ (i : ℕ). Whole (dimsAt (s .head .shape) i) y) e n)
 
--- ---- another weight and mode, other flags
+-- ---- other totals and another mode, other flags
 
-pub head-whole : (s : State) (n : ℕ) (m : Mode) → WholeState s → n ≤ top → WholeState (withHead s (withMode (withWeight (s .head) n) m))
+pub head-whole : (s : State) (t : Totals) (m : Mode) → WholeState s → t .weight ≤ top → WholeState (withHead s (withMode (withTotals (s .head) t) m))
 unfolding layerAt
-head-whole s n m w h =
+head-whole s t m w h =
     record {
       sized = record { counters = w .sized .counters; norms = w .sized .norms; cands = w .sized .cands; flags = w .sized .flags; lens = w .sized .lens; few = w .sized .few };
       shape = w .shape;

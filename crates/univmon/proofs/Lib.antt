@@ -2,3 +2,4 @@ pub mod Judging
 pub mod Sending
 pub mod Sends
 pub mod Updating
+pub mod Touched

@@ -24,7 +24,7 @@ is-mode mode.Terminal = refl
 
 pub there-and-back : ThereAndBack
 there-and-back r =
-    λ i. lent (record { shape = r .head .shape; weight = r .head .totals .weight; mode = mode-back (r .head .mode) i; flags = r .head .flags; lens = r .head .lens }) (r .counters) (r .norms) (r .entries) (r .counts)
+    λ i. lent (record { shape = r .head .shape; totals = r .head .totals; mode = mode-back (r .head .mode) i; flags = r .head .flags; lens = r .head .lens }) (r .counters) (r .norms) (r .entries) (r .counts)
 
 change-same : (f : Lent → Outcome) (r : Lent) → changeBy true f (ofLent r) ≡ crossed (leftBy r (f r))
 unfolding changeBy

@@ -58,7 +58,7 @@ abbrev pub headerOf : CHeader → Header
 headerOf h =
     record {
       shape = record { «heap_size» = h .«heap_size»; rows = h .rows; cols = h .cols; layers = h .layers };
-      weight = h .weight;
+      totals = record { weight = h .weight };
       mode = modeOf (h .mode);
       flags = h .flags;
       lens = h .lens;
@@ -71,7 +71,7 @@ cHeader h =
       rows = h .shape .rows;
       cols = h .shape .cols;
       layers = h .shape .layers;
-      weight = h .weight;
+      weight = h .totals .weight;
       mode = modeNumber (h .mode);
       lens = h .lens;
       flags = h .flags;
@@ -82,12 +82,12 @@ abbrev pub cHead : CShape → ℕ → ℕ → List ℕ → List Bool → CHeader
 cHead s w m ns fs = record { «heap_size» = s .«heap_size»; rows = s .rows; cols = s .cols; layers = s .layers; weight = w; mode = m; lens = ns; flags = fs }
 
 abbrev pub cScalars : CShape → ℕ → ℕ → Scalars
-cScalars s w m = record { shape = record { «heap_size» = s .«heap_size»; rows = s .rows; cols = s .cols; layers = s .layers }; weight = w; mode = modeOf m }
+cScalars s w m = record { shape = record { «heap_size» = s .«heap_size»; rows = s .rows; cols = s .cols; layers = s .layers }; totals = record { weight = w }; mode = modeOf m }
 
 -- ---- answers
 
 abbrev pub cStep : AnsweredLent → CStep
-cStep b = record { refusal = b .refusal; weight = b .scalars .weight; mode = modeNumber (b .scalars .mode) }
+cStep b = record { refusal = b .refusal; weight = b .scalars .totals .weight; mode = modeNumber (b .scalars .mode) }
 
 abbrev pub cAnswered : Answered → CAnswered
 cAnswered a = record { refusal = a .refusal; header = cHeader (a .header) }

@@ -15,6 +15,7 @@ use header::Header;
 use header::Mode;
 use header::Scalars;
 use header::Shape;
+use header::Totals;
 use sums::G;
 use univmon_delta::Fidelity;
 ghost use mathlib.Core.Path.{_≡_};
@@ -100,7 +101,7 @@ pub fn header_of(h: CHeader) -> Header
     let lens = h.lens;
     Header {
         shape,
-        weight: h.weight,
+        totals: Totals { weight: h.weight },
         mode,
         flags,
         lens,
@@ -119,7 +120,7 @@ fn c_header(h: Header) -> CHeader
         rows: h.shape.rows,
         cols: h.shape.cols,
         layers: h.shape.layers,
-        weight: h.weight,
+        weight: h.totals.weight,
         mode,
         lens,
         flags,
@@ -139,7 +140,7 @@ pub fn scalars_of(s: CShape, weight: u64, mode: u64) -> Scalars
     let had = mode_of(mode);
     Scalars {
         shape,
-        weight,
+        totals: Totals { weight },
         mode: had,
     }
 }
@@ -154,7 +155,7 @@ pub fn c_step(b: AnsweredLent) -> CStep
     let mode = mode_number(now);
     CStep {
         refusal: b.refusal,
-        weight: scalars.weight,
+        weight: scalars.totals.weight,
         mode,
     }
 }

@@ -3,7 +3,7 @@ use mathlib.Core.Path.{_≡_, refl, sym, _∙_}
 use mathlib.Core.Bool.{Bool, true, false, cond, not, _&&_}
 use mathlib.Core.List.{List, [], _∷_, _++_}
 use Prim.Native.Nat.{ℕ}
-use borrow.Author.Tests.{eqb-false, not-false}
+use borrow.Author.Tests.{eqb-true, eqb-false}
 use lib.Dec.{eqb}
 use Rattle.words.specs.Tests.{number, numbered}
 use Rattle.words.proofs.Bools.{never, and-left, and-right}
@@ -46,3 +46,23 @@ number-first (t ∷ ts) us h = go (number-first ts us) (t .0) h
 pub number-rest : (ts us : List (Bool × ℕ)) → Off ts → number (ts ++ us) ≡ number us
 number-rest [] us h = refl
 number-rest (t ∷ ts) us h = rw (h .0) (number-rest ts us (h .1))
+
+-- none holds of all of them
+pub off-first : (ts us : List (Bool × ℕ)) → Off (ts ++ us) → Off ts
+off-first [] us h = tt
+off-first (t ∷ ts) us h = (h .0, off-first ts us (h .1))
+
+pub off-rest : (ts us : List (Bool × ℕ)) → Off (ts ++ us) → Off us
+off-rest [] us h = h
+off-rest (t ∷ ts) us h = off-rest ts us (h .1)
+
+-- others that do not hold where the first do not
+pub number-alone : (ts us : List (Bool × ℕ)) → numbered ts ≡ true → (Off ts → Off us) → number (ts ++ us) ≡ number ts
+number-alone ts us n f = go (eqb (number ts) 0) refl
+  where
+    go : (b : Bool) → eqb (number ts) 0 ≡ b → number (ts ++ us) ≡ number ts
+    go true q =
+        let z = eqb-true (number ts) 0 q in
+        let o = off-number ts n z in
+        number-rest ts us o ∙ number-off us (f o) ∙ sym z
+    go false q = number-first ts us (eqb-false (number ts) 0 q)

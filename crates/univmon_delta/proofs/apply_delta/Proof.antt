@@ -13,8 +13,9 @@ use Rattle.words.specs.Num.{top}
 use Rattle.header.specs.Header.{withMode, settled}
 use Rattle.layout.specs.Slices.{lent, view, Lent}
 use Rattle.layout.specs.Outcomes.{left}
-use Rattle.univmon_delta.specs.Deltas.{Arrival, arrived}
-use Rattle.univmon_delta.specs.Arriving.{arrival, deltaNumber}
+use Rattle.words.specs.Tests.{number}
+use Rattle.univmon_delta.specs.Deltas.{Arrival, arrived, deltaTests}
+use Rattle.univmon_delta.specs.Arriving.{arrival}
 use Rattle.layout.proofs.Flatten.{lent-is}
 use Rattle.univmon_delta.proofs.Refusing.{call-refused, call-done, arrives-of, arrived-is}
 use Rattle.univmon_delta.proofs.apply_delta.Statement.{statement}
@@ -53,11 +54,11 @@ same-length-4 : tie.Need-same-length-4
 same-length-4 c = search needs
 
 -- the number that was found
-number : (c : tie.After-delta-refusal) → c .delta-refusal .result ≡ deltaNumber (lent-of (c .before .before .before .before .before .before .before .before)) (now (c .before .before .before .before .before .before .before .before .args .words)) (delta-of (c .before .before .before .before .before .before .before .before))
-number c = rw (count-is (c .before .before .before .before .before .before .before .before)) at (c .delta-refusal .ensures (c .before .before .before .before .before .before .before .before .args .fidelity))
+number-is : (c : tie.After-delta-refusal) → c .delta-refusal .result ≡ number (deltaTests (lent-of (c .before .before .before .before .before .before .before .before)) (now (c .before .before .before .before .before .before .before .before .args .words)) (delta-of (c .before .before .before .before .before .before .before .before)))
+number-is c = rw (count-is (c .before .before .before .before .before .before .before .before)) at (c .delta-refusal .ensures (c .before .before .before .before .before .before .before .before .args .fidelity))
 
 returns : tie.Need-returns
-returns c = call-refused (lent-of (c .before .before .before .before .before .before .before .before .before)) (now (c .before .before .before .before .before .before .before .before .before .args .words)) (delta-of (c .before .before .before .before .before .before .before .before .before)) (c .before .delta-refusal .result) (number (c .before)) (c .if1 .taken)
+returns c = call-refused (lent-of (c .before .before .before .before .before .before .before .before .before)) (now (c .before .before .before .before .before .before .before .before .before .args .words)) (delta-of (c .before .before .before .before .before .before .before .before .before)) (c .before .delta-refusal .result) (number-is (c .before)) (c .if1 .taken)
 
 join-requires : tie.Need-join-requires
 join-requires c κs = search needs
@@ -69,8 +70,8 @@ every-insert-requires : tie.Need-every-insert-requires
 every-insert-requires c κs = search needs
 
 -- nothing is refused
-none : (c : tie.Else1) → deltaNumber (lent-of (c .before .before .before .before .before .before .before .before .before)) (now (c .before .before .before .before .before .before .before .before .before .args .words)) (delta-of (c .before .before .before .before .before .before .before .before .before)) ≡ 0
-none c = sym (number (c .before)) ∙ c .if1 .left
+none : (c : tie.Else1) → number (deltaTests (lent-of (c .before .before .before .before .before .before .before .before .before)) (now (c .before .before .before .before .before .before .before .before .before .args .words)) (delta-of (c .before .before .before .before .before .before .before .before .before))) ≡ 0
+none c = sym (number-is (c .before)) ∙ c .if1 .left
 
 -- the header with its mode settled
 header-set : (c : tie.After-with-mode) → c .with-mode .result ≡ withMode (c .before .before .before .before .before .before .before .before .before .before .before .args .header) (settled (c .before .before .before .before .before .before .before .before .before .before .before .args .header .mode))
