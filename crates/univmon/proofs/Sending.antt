@@ -16,6 +16,7 @@ use Rattle.layout.specs.Slices.{Lent, view}
 use Rattle.layout.specs.Records.{recordLength, whoAt}
 use Rattle.layout.specs.Needs.{Standing, Headed}
 use Rattle.univmon.specs.Needs.{SendReady, SendsReady, readsAt, fitsAt, addsAt}
+use Rattle.layout.proofs.Lengths.{long-view}
 use Rattle.layout.proofs.States.{at-fits, all-later}
 
 pub record Sending (r₀ : Lent) (words : List ℕ) (w many first : ℕ) (r : Lent) (l : ℕ) : Type 0 where

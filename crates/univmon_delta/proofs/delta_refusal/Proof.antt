@@ -1,7 +1,6 @@
 -- `univmon_delta::delta_refusal` meets its contract.
 -- Written by tools/places.py from answers.txt; assumes nothing.
-use mathlib.Core.Path.{_≡_, refl, sym, _∙_}
-use mathlib.Core.Bool.{not}
+use mathlib.Core.Path.{refl, sym, _∙_}
 use native.Mathlib.Omega.{arith}
 use borrow.Author.Needs.{needs}
 use borrow.Author.Tests.{eq-eqb, ne-eqb, le-leb, lt-leb, not-false}
@@ -12,7 +11,6 @@ use Rattle.layout.specs.Outcomes.{left, lentTests}
 use Rattle.layout.proofs.Lengths.{standing-of}
 use Rattle.layout.specs.Needs.{Standing}
 use Rattle.words.proofs.Tests.{Off, off-number}
-use Rattle.layout.specs.State.{rowsAt, colsAt}
 use Rattle.univmon_delta.specs.Deltas.{everyInsert, deltaTests}
 use Rattle.univmon_delta.specs.Arriving.{arrival}
 use Rattle.univmon_delta.proofs.Refusing.{unfit-number}
@@ -53,25 +51,18 @@ returns-3 c = λ f. simp ((passed (c .before .before .before .before .before)) .
 dims-requires : tie.Need-dims-requires
 dims-requires c κs = search needs
 
--- row and column within those of the layer, or not
-rows-are : (c : tie.After-dims) → c .dims .result .rows ≡ rowsAt (c .before .before .before .before .before .before .before .before .before .before .before .args .h .shape) (c .before .before .before .before .before .before .before .before .before .before .before .args .l)
-rows-are c = rw (c .dims .ensures)
-
-cols-are : (c : tie.After-dims) → c .dims .result .cols ≡ colsAt (c .before .before .before .before .before .before .before .before .before .before .before .args .h .shape) (c .before .before .before .before .before .before .before .before .before .before .before .args .l)
-cols-are c = rw (c .dims .ensures)
-
 returns-4 : tie.Need-returns-4
 unfolding deltaTests
-returns-4 c = λ f. simp ((passed (c .before .before .before .before .before .before .before .before)) .0, (passed (c .before .before .before .before .before .before .before .before)) .1 .0, eq-eqb _ _ (c .before .before .before .before .before .if2 .left), lt-leb _ _ (c .before .before .before .if3 .left), le-leb _ _ (rw (rows-are (c .before .before)) at (c .if4 .taken)))
+returns-4 c = λ f. simp ((passed (c .before .before .before .before .before .before .before .before)) .0, (passed (c .before .before .before .before .before .before .before .before)) .1 .0, eq-eqb _ _ (c .before .before .before .before .before .if2 .left), lt-leb _ _ (c .before .before .before .if3 .left), le-leb _ _ (rw (c .before .before .dims .ensures) at (c .if4 .taken)))
 
 returns-5 : tie.Need-returns-5
 unfolding deltaTests
-returns-5 c = λ f. simp ((passed (c .before .before .before .before .before .before .before .before .before .before)) .0, (passed (c .before .before .before .before .before .before .before .before .before .before)) .1 .0, eq-eqb _ _ (c .before .before .before .before .before .before .before .if2 .left), lt-leb _ _ (c .before .before .before .before .before .if3 .left), lt-leb _ _ (rw (rows-are (c .before .before .before .before)) at (c .before .before .if4 .left)), le-leb _ _ (rw (cols-are (c .before .before .before .before)) at (c .if5 .taken)))
+returns-5 c = λ f. simp ((passed (c .before .before .before .before .before .before .before .before .before .before)) .0, (passed (c .before .before .before .before .before .before .before .before .before .before)) .1 .0, eq-eqb _ _ (c .before .before .before .before .before .before .before .if2 .left), lt-leb _ _ (c .before .before .before .before .before .if3 .left), lt-leb _ _ (rw (c .before .before .before .before .dims .ensures) at (c .before .before .if4 .left)), le-leb _ _ (rw (c .before .before .before .before .dims .ensures) at (c .if5 .taken)))
 
 judge-delta-requires : tie.Need-judge-delta-requires
 judge-delta-requires c κs =
     rw (toZ-ofZ (c .before .before .before .before .before .before .before .before .before .before .before .before .before .before .before .fits .count)) (
-      record { standing = standing (c .before .before .before .before .before .before .before .before .before .before); recorded = c .before .before .before .before .before .before .before .if2 .left; inside = c .before .before .before .before .before .if3 .left; below = rw (rows-are (c .before .before .before .before)) at (c .before .before .if4 .left); within = rw (cols-are (c .before .before .before .before)) at (c .if5 .left) },
+      record { standing = standing (c .before .before .before .before .before .before .before .before .before .before); recorded = c .before .before .before .before .before .before .before .if2 .left; inside = c .before .before .before .before .before .if3 .left; below = rw (c .before .before .before .before .dims .ensures) at (c .before .before .if4 .left); within = rw (c .before .before .before .before .dims .ensures) at (c .if5 .left) },
       c .before .before .before .before .before .before .before .before .before .before .before .before .before .before .before .pre,
     )
 
@@ -80,7 +71,7 @@ unfolding deltaTests
 returns-6 c =
     λ f.
     rw (toZ-ofZ (c .before .before .before .before .before .before .before .before .before .before .before .before .before .before .before .before .fits .count)) at (c .judge-delta .ensures (everyInsert f))
-    ∙ simp ((passed (c .before .before .before .before .before .before .before .before .before .before .before)) .0, (passed (c .before .before .before .before .before .before .before .before .before .before .before)) .1 .0, eq-eqb _ _ (c .before .before .before .before .before .before .before .before .if2 .left), lt-leb _ _ (c .before .before .before .before .before .before .if3 .left), lt-leb _ _ (rw (rows-are (c .before .before .before .before .before)) at (c .before .before .before .if4 .left)), lt-leb _ _ (rw (cols-are (c .before .before .before .before .before)) at (c .before .if5 .left)))
+    ∙ simp ((passed (c .before .before .before .before .before .before .before .before .before .before .before)) .0, (passed (c .before .before .before .before .before .before .before .before .before .before .before)) .1 .0, eq-eqb _ _ (c .before .before .before .before .before .before .before .before .if2 .left), lt-leb _ _ (c .before .before .before .before .before .before .if3 .left), lt-leb _ _ (rw (c .before .before .before .before .before .dims .ensures) at (c .before .before .before .if4 .left)), lt-leb _ _ (rw (c .before .before .before .before .before .dims .ensures) at (c .before .if5 .left)))
 
 pub delta-refusal-spec : {M : Type 1} → statement M
 delta-refusal-spec = tie.close (tie.spec lent-refusal-requires returns mul-if2 add-if2 returns-2 returns-3 dims-requires returns-4 returns-5 judge-delta-requires returns-6)

@@ -4,13 +4,14 @@ use mathlib.Core.Path.{_≡_, sym, ap, _∙_}
 use borrow.Author.Needs.{needs}
 use denote.Ref.{now}
 use mir.Facts.{toZ-ofZ}
-use Rattle.header.specs.Header.{headOf, beginHeader, beginOf, scalarsOf}
+use Rattle.header.specs.Header.{headOf, beginHeader, beginTests, scalarsOf}
 use Rattle.layout.specs.Slices.{lent, Lent}
 use Rattle.layout.specs.Outcomes.{left, leftBy}
 use Rattle.univmon.specs.Calls.{updateCall, lentUpdateCall}
 use Rattle.univmon.specs.Needs.{sentAfter}
 use Rattle.header.specs.declared.Answered.{Answered}
-use Rattle.header.proofs.Steps.{header-begun, begin-light}
+use Rattle.words.specs.Tests.{number}
+use Rattle.header.proofs.Steps.{header-begun, header-number, begin-light}
 use Rattle.univmon.specs.Updates.{modeOf}
 use Rattle.univmon.proofs.Updating.{call-refused, call-done, placed-call}
 use Rattle.univmon.proofs.calls.update_held.Statement.{statement}
@@ -39,12 +40,11 @@ lent-of c = lent (c .args .header) (now (c .args .counters)) (now (c .args .norm
 begins : (c : tie.After-begin-update) → c .begin-update .result ≡ beginHeader (c .before .before .before .before .before .args .header) (c .before .before .before .before .before .args .weight) (modeOf (c .before .before .before .before .before .args .kind))
 begins c = rw (toZ-ofZ (c .before .before .before .before .before .fits .weight), c .before .mode-of .ensures) at (c .begin-update .ensures)
 
-number : (c : tie.After-begin-update) → c .begin-update .result .refusal ≡ beginOf (scalarsOf (c .before .before .before .before .before .args .header)) (c .before .before .before .before .before .args .weight) (modeOf (c .before .before .before .before .before .args .kind)) .refusal
-unfolding beginHeader
-number c = ap (λ (b : Answered). b .refusal) (begins c)
+number-is : (c : tie.After-begin-update) → c .begin-update .result .refusal ≡ number (beginTests (scalarsOf (c .before .before .before .before .before .args .header)) (c .before .before .before .before .before .args .weight) (modeOf (c .before .before .before .before .before .args .kind)))
+number-is c = let a = c .before .before .before .before .before .args in ap (λ (b : Answered). b .refusal) (begins c) ∙ header-number (a .header) (a .weight) (modeOf (a .kind))
 
 update-requires : tie.Need-update-requires
-update-requires c κs = λ z. let a = c .before .before .before .before .before .before .before .before .before .before .before .before .before .before .args in rw (toZ-ofZ (c .before .before .before .before .before .before .before .before .before .before .before .before .before .before .fits .weight)) (begin-light (scalarsOf (a .header)) (a .weight) (modeOf (a .kind)) (sym (number (c .before .before .before .before .before .before .before .before .before)) ∙ z))
+update-requires c κs = λ z. let a = c .before .before .before .before .before .before .before .before .before .before .before .before .before .before .args in rw (toZ-ofZ (c .before .before .before .before .before .before .before .before .before .before .before .before .before .before .fits .weight)) (begin-light (scalarsOf (a .header)) (a .weight) (modeOf (a .kind)) (sym (number-is (c .before .before .before .before .before .before .before .before .before)) ∙ z))
 
 with-layers-requires : tie.Need-with-layers-requires
 with-layers-requires c κs = search needs
@@ -64,12 +64,12 @@ same-length-4 c = search needs
 -- what all but the beginning left
 left-is : (c : tie.After-update) → let a = c .before .before .before .before .before .before .before .before .before .before .before .before .before .before .before .args in let l = c .update .last in
     left (c .update .result) (lent (headOf (scalarsOf (a .header)) (l .1 .1 .1 .0) (l .1 .1 .1 .1 .0)) (l .1 .1 .1 .1 .1 .0) (l .1 .1 .1 .1 .1 .1 .0) (l .1 .1 .1 .1 .1 .1 .1 .0) (l .1 .1 .1 .1 .1 .1 .1 .1 .0))
-    ≡ sentAfter (a .kind) (beginOf (scalarsOf (a .header)) (a .weight) (modeOf (a .kind)) .refusal) (now (a .words)) (a .weight) (lent-of (c .before .before .before .before .before .before .before .before .before .before .before .before .before .before .before))
-left-is c = rw (toZ-ofZ (c .before .before .before .before .before .before .before .before .before .before .before .before .before .before .before .fits .weight), c .before .before .before .before .before .before .before .scalars .ensures, number (c .before .before .before .before .before .before .before .before .before .before)) at (c .update .ensures)
+    ≡ sentAfter (a .kind) (number (beginTests (scalarsOf (a .header)) (a .weight) (modeOf (a .kind)))) (now (a .words)) (a .weight) (lent-of (c .before .before .before .before .before .before .before .before .before .before .before .before .before .before .before))
+left-is c = rw (toZ-ofZ (c .before .before .before .before .before .before .before .before .before .before .before .before .before .before .before .fits .weight), c .before .before .before .before .before .before .before .scalars .ensures, number-is (c .before .before .before .before .before .before .before .before .before .before)) at (c .update .ensures)
 
 -- the header has 19 lengths and flags
 same-call : (c : tie.After-lens2) → let a = c .before .before .before .before .before .before .before .before .before .before .args in leftBy (lent-of (c .before .before .before .before .before .before .before .before .before .before)) (lentUpdateCall (a .kind) (lent-of (c .before .before .before .before .before .before .before .before .before .before)) (now (a .words)) (a .weight)) ≡ leftBy (lent-of (c .before .before .before .before .before .before .before .before .before .before)) (updateCall (a .kind) (lent-of (c .before .before .before .before .before .before .before .before .before .before)) (now (a .words)) (a .weight))
-same-call c = let a = c .before .before .before .before .before .before .before .before .before .before .args in sym (placed-call (a .kind) (lent-of (c .before .before .before .before .before .before .before .before .before .before)) (now (a .words)) (a .weight) (sym (slice-aggregate-update-2 c)) (sym (slice-aggregate-update (c .before))))
+same-call c = let a = c .before .before .before .before .before .before .before .before .before .before .args in placed-call (a .kind) (lent-of (c .before .before .before .before .before .before .before .before .before .before)) (now (a .words)) (a .weight) (sym (slice-aggregate-update-2 c)) (sym (slice-aggregate-update (c .before)))
 
 returns : tie.Need-returns
 returns c =
@@ -96,7 +96,7 @@ returns-2 : tie.Need-returns-2
 returns-2 c =
     let a = c .before .before .before .before .before .before .before .before .before .before .before .before .before .before .before .before .before .before .before .before .before .before .before .before .before .before .args in
     let q = call-done (a .kind) (lent-of (c .before .before .before .before .before .before .before .before .before .before .before .before .before .before .before .before .before .before .before .before .before .before .before .before .before .before)) (now (a .words)) (a .weight) (c .before .before .before .before .before .before .before .before .before .before .before .update .result) _ (left-is (c .before .before .before .before .before .before .before .before .before .before .before)) (c .before .before .if1 .left) in
-    let z : c .before .before .before .before .before .before .before .before .before .before .before .before .before .before .before .before .before .before .before .before .before .begin-update .result .refusal ≡ 0 = number (c .before .before .before .before .before .before .before .before .before .before .before .before .before .before .before .before .before .before .before .before .before) ∙ q .0 in
+    let z : c .before .before .before .before .before .before .before .before .before .before .before .before .before .before .before .before .before .before .before .before .before .begin-update .result .refusal ≡ 0 = number-is (c .before .before .before .before .before .before .before .before .before .before .before .before .before .before .before .before .before .before .before .before .before) ∙ q .0 in
     rw (c .with-layers2 .ensures, header-begun (a .header) (a .weight) (modeOf (a .kind)) (c .before .before .before .before .before .before .before .before .before .before .before .before .before .before .before .before .before .before .before .before .before .begin-update .result) (begins (c .before .before .before .before .before .before .before .before .before .before .before .before .before .before .before .before .before .before .before .before .before)) z) (q .1 ∙ same-call (c .before .before .before .before .before .before .before .before .before .before .before .before .before .before .before .before))
 
 pub update-held-spec : {M : Type 1} → statement M
