@@ -45,7 +45,8 @@ fn norms_match(shape: Shape, norms: usize) -> bool
     requires { ⌜ Accepted shape ⌝ }
     ensures { λ r. ⌜ r ≡ eqb norms (2 * normsIn shape) ⌝ }
 {
-    norms == 2 * (shape.layers * shape.rows)
+    let e = layout::extent_of(shape);
+    norms == e.norms
 }
 
 fn norms_lent(header: Header, norms: &[u64]) -> bool

@@ -20,10 +20,12 @@ use Rattle.header.specs.declared.Shape.{Shape}
 use Rattle.header.specs.Header.{withLayer}
 use Rattle.layer.specs.declared.Dims.{Dims}
 use Rattle.layer.specs.Layer.{Layer, layerOf}
+use Rattle.layer.specs.Needs.{Housed}
 use Rattle.layout.specs.State.{dimsAt, cellOff, normOff, candOff, layerAt, putLayer}
-use Rattle.layout.specs.Slices.{Lent, lent, cellsIn, normsIn, candsIn, view}
-use Rattle.layout.specs.Needs.{Sizes}
-use Rattle.layout.proofs.Offsets.{off-step}
+use Rattle.layout.specs.Slices.{Lent, lent, normsIn, view}
+use Rattle.layout.specs.Needs.{Sizes, Standing}
+use Rattle.layout.proofs.Offsets.{norm-end, shaped-at}
+use Rattle.layout.proofs.Pieces.{cells-long, norms-long, seats-long}
 
 -- ---- norms of a part
 
@@ -86,39 +88,17 @@ norms-put a n m ws vs lw h lv =
 abbrev pub shapeBy : Lent → Shape
 shapeBy r = r .head .shape
 
--- the layer in the parts of the slices
+-- the layer in the parts of the slices, where a shape says that they stand
+abbrev pub layerBy : Shape → Lent → ℕ → Layer
+layerBy sh r l =
+    let d : Dims = dimsAt sh l in
+    layerOf d (part (cellOff sh l) (d .rows * d .cols) (r .counters)) (part (2 * normOff sh l) (2 * d .rows) (r .norms))
+    (part (4 * candOff sh l) (4 * d .size) (r .entries)) (part (candOff sh l) (d .size) (r .counts)) (getD (r .head .lens) l 0) (getD (r .head .flags) l false)
+
 abbrev pub layerHere : Lent → ℕ → Layer
-layerHere r l =
-    let d : Dims = dimsAt (shapeBy r) l in
-    layerOf d (part (cellOff (shapeBy r) l) (d .rows * d .cols) (r .counters)) (part (2 * normOff (shapeBy r) l) (2 * d .rows) (r .norms))
-    (part (4 * candOff (shapeBy r) l) (4 * d .size) (r .entries)) (part (candOff (shapeBy r) l) (d .size) (r .counts)) (getD (r .head .lens) l 0) (getD (r .head .flags) l false)
-
--- a part with its end is the same part
-pub same-part : {A : Type 0} (a n e : ℕ) (xs : List A) → e ≡ a + n → part a (e - a) xs ≡ part a n xs
-same-part {A} a n e xs q = ap (λ (k : ℕ). part a k xs) n-is
-  where
-    n-is : e - a ≡ n
-    n-is = omega arith
-
-pub same-put : {A : Type 0} (a n e : ℕ) (xs ys : List A) → e ≡ a + n → putPart a (e - a) xs ys ≡ putPart a n xs ys
-same-put {A} a n e xs ys q = ap (λ (k : ℕ). putPart a k xs ys) n-is
-  where
-    n-is : e - a ≡ n
-    n-is = omega arith
+layerHere r l = layerBy (shapeBy r) r l
 
 module _ (r : Lent) (z : Sizes (shapeBy r) (length (r .counters)) (length (r .norms)) (length (r .entries)) (length (r .counts))) (l : ℕ) (h : l < shapeBy r .layers) where
-  pub cell-end : cellOff (shapeBy r) l + dimsAt (shapeBy r) l .rows * dimsAt (shapeBy r) l .cols ≤ cellsIn (shapeBy r)
-  unfolding cellOff
-  cell-end = off-step (λ m. dimsAt (shapeBy r) m .rows * dimsAt (shapeBy r) m .cols) l (shapeBy r .layers) h
-
-  pub norm-end : normOff (shapeBy r) l + dimsAt (shapeBy r) l .rows ≤ normsIn (shapeBy r)
-  unfolding normOff
-  norm-end = off-step (λ m. dimsAt (shapeBy r) m .rows) l (shapeBy r .layers) h
-
-  pub cand-end : candOff (shapeBy r) l + dimsAt (shapeBy r) l .size ≤ candsIn (shapeBy r)
-  unfolding candOff
-  cand-end = off-step (λ m. dimsAt (shapeBy r) m .size) l (shapeBy r .layers) h
-
   four : length (r .entries) ≡ 4 * length (r .counts)
   four = z .entries ∙ ap (λ (n : ℕ). 4 * n) (sym (z .counts))
 
@@ -126,7 +106,7 @@ module _ (r : Lent) (z : Sizes (shapeBy r) (length (r .counters)) (length (r .no
   unfolding layerAt view
   layer-view =
       let d : Dims = dimsAt (shapeBy r) l in
-      let p = sym (norms-part (normOff (shapeBy r) l) (d .rows) (normsIn (shapeBy r)) (r .norms) norm-end) in
+      let p = sym (norms-part (normOff (shapeBy r) l) (d .rows) (normsIn (shapeBy r)) (r .norms) (norm-end (shapeBy r) l h)) in
       let q = sym (cands-part (candOff (shapeBy r) l) (d .size) (r .entries) (r .counts) four) in
       λ i. record {
         sketch = record { cells = part (cellOff (shapeBy r) l) (d .rows * d .cols) (r .counters); norms = p i };
@@ -149,7 +129,7 @@ module _ (r : Lent) (z : Sizes (shapeBy r) (length (r .counters)) (length (r .no
       d = dimsAt (shapeBy r) l
 
       p : normsOf (putPart (2 * normOff (shapeBy r) l) (2 * d .rows) (r .norms) ws) (normsIn (shapeBy r)) ≡ putPart (normOff (shapeBy r) l) (d .rows) (normsOf (r .norms) (normsIn (shapeBy r))) (normsOf ws (d .rows))
-      p = norms-put (normOff (shapeBy r) l) (d .rows) (normsIn (shapeBy r)) (r .norms) ws (z .norms) norm-end lw
+      p = norms-put (normOff (shapeBy r) l) (d .rows) (normsIn (shapeBy r)) (r .norms) ws (z .norms) (norm-end (shapeBy r) l h) lw
 
       q : candsOf (putPart (4 * candOff (shapeBy r) l) (4 * d .size) (r .entries) es) (putPart (candOff (shapeBy r) l) (d .size) (r .counts) ns)
           ≡ putPart (candOff (shapeBy r) l) (d .size) (candsOf (r .entries) (r .counts)) (candsOf es ns)
@@ -162,3 +142,18 @@ module _ (r : Lent) (z : Sizes (shapeBy r) (length (r .counters)) (length (r .no
       whole : view (lent (withLayer (r .head) l flag len) (putPart (cellOff (shapeBy r) l) (d .rows * d .cols) (r .counters) xs) (putPart (2 * normOff (shapeBy r) l) (2 * d .rows) (r .norms) ws)
           (putPart (4 * candOff (shapeBy r) l) (4 * d .size) (r .entries) es) (putPart (candOff (shapeBy r) l) (d .size) (r .counts) ns)) ≡ putLayer (view r) l (layerOf d xs ws es ns len flag)
       whole = λ i. record { head = withLayer (r .head) l flag len; counters = putPart (cellOff (shapeBy r) l) (d .rows * d .cols) (r .counters) xs; norms = p i; cands = q i }
+
+-- the parts are as long as the functions on one layer ask
+pub housed-here : (r : Lent) → Standing r → (l : ℕ) → l < shapeBy r .layers → let d = dimsAt (shapeBy r) l in
+    Housed d (length (part (cellOff (shapeBy r) l) (d .rows * d .cols) (r .counters))) (length (part (2 * normOff (shapeBy r) l) (2 * d .rows) (r .norms)))
+    (length (part (candOff (shapeBy r) l) (d .size) (r .counts))) (getD (r .head .lens) l 0)
+housed-here r z l h =
+    record {
+      shaped = shaped-at (shapeBy r) (z .accepted) l;
+      cells = cells-long (shapeBy r) l h (r .counters) (z .sizes .cells);
+      norms = norms-long (shapeBy r) l h (r .norms) (z .sizes .norms);
+      seats = seats-long (shapeBy r) l h (r .counts) (z .sizes .counts);
+      some = z .accepted .seats;
+      few = z .accepted .small;
+      used = z .lens l h;
+    }

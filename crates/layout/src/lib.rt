@@ -1,9 +1,15 @@
 // Where layers stand in the slices that a caller lends, and hashes in a key's record. For the crates of
 // this repository, which show first that the shape is accepted.
+mod parts;
+
 use header::Header;
 use header::Shape;
 use heap_moves::Who;
 use layer::Dims;
+pub use parts::cells_at;
+pub use parts::norms_at;
+pub use parts::seats_at;
+pub use parts::words_at;
 ghost use mathlib.Core.Path.{_≡_};
 ghost use Prim.Native.Nat.{ℕ, _+_, _*_, _≤_, _<_};
 ghost use lib.ListN.{length};
@@ -13,8 +19,30 @@ ghost use Rattle.header.specs.Accepted.{Accepted};
 ghost use Rattle.layout.specs.State.{dimsAt};
 ghost use Rattle.layout.specs.Slices.{lengthsOk, lent};
 ghost use Rattle.layout.specs.Outcomes.{lentTests};
-ghost use Rattle.layout.specs.Spans.{spanOf};
+ghost use Rattle.layout.specs.Spans.{extentOf, spanOf};
 ghost use Rattle.layout.specs.Records.{whoAt};
+
+// Counters, norm words, entry words and counts of a shape.
+pub struct Extent {
+    pub cells: usize,
+    pub norms: usize,
+    pub words: usize,
+    pub seats: usize,
+}
+
+pub fn extent_of(shape: Shape) -> Extent
+    requires { ⌜ Accepted shape ⌝ }
+    ensures { λ r. ⌜ r ≡ extentOf shape ⌝ }
+{
+    let rows = shape.layers * shape.rows;
+    let seats = shape.layers * shape.heap_size;
+    Extent {
+        cells: rows * shape.cols,
+        norms: 2 * rows,
+        words: 4 * seats,
+        seats,
+    }
+}
 
 // Whether four slices of these lengths are a shape's.
 pub fn lengths_match(
@@ -27,18 +55,17 @@ pub fn lengths_match(
     requires { ⌜ Accepted shape ⌝ }
     ensures { λ r. ⌜ r ≡ lengthsOk shape counters norms entries counts ⌝ }
 {
-    let rows = shape.layers * shape.rows;
-    let seats = shape.layers * shape.heap_size;
-    if counters != rows * shape.cols {
+    let e = extent_of(shape);
+    if counters != e.cells {
         return false;
     }
-    if norms != 2 * rows {
+    if norms != e.norms {
         return false;
     }
-    if entries != 4 * seats {
+    if entries != e.words {
         return false;
     }
-    counts == seats
+    counts == e.seats
 }
 
 // 9 for a header out of range or slices that are not its shape's, 0 for none.

@@ -12,7 +12,9 @@ use Rattle.header.specs.declared.Shape.{Shape}
 use Rattle.header.specs.declared.Header.{Header}
 use Rattle.header.specs.Shape.{maxLayers, shapeRefusal}
 use Rattle.univmon.specs.declared.Kind.the-variants as kind
-use Rattle.layout.specs.Slices.{Lent, lent, cellsIn, normsIn, candsIn, freshLent}
+use Rattle.layout.specs.declared.Extent.{Extent}
+use Rattle.layout.specs.Slices.{Lent, lent, cellsIn, candsIn, freshLent}
+use Rattle.layout.specs.Spans.{extentOf}
 use Rattle.layout.specs.Outcomes.{Outcome, Left, left, leftBy}
 use Rattle.univmon.specs.Calls.{updateCall}
 use Rattle.estimates.specs.declared.PanelAnswer.{PanelAnswer}
@@ -22,13 +24,8 @@ use Rattle.panel_lines.specs.declared.line.Request.the-variants as ask
 use Rattle.panel_lines.specs.Line.{readOf}
 use Rattle.panel_lines.specs.Split.{someLast, chunkLines, chunkHeld}
 use Rattle.panel_lines.specs.Answers.{okText, refusedText, showBytes, showText}
-use Rattle.panel_step.specs.declared.extent.Extent.{Extent}
 
 -- ---- the state: a header, all zero before the first shape, and four slices, of which a shape uses the front
-
--- how much of each slice a shape uses
-abbrev pub extentOf : Shape → Extent
-extentOf sh = record { cells = cellsIn sh; norms = 2 * normsIn sh; words = 4 * candsIn sh; seats = candsIn sh }
 
 -- the header with the front parts that its shape uses
 abbrev pub inUse : Lent → Lent

@@ -1,9 +1,9 @@
 // The three requests on the panel's state: a header, and slices of which its shape uses the front.
-use crate::extent::extent_of;
 use crate::extent::panel_refusal;
 use header::Answered;
 use header::Header;
 use header::Shape;
+use layout::extent_of;
 use panel_lines::answer::put_refused;
 use panel_lines::answer::put_show;
 ghost use mathlib.Core.Path.{_≡_};

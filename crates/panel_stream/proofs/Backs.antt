@@ -11,8 +11,9 @@ use borrow.Author.Tests.{eqb-true}
 use Rattle.words.proofs.Bools.{and-left, and-right}
 use Rattle.header.specs.declared.Shape.{Shape}
 use Rattle.layout.specs.Slices.{Lent, cellsIn, normsIn, candsIn, lengthsOk, lentOk}
-use Rattle.panel_step.specs.declared.extent.Extent.{Extent}
-use Rattle.panel_step.specs.Panel.{extentOf, inUse, putBack, panelRefusal, refusalIn}
+use Rattle.layout.specs.declared.Extent.{Extent}
+use Rattle.layout.specs.Spans.{extentOf}
+use Rattle.panel_step.specs.Panel.{inUse, putBack, panelRefusal, refusalIn}
 use Rattle.panel_step.proofs.Rooms.{Fit, fit-of}
 
 -- slices of just a shape's lengths

@@ -31,7 +31,8 @@ use Rattle.panel_lines.specs.declared.line.Request.the-variants as ask
 use Rattle.panel_lines.specs.Line.{readOf}
 use Rattle.panel_lines.specs.Answers.{refusedText}
 use Rattle.panel_lines.specs.Split.{lines, wholeOf}
-use Rattle.panel_step.specs.Panel.{extentOf, inUse, putBack, panelRefusal, paperRefusal, refusalIn, shapeCall, started, backBy, addCall, panelText, showLine, Answer, answerTo, answerLine, answersOf, runOf}
+use Rattle.layout.specs.Spans.{extentOf}
+use Rattle.panel_step.specs.Panel.{inUse, putBack, panelRefusal, paperRefusal, refusalIn, shapeCall, started, backBy, addCall, panelText, showLine, Answer, answerTo, answerLine, answersOf, runOf}
 use Rattle.panel_step.proofs.Rooms.{fit-of, own-refusal}
 use Rattle.panel_step.proofs.Runs.{run-whole}
 use Rattle.panel_stream.specs.PanelStream.{Log, shapeBy, blank, addNumber, logShaped, logAdded, logAfter, logOf, relayIn, Shown, Told, Theorem, Own, Corollary}

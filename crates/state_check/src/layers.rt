@@ -51,20 +51,11 @@ fn layer_at(
     let shape = header.shape;
     let lens = header.lens;
     let dims = layout::dims(shape, l);
-    let s = layout::span_of(shape, l);
-    let a = s.cells;
-    let b = s.cells_end;
-    let c = s.norms;
-    let d = s.norms_end;
-    let e = s.words;
-    let f = s.words_end;
-    let g = s.seats;
-    let h = s.seats_end;
     layer_ok(
-        &counters[a..b],
-        &norms[c..d],
-        &entries[e..f],
-        &counts[g..h],
+        layout::cells_at(shape, l, counters),
+        layout::norms_at(shape, l, norms),
+        layout::words_at(shape, l, entries),
+        layout::seats_at(shape, l, counts),
         dims,
         lens[l],
     )

@@ -1,8 +1,10 @@
 // What an update reads of the layers that it touches, and whether it fits: nothing is written here.
 // The state is lent whole, so that a contract can name it; no entry is read.
 use header::Scalars;
+use layout::cells_at;
 use layout::dims;
-use layout::span_of;
+use layout::norms_at;
+use layout::seats_at;
 use layout::who_in;
 ghost use mathlib.Core.Path.{_≡_};
 ghost use mathlib.Core.Bool.{Bool, true};
@@ -30,20 +32,13 @@ fn ready_at(
     ensures { λ r. ⌜ r ≡ readyAt (h .shape) (now (words .entry)) weight l (layerAt (view (lent (headOf h (now (flags .entry)) (now (lens .entry))) (now (counters .entry)) (now (norms .entry)) (now (entries .entry)) (now (counts .entry)))) l) ⌝ }
 {
     let shape = h.shape;
-    let s = span_of(shape, l);
     let d = dims(shape, l);
     let who = who_in(words, l);
     let len = lens[l];
-    let ca = s.cells;
-    let ce = s.cells_end;
-    let na = s.norms;
-    let ne = s.norms_end;
-    let ta = s.seats;
-    let te = s.seats_end;
     layer::add_ready(
-        &counters[ca..ce],
-        &norms[na..ne],
-        &counts[ta..te],
+        cells_at(shape, l, counters),
+        norms_at(shape, l, norms),
+        seats_at(shape, l, counts),
         d,
         len,
         who,
@@ -67,20 +62,13 @@ fn reads_at(
     ensures { λ r. ⌜ ((w : ℕ) → r ≡ readsAt (h .shape) (now (words .entry)) w l (layerAt (view (lent (headOf h (now (flags .entry)) (now (lens .entry))) (now (counters .entry)) (now (norms .entry)) (now (entries .entry)) (now (counts .entry)))) l)) ⌝ }
 {
     let shape = h.shape;
-    let s = span_of(shape, l);
     let d = dims(shape, l);
     let who = who_in(words, l);
     let len = lens[l];
-    let ca = s.cells;
-    let ce = s.cells_end;
-    let na = s.norms;
-    let ne = s.norms_end;
-    let ta = s.seats;
-    let te = s.seats_end;
     layer::add_reads(
-        &counters[ca..ce],
-        &norms[na..ne],
-        &counts[ta..te],
+        cells_at(shape, l, counters),
+        norms_at(shape, l, norms),
+        seats_at(shape, l, counts),
         d,
         len,
         who,

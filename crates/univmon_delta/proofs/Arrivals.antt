@@ -2,12 +2,11 @@
 use mathlib.Core.Path.{_≡_, sym, ap, _∙_}
 use mathlib.Core.Bool.{Bool, true, false, _&&_}
 use mathlib.Core.List.{List}
-use Prim.Native.Nat.{ℕ, _+_, _-_, _*_}
+use Prim.Native.Nat.{ℕ, _+_, _*_}
 use lib.ListN.{getD, take}
 use lib.IntN.{ℤ}
 use lib.Dec.{leb}
 use Rattle.words.specs.Num.{inRange, allIn, squareCap, capped}
-use Rattle.words.specs.Parts.{part}
 use Rattle.words.specs.Tests.{number}
 use Rattle.words.proofs.Bools.{and-left}
 use Rattle.countsketch_l2_norm.specs.Sketch.{sketchOf, cellAt}
@@ -18,13 +17,14 @@ use Rattle.layer.specs.Layer.{Layer, layerOf, hashBy}
 use Rattle.layer.specs.Delta.{Delta, delta, deltaReads, deltaFits}
 use Rattle.layer.specs.Needs.{DeltaReady}
 use Rattle.layer.proofs.Tests.{delta-reads-are}
-use Rattle.layout.specs.State.{dimsAt, layerAt}
-use Rattle.layout.specs.Slices.{Lent, view}
+use Rattle.layout.specs.declared.Span.{Span}
+use Rattle.layout.specs.State.{dimsAt}
+use Rattle.layout.specs.Slices.{Lent}
 use Rattle.layout.specs.Records.{whoAt}
 use Rattle.univmon_delta.specs.Deltas.{deltaTestsAt}
 use Rattle.univmon_delta.specs.Arriving.{Arrives}
 use Rattle.layout.proofs.Views.{shapeBy}
-use Rattle.layout.proofs.Handed.{Spanned, housed, words-long, handed-is}
+use Rattle.layout.proofs.Handed.{Spanned, cellPart, normPart, wordPart, seatPart, housed, word-length, handed-is}
 
 -- ---- the two tests of a layer
 
@@ -62,19 +62,19 @@ counter-read d row col n who every xs ws es ns len flag e = and-left a b (and-le
 
 -- ---- the layer in its parts
 
-module _ (r : Lent) (words : List ℕ) (l row col : ℕ) (n : ℤ) (p : Arrives r words l row col n) (ca ce na ne ea ee ta te : ℕ) (s : Spanned (shapeBy r) l ca ce na ne ea ee ta te) where
+module _ {r : Lent} {words : List ℕ} {l row col : ℕ} {n : ℤ} {s : Span} (p : Arrives r words l row col n) (q : Spanned r l s) where
   -- the tests do not look at the flag
-  pub arrive-ready : DeltaReady (dimsAt (shapeBy r) l) (getD (r .head .lens) l 0) row col n (whoAt words l) (part ca (ce - ca) (r .counters)) (part na (ne - na) (r .norms)) (part ea (ee - ea) (r .entries)) (part ta (te - ta) (r .counts))
+  pub arrive-ready : DeltaReady (dimsAt (shapeBy r) l) (getD (r .head .lens) l 0) row col n (whoAt words l) (cellPart s (r .counters)) (normPart s (r .norms)) (wordPart s (r .entries)) (seatPart s (r .counts))
   unfolding deltaFits
   arrive-ready =
       record {
-        housed = housed r (p .placed .standing) l (p .placed .inside) ca ce na ne ea ee ta te s;
-        words = words-long r (p .placed .standing) l (p .placed .inside) ca ce na ne ea ee ta te s;
+        housed = housed q;
+        words = word-length q;
         below = p .placed .below;
         inside = p .placed .within;
         small = p .small;
-        read = delta-reads-are d row col n who true xs ws es ns len false ∙ sym (delta-reads-are d row col n who true xs ws es ns len flag) ∙ ap (deltaReads d (delta row col n who true)) (sym here) ∙ p .read;
-        fit = ap (deltaFits d (delta row col n who true)) (sym here) ∙ p .fit;
+        read = delta-reads-are d row col n who true xs ws es ns len false ∙ sym (delta-reads-are d row col n who true xs ws es ns len flag) ∙ ap (deltaReads d (delta row col n who true)) (sym (handed-is q)) ∙ p .read;
+        fit = ap (deltaFits d (delta row col n who true)) (sym (handed-is q)) ∙ p .fit;
       }
     where
       d : Dims
@@ -84,22 +84,19 @@ module _ (r : Lent) (words : List ℕ) (l row col : ℕ) (n : ℤ) (p : Arrives 
       who = whoAt words l
 
       xs : List ℤ
-      xs = part ca (ce - ca) (r .counters)
+      xs = cellPart s (r .counters)
 
       ws : List ℕ
-      ws = part na (ne - na) (r .norms)
+      ws = normPart s (r .norms)
 
       es : List ℕ
-      es = part ea (ee - ea) (r .entries)
+      es = wordPart s (r .entries)
 
       ns : List ℤ
-      ns = part ta (te - ta) (r .counts)
+      ns = seatPart s (r .counts)
 
       len : ℕ
       len = getD (r .head .lens) l 0
 
       flag : Bool
       flag = getD (r .head .flags) l false
-
-      here : layerAt (view r) l ≡ layerOf d xs ws es ns len flag
-      here = handed-is r (p .placed .standing) l (p .placed .inside) ca ce na ne ea ee ta te s

@@ -4,8 +4,11 @@ use header::Answered;
 use header::Header;
 use header::Mode;
 use heap::Answer;
+use layout::cells_at;
 use layout::dims;
 use layout::lent_refusal;
+use layout::norms_at;
+use layout::seats_at;
 use layout::span_of;
 use layout::who_in;
 ghost use mathlib.Core.Path.{_≡_};
@@ -71,22 +74,15 @@ fn judge_delta(
         (layerAt (view (lent h (now (counters .entry)) (now (norms .entry)) (now (entries .entry)) (now (counts .entry)))) l))) ⌝ }
 {
     let shape = h.shape;
-    let s = span_of(shape, l);
     let d = dims(shape, l);
     let who = who_in(words, l);
     let lens = h.lens;
     let len = lens[l];
-    let ca = s.cells;
-    let ce = s.cells_end;
-    let na = s.norms;
-    let ne = s.norms_end;
-    let ta = s.seats;
-    let te = s.seats_end;
-    let cells = &counters[ca..ce];
+    let cells = cells_at(shape, l, counters);
     if !layer::delta_reads(
         cells,
-        &norms[na..ne],
-        &counts[ta..te],
+        norms_at(shape, l, norms),
+        seats_at(shape, l, counts),
         d,
         len,
         row,

@@ -2,8 +2,9 @@
 // is written here. Both states are lent whole, so that a contract can name them.
 use header::Header;
 use header::Shape;
+use layout::cells_at;
 use layout::lent_refusal;
-use layout::span_of;
+use layout::seats_at;
 ghost use mathlib.Core.Path.{_≡_};
 ghost use Rattle.words.specs.Tests.{number};
 ghost use Rattle.layout.specs.State.{layerAt, allLayers};
@@ -29,21 +30,17 @@ fn reads_at(
     ensures { λ r. ⌜ r ≡ readsWith (view (lent other (now («other_counters» .entry)) (now («other_norms» .entry)) (now («other_entries» .entry)) (now («other_counts» .entry)))) l
         (layerAt (view (lent h (now (counters .entry)) (now (norms .entry)) (now (entries .entry)) (now (counts .entry)))) l) ⌝ }
 {
-    let s = span_of(h.shape, l);
+    let shape = h.shape;
     let lens = h.lens;
     let len = lens[l];
     let other_lens = other.lens;
     let other_len = other_lens[l];
-    let ca = s.cells;
-    let ce = s.cells_end;
-    let ta = s.seats;
-    let te = s.seats_end;
     layer::merge_reads(
-        &counters[ca..ce],
-        &counts[ta..te],
+        cells_at(shape, l, counters),
+        seats_at(shape, l, counts),
         len,
-        &other_counters[ca..ce],
-        &other_counts[ta..te],
+        cells_at(shape, l, other_counters),
+        seats_at(shape, l, other_counts),
         other_len,
     )
 }
@@ -66,10 +63,11 @@ fn fits_at(
     ensures { λ r. ⌜ r ≡ fitsWith (view (lent other (now («other_counters» .entry)) (now («other_norms» .entry)) (now («other_entries» .entry)) (now («other_counts» .entry)))) l
         (layerAt (view (lent h (now (counters .entry)) (now (norms .entry)) (now (entries .entry)) (now (counts .entry)))) l) ⌝ }
 {
-    let s = span_of(h.shape, l);
-    let ca = s.cells;
-    let ce = s.cells_end;
-    layer::merge_fits(&counters[ca..ce], &other_counters[ca..ce])
+    let shape = h.shape;
+    layer::merge_fits(
+        cells_at(shape, l, counters),
+        cells_at(shape, l, other_counters),
+    )
 }
 
 // Whether all that a merge reads is in range, in many layers from the first on.

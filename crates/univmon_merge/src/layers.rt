@@ -1,8 +1,10 @@
 // The layers of a second state merged into those of a first, once everything is judged. Both states are
 // lent whole, so that a contract can name them; no norm of the second is read.
 use header::Header;
+use layout::cells_at;
 use layout::dims;
 use layout::span_of;
+use layout::words_at;
 ghost use mathlib.Core.Path.{_≡_};
 ghost use mathlib.Core.Bool.{_&&_};
 ghost use lib.Dec.{leb};
@@ -64,8 +66,8 @@ fn merge_one(
         &mut counts[ta..te],
         d,
         len,
-        &other_counters[ca..ce],
-        &other_entries[ea..ee],
+        cells_at(shape, l, other_counters),
+        words_at(shape, l, other_entries),
         other_len,
     );
     let flags = other.flags;

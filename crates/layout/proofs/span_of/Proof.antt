@@ -2,24 +2,27 @@
 -- Written by tools/places.py from answers.txt; assumes nothing.
 use Prim.Native.Nat.{_*_, _≤_}
 use native.Mathlib.Omega.{arith}
-use Rattle.layout.proofs.Offsets.{cell-off, norm-off, cand-off, rows-few, seats-few, table-few, tables-few}
+use Rattle.header.specs.Shape.{maxLayers, maxHeap}
+use Rattle.matrix_storage.specs.Bits.{maxRows, maxCols}
+use Rattle.layout.proofs.Offsets.{table-bound, cells-bound, norms-bound, seats-bound, cell-off, norm-off, cand-off}
 use Rattle.layout.specs.State.{rowsAt, colsAt}
 use Rattle.layout.specs.Spans.{spanOf}
 use Rattle.layout.proofs.span_of.Statement.{statement}
 use Rattle.layout.proofs.span_of.Tie as tie
 
 -- how large the products are
-table : (c : tie.Start) → c .args .shape .rows * c .args .shape .cols ≤ 81920
-table c = table-few (c .args .shape) (c .pre .0)
+table : (c : tie.Start) → c .args .shape .rows * c .args .shape .cols ≤ maxRows * maxCols
+unfolding rowsAt colsAt
+table c = table-bound (c .args .shape) (c .pre .0) (c .args .l)
 
-tables : (c : tie.Start) → c .args .l * (c .args .shape .rows * c .args .shape .cols) ≤ 1556480
-tables c = tables-few (c .args .shape) (c .pre .0) (c .args .l) (omega (arith, c .pre .1))
+tables : (c : tie.Start) → c .args .l * (c .args .shape .rows * c .args .shape .cols) ≤ maxLayers * (maxRows * maxCols)
+tables c = let s = c .args .shape in let l = c .args .l in omega (arith, cell-off s l, cells-bound s (c .pre .0) l (omega (arith, c .pre .1)))
 
-starts : (c : tie.Start) → c .args .l * c .args .shape .rows ≤ 380
-starts c = rows-few (c .args .shape) (c .pre .0) (c .args .l) (omega (arith, c .pre .1))
+starts : (c : tie.Start) → c .args .l * c .args .shape .rows ≤ maxLayers * maxRows
+starts c = let s = c .args .shape in let l = c .args .l in omega (arith, norm-off s l, norms-bound s (c .pre .0) l (omega (arith, c .pre .1)))
 
-all-seats : (c : tie.Start) → c .args .l * c .args .shape .«heap_size» ≤ 19456
-all-seats c = seats-few (c .args .shape) (c .pre .0) (c .args .l) (omega (arith, c .pre .1))
+all-seats : (c : tie.Start) → c .args .l * c .args .shape .«heap_size» ≤ maxLayers * maxHeap
+all-seats c = let s = c .args .shape in let l = c .args .l in omega (arith, cand-off s l, seats-bound s (c .pre .0) l (omega (arith, c .pre .1)))
 
 mul-table : tie.Need-mul-table
 mul-table c = record { fits = omega (arith, table (c .before)) }

@@ -3,21 +3,20 @@
 use Prim.Native.Nat.{_≤_}
 use mathlib.Core.Path.{_≡_, sym, ap, _∙_}
 use mathlib.Core.Bool.{false, _&&_}
-use lib.ListN.{length, getD}
+use lib.ListN.{getD}
 use native.Mathlib.Omega.{arith}
 use borrow.Author.Needs.{needs}
 use denote.Ref.{now}
 use mir.Facts.{toZ-ofZ}
 use Rattle.header.specs.Header.{withLayer}
 use Rattle.layout.specs.Slices.{lent, view, Lent}
-use Rattle.layout.proofs.Offsets.{cand-off, seats-few}
 use Rattle.layer.specs.Layer.{Layer, layerOf}
 use Rattle.layer.specs.Delta.{delta, deltaLayer}
 use Rattle.layer.proofs.Steps.{delta-few}
 use Rattle.layout.specs.State.{dimsAt, layerAt}
 use Rattle.layout.specs.Records.{whoAt}
 use Rattle.heap.specs.Offer.{keptBy, lenBy}
-use Rattle.layout.proofs.Handed.{Spanned, spanned-of, cells-room, norms-room, words-room, seats-room, handed-is, Back, back-view, back-standing}
+use Rattle.layout.proofs.Handed.{Spanned, cell-piece, norm-piece, word-piece, seat-piece, handed-is, Back, back-view, back-standing}
 use Rattle.univmon_delta.proofs.Arrivals.{arrive-ready}
 use Rattle.univmon_delta.proofs.deliver.Statement.{statement}
 use Rattle.univmon_delta.proofs.deliver.Tie as tie
@@ -26,20 +25,8 @@ use Rattle.univmon_delta.proofs.deliver.Tie as tie
 abbrev lent-of : tie.Start → Lent
 lent-of c = lent (c .args .h) (now (c .args .counters)) (now (c .args .norms)) (now (c .args .entries)) (now (c .args .counts))
 
-spanned : (c : tie.After-span-of) → let s = c .span-of .result in Spanned (c .before .before .before .before .before .args .h .shape) (c .before .before .before .before .before .args .l) (s .cells) (s .«cells_end») (s .norms) (s .«norms_end») (s .words) (s .«words_end») (s .seats) (s .«seats_end»)
-spanned c = spanned-of (c .before .before .before .before .before .args .h .shape) (c .before .before .before .before .before .args .l) (c .span-of .result) (c .span-of .ensures)
-
-cells-ok : (c : tie.After-span-of) → (c .span-of .result .cells ≤ c .span-of .result .«cells_end») × (c .span-of .result .«cells_end» ≤ length (now (c .before .before .before .before .before .args .counters)))
-cells-ok c = let s = spanned c in (omega (arith, s .cellsEnd), cells-room (lent-of (c .before .before .before .before .before)) (c .before .before .before .before .before .pre .placed .standing) (c .before .before .before .before .before .args .l) (c .before .before .before .before .before .pre .placed .inside) _ _ _ _ _ _ _ _ s)
-
-norms-ok : (c : tie.After-span-of) → (c .span-of .result .norms ≤ c .span-of .result .«norms_end») × (c .span-of .result .«norms_end» ≤ length (now (c .before .before .before .before .before .args .norms)))
-norms-ok c = let s = spanned c in (omega (arith, s .normsEnd), norms-room (lent-of (c .before .before .before .before .before)) (c .before .before .before .before .before .pre .placed .standing) (c .before .before .before .before .before .args .l) (c .before .before .before .before .before .pre .placed .inside) _ _ _ _ _ _ _ _ s)
-
-words-ok : (c : tie.After-span-of) → (c .span-of .result .words ≤ c .span-of .result .«words_end») × (c .span-of .result .«words_end» ≤ length (now (c .before .before .before .before .before .args .entries)))
-words-ok c = let s = spanned c in (omega (arith, s .wordsEnd), words-room (lent-of (c .before .before .before .before .before)) (c .before .before .before .before .before .pre .placed .standing) (c .before .before .before .before .before .args .l) (c .before .before .before .before .before .pre .placed .inside) _ _ _ _ _ _ _ _ s)
-
-seats-ok : (c : tie.After-span-of) → (c .span-of .result .seats ≤ c .span-of .result .«seats_end») × (c .span-of .result .«seats_end» ≤ length (now (c .before .before .before .before .before .args .counts)))
-seats-ok c = let s = spanned c in (omega (arith, s .seatsEnd), seats-room (lent-of (c .before .before .before .before .before)) (c .before .before .before .before .before .pre .placed .standing) (c .before .before .before .before .before .args .l) (c .before .before .before .before .before .pre .placed .inside) _ _ _ _ _ _ _ _ s)
+spanned : (c : tie.After-span-of) → Spanned (lent-of (c .before .before .before .before .before)) (c .before .before .before .before .before .args .l) (c .span-of .result)
+spanned c = record { standing = c .before .before .before .before .before .pre .placed .standing; inside = c .before .before .before .before .before .pre .placed .inside; is = c .span-of .ensures }
 
 span-of-requires : tie.Need-span-of-requires
 span-of-requires c κs = (c .before .before .before .before .pre .placed .standing .accepted, c .before .before .before .before .pre .placed .inside)
@@ -57,62 +44,55 @@ array-read-len : tie.Need-array-read-len
 array-read-len c = let p = c .before .before .before .before .before .before .before .before .pre .placed in let q = p .standing .accepted .few in let i = p .inside in search needs
 
 mul-apply-delta : tie.Need-mul-apply-delta
-mul-apply-delta c = let b = cells-ok (c .before .before .before) in search needs
+mul-apply-delta c = let b = cell-piece (spanned (c .before .before .before)) in search needs
 
 sub-apply-delta : tie.Need-sub-apply-delta
-sub-apply-delta c = let b = cells-ok (c .before .before .before) in search needs
+sub-apply-delta c = let b = cell-piece (spanned (c .before .before .before)) in search needs
 
 part-apply-delta-start : tie.Need-part-apply-delta-start
-part-apply-delta-start c = let b = cells-ok (c .before .before .before) in search needs
+part-apply-delta-start c = let b = cell-piece (spanned (c .before .before .before)) in search needs
 
 part-apply-delta-end : tie.Need-part-apply-delta-end
-part-apply-delta-end c = let b = cells-ok (c .before .before .before) in search needs
+part-apply-delta-end c = let b = cell-piece (spanned (c .before .before .before)) in search needs
 
 mul-apply-delta-2 : tie.Need-mul-apply-delta-2
-mul-apply-delta-2 c = let b = norms-ok (c .before .before .before .before) in search needs
+mul-apply-delta-2 c = let b = norm-piece (spanned (c .before .before .before .before)) in search needs
 
 sub-apply-delta-2 : tie.Need-sub-apply-delta-2
-sub-apply-delta-2 c = let b = norms-ok (c .before .before .before .before) in search needs
+sub-apply-delta-2 c = let b = norm-piece (spanned (c .before .before .before .before)) in search needs
 
 part-apply-delta-start-2 : tie.Need-part-apply-delta-start-2
-part-apply-delta-start-2 c = let b = norms-ok (c .before .before .before .before) in search needs
+part-apply-delta-start-2 c = let b = norm-piece (spanned (c .before .before .before .before)) in search needs
 
 part-apply-delta-end-2 : tie.Need-part-apply-delta-end-2
-part-apply-delta-end-2 c = let b = norms-ok (c .before .before .before .before) in search needs
+part-apply-delta-end-2 c = let b = norm-piece (spanned (c .before .before .before .before)) in search needs
 
 mul-apply-delta-3 : tie.Need-mul-apply-delta-3
-mul-apply-delta-3 c =
-    let z = c .before .before .before .before .before .before .before .before .before .before .pre .placed in
-    record { fits = omega (arith, (spanned (c .before .before .before .before .before)) .words, cand-off (c .before .before .before .before .before .before .before .before .before .before .args .h .shape) (c .before .before .before .before .before .before .before .before .before .before .args .l), seats-few (c .before .before .before .before .before .before .before .before .before .before .args .h .shape) (z .standing .accepted) (c .before .before .before .before .before .before .before .before .before .before .args .l) (omega (arith, z .inside))) }
+mul-apply-delta-3 c = let b = word-piece (spanned (c .before .before .before .before .before)) in search needs
 
 sub-apply-delta-3 : tie.Need-sub-apply-delta-3
-sub-apply-delta-3 c = let b = words-ok (c .before .before .before .before .before) in search needs
+sub-apply-delta-3 c = let b = word-piece (spanned (c .before .before .before .before .before)) in search needs
 
 part-apply-delta-start-3 : tie.Need-part-apply-delta-start-3
-part-apply-delta-start-3 c = let b = words-ok (c .before .before .before .before .before) in search needs
+part-apply-delta-start-3 c = let b = word-piece (spanned (c .before .before .before .before .before)) in search needs
 
 part-apply-delta-end-3 : tie.Need-part-apply-delta-end-3
-part-apply-delta-end-3 c = let b = words-ok (c .before .before .before .before .before) in search needs
+part-apply-delta-end-3 c = let b = word-piece (spanned (c .before .before .before .before .before)) in search needs
 
 mul-apply-delta-4 : tie.Need-mul-apply-delta-4
-mul-apply-delta-4 c =
-    let z = c .before .before .before .before .before .before .before .before .before .before .before .pre .placed in
-    record { fits = omega (arith, (spanned (c .before .before .before .before .before .before)) .seats, cand-off (c .before .before .before .before .before .before .before .before .before .before .before .args .h .shape) (c .before .before .before .before .before .before .before .before .before .before .before .args .l), seats-few (c .before .before .before .before .before .before .before .before .before .before .before .args .h .shape) (z .standing .accepted) (c .before .before .before .before .before .before .before .before .before .before .before .args .l) (omega (arith, z .inside))) }
+mul-apply-delta-4 c = let b = seat-piece (spanned (c .before .before .before .before .before .before)) in search needs
 
 sub-apply-delta-4 : tie.Need-sub-apply-delta-4
-sub-apply-delta-4 c = let b = seats-ok (c .before .before .before .before .before .before) in search needs
+sub-apply-delta-4 c = let b = seat-piece (spanned (c .before .before .before .before .before .before)) in search needs
 
 part-apply-delta-start-4 : tie.Need-part-apply-delta-start-4
-part-apply-delta-start-4 c = let b = seats-ok (c .before .before .before .before .before .before) in search needs
+part-apply-delta-start-4 c = let b = seat-piece (spanned (c .before .before .before .before .before .before)) in search needs
 
 part-apply-delta-end-4 : tie.Need-part-apply-delta-end-4
-part-apply-delta-end-4 c = let b = seats-ok (c .before .before .before .before .before .before) in search needs
+part-apply-delta-end-4 c = let b = seat-piece (spanned (c .before .before .before .before .before .before)) in search needs
 
 apply-delta-requires : tie.Need-apply-delta-requires
-apply-delta-requires c κs =
-    let a = c .before .before .before .before .before .before .before .before .before .before .before .before .args in
-    rw (c .before .before .before .before .before .before .dims .ensures, c .before .before .before .before .before .who-in .ensures, toZ-ofZ (c .before .before .before .before .before .before .before .before .before .before .before .before .fits .count))
-    (arrive-ready (lent-of (c .before .before .before .before .before .before .before .before .before .before .before .before)) (now (a .words)) (a .l) (a .row) (a .col) (a .count) (c .before .before .before .before .before .before .before .before .before .before .before .before .pre) _ _ _ _ _ _ _ _ (spanned (c .before .before .before .before .before .before .before)))
+apply-delta-requires c κs = rw (c .before .before .before .before .before .before .dims .ensures, c .before .before .before .before .before .who-in .ensures, toZ-ofZ (c .before .before .before .before .before .before .before .before .before .before .before .before .fits .count)) (arrive-ready (c .before .before .before .before .before .before .before .before .before .before .before .before .pre) (spanned (c .before .before .before .before .before .before .before)))
 
 len-after-requires : tie.Need-len-after-requires
 len-after-requires c κs = let z = c .before .before .before .before .before .before .before .before .before .before .before .before .before .before .before .before .before .before .before .pre .placed .standing in omega (arith, z .lens (c .before .before .before .before .before .before .before .before .before .before .before .before .before .before .before .before .before .before .before .args .l) (c .before .before .before .before .before .before .before .before .before .before .before .before .before .before .before .before .before .before .before .pre .placed .inside), z .accepted .small)
@@ -136,8 +116,7 @@ same-length-4 : tie.Need-same-length-4
 same-length-4 c = search needs
 
 -- the parts that came back
-back : (c : tie.After-counts) → let s = c .before .before .before .before .before .before .before .before .before .before .before .before .before .before .span-of .result in let l = c .before .before .before .before .before .before .apply-delta .last in
-    Back (lent-of (c .before .before .before .before .before .before .before .before .before .before .before .before .before .before .before .before .before .before .before)) (c .before .before .before .before .before .before .before .before .before .before .before .before .before .before .before .before .before .before .before .pre .placed .standing) (c .before .before .before .before .before .before .before .before .before .before .before .before .before .before .before .before .before .before .before .args .l) (c .before .before .before .before .before .before .before .before .before .before .before .before .before .before .before .before .before .before .before .pre .placed .inside) (s .cells) (s .«cells_end») (s .norms) (s .«norms_end») (s .words) (s .«words_end») (s .seats) (s .«seats_end») (spanned (c .before .before .before .before .before .before .before .before .before .before .before .before .before .before)) (l .0) (l .1 .0) (l .1 .1 .0) (l .1 .1 .1 .0)
+back : (c : tie.After-counts) → let l = c .before .before .before .before .before .before .apply-delta .last in Back (spanned (c .before .before .before .before .before .before .before .before .before .before .before .before .before .before)) (l .0) (l .1 .0) (l .1 .1 .0) (l .1 .1 .1 .0)
 back c = record { cells = c .before .before .before .before .before .counters .given .0; norms = c .before .before .before .before .norms .given .0; words = c .before .before .entries .given .0; seats = c .counts .given .0 }
 
 -- the layer as it came back
@@ -147,7 +126,7 @@ layer-now : (c : tie.After-apply-delta) → let a = c .before .before .before .b
 layer-now c =
     let a = c .before .before .before .before .before .before .before .before .before .before .before .before .before .args in
     rw (c .before .before .before .before .before .before .before .dims .ensures, c .before .before .before .before .before .before .who-in .ensures, toZ-ofZ (c .before .before .before .before .before .before .before .before .before .before .before .before .before .fits .count)) at (c .apply-delta .ensures (getD (a .h .flags) (a .l) false) (a .every))
-    ∙ ap (deltaLayer (dimsAt (a .h .shape) (a .l)) (delta (a .row) (a .col) (a .count) (whoAt (now (a .words)) (a .l)) (a .every))) (sym (handed-is (lent-of (c .before .before .before .before .before .before .before .before .before .before .before .before .before)) (c .before .before .before .before .before .before .before .before .before .before .before .before .before .pre .placed .standing) (a .l) (c .before .before .before .before .before .before .before .before .before .before .before .before .before .pre .placed .inside) _ _ _ _ _ _ _ _ (spanned (c .before .before .before .before .before .before .before .before))))
+    ∙ ap (deltaLayer (dimsAt (a .h .shape) (a .l)) (delta (a .row) (a .col) (a .count) (whoAt (now (a .words)) (a .l)) (a .every))) (sym (handed-is (spanned (c .before .before .before .before .before .before .before .before))))
 
 -- the header as it is handed back
 header-now : (c : tie.After-touched) → let a = c .before .before .before .before .before .before .before .before .before .before .before .before .before .before .before .before .before .before .before .before .before .before .args in
@@ -163,12 +142,10 @@ few c =
     (delta-few (dimsAt (a .h .shape) (a .l)) (delta (a .row) (a .col) (a .count) (whoAt (now (a .words)) (a .l)) (a .every)) (layerAt (view (lent-of (c .before .before .before .before .before .before .before .before .before .before .before .before .before))) (a .l)) (c .before .before .before .before .before .before .before .before .before .before .before .before .before .pre .placed .standing .lens (a .l) (c .before .before .before .before .before .before .before .before .before .before .before .before .before .pre .placed .inside)))
 
 returns : tie.Need-returns
-returns c =
-    let a = c .before .before .before .before .before .before .before .before .before .before .before .before .before .before .before .before .before .before .before .before .before .before .args in
-    let r = lent-of (c .before .before .before .before .before .before .before .before .before .before .before .before .before .before .before .before .before .before .before .before .before .before) in (
-      rw (header-now c) (back-view r (c .before .before .before .before .before .before .before .before .before .before .before .before .before .before .before .before .before .before .before .before .before .before .pre .placed .standing) (a .l) (c .before .before .before .before .before .before .before .before .before .before .before .before .before .before .before .before .before .before .before .before .before .before .pre .placed .inside) _ _ _ _ _ _ _ _ (spanned (c .before .before .before .before .before .before .before .before .before .before .before .before .before .before .before .before .before)) _ _ _ _ _ _ _ (back (c .before .before .before)) (layer-now (c .before .before .before .before .before .before .before .before .before))),
-      rw (header-now c) (back-standing r (c .before .before .before .before .before .before .before .before .before .before .before .before .before .before .before .before .before .before .before .before .before .before .pre .placed .standing) (a .l) (c .before .before .before .before .before .before .before .before .before .before .before .before .before .before .before .before .before .before .before .before .before .before .pre .placed .inside) _ _ _ _ _ _ _ _ (spanned (c .before .before .before .before .before .before .before .before .before .before .before .before .before .before .before .before .before)) _ _ _ _ _ _ (back (c .before .before .before)) (few (c .before .before .before .before .before .before .before .before .before))),
-    )
+returns c = (
+  rw (header-now c) (back-view (spanned (c .before .before .before .before .before .before .before .before .before .before .before .before .before .before .before .before .before)) _ _ _ _ _ _ _ (back (c .before .before .before)) (layer-now (c .before .before .before .before .before .before .before .before .before))),
+  rw (header-now c) (back-standing (spanned (c .before .before .before .before .before .before .before .before .before .before .before .before .before .before .before .before .before)) _ _ _ _ _ _ (back (c .before .before .before)) (few (c .before .before .before .before .before .before .before .before .before))),
+)
 
 pub deliver-spec : {M : Type 1} → statement M
 deliver-spec = tie.close (tie.spec span-of-requires dims-requires who-in-requires mul-len array-read-len mul-apply-delta sub-apply-delta part-apply-delta-start part-apply-delta-end mul-apply-delta-2 sub-apply-delta-2 part-apply-delta-start-2 part-apply-delta-end-2 mul-apply-delta-3 sub-apply-delta-3 part-apply-delta-start-3 part-apply-delta-end-3 mul-apply-delta-4 sub-apply-delta-4 part-apply-delta-start-4 part-apply-delta-end-4 apply-delta-requires len-after-requires kept-all-requires touched-requires same-length same-length-2 same-length-3 same-length-4 returns)
