@@ -33,7 +33,7 @@ use Rattle.univmon.proofs.Touched.{sent-room}
 use Rattle.univmon_delta.specs.Deltas.{Arrival, deltaBy, counterTests, deltaTestsAt, arrived}
 use Rattle.univmon_merge.specs.Merges.{sameShape, pairTests, merged}
 use Rattle.univmon_merge.proofs.MergeCalls.{same-of}
-use Rattle.shared_streams.proofs.Relays.{wide}
+use Rattle.layout.proofs.Offsets.{shaped-at}
 use Rattle.state_check.proofs.KeptLayers.{add-whole, delta-whole, merge-whole}
 use Rattle.state_check.proofs.Passed.{passed-at}
 use Rattle.state_check.proofs.Whole.{Whole}
@@ -50,7 +50,7 @@ unfolding updated layerAt
 update-state k s words w g light o =
     over-whole (λ l y. addLayer (dimsAt (s .head .shape) l) (itemAt words w l) y) M F
     _ (head-whole s (addTotals (s .head .totals) (updateTotals (natAbs w))) (joined (s .head .mode) (modeOf k)) g light) room
-    (λ m p q x. add-whole (dimsAt (s .head .shape) m) (itemAt words w m) (layerAt s m) (wide (s .head .shape) a m) (a .seats) x
+    (λ m p q x. add-whole (dimsAt (s .head .shape) m) (itemAt words w m) (layerAt s m) (shaped-at (s .head .shape) a m .some) (a .seats) x
     (each (λ l y. addFits (dimsAt (s .head .shape) l) (itemAt words w l) y) s M F m p q fits))
   where
     M : ℕ

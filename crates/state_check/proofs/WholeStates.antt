@@ -33,7 +33,7 @@ use Rattle.layout.proofs.Lengths.{standing-of, long-view}
 use Rattle.layout.proofs.States.{layers-step, layers-none}
 use Rattle.layout.proofs.Replaced.{Sized, Over, over}
 use Rattle.layout.proofs.Flatten.{view-flat, flat-lengths}
-use Rattle.shared_streams.proofs.Relays.{wide}
+use Rattle.layout.proofs.Offsets.{shaped-at}
 use Rattle.state_check.specs.Check.{layerOk, layersOk, stateOk}
 use Rattle.state_check.specs.Reached.{Arrays}
 use Rattle.state_check.proofs.Passed.{passed-at, passed-all}
@@ -62,7 +62,7 @@ module _ (r : Lent) (e : stateOk r ≡ true) where
   unfolding view layerAt
   whole-at l h =
       let f = univmon.at-fits (view r) (long-view r ok-standing) l h in
-      whole-of (dimsAt (r .head .shape) l) (layerAt (view r) l) (wide (r .head .shape) (ok-standing .accepted) l)
+      whole-of (dimsAt (r .head .shape) l) (layerAt (view r) l) (shaped-at (r .head .shape) (ok-standing .accepted) l .some)
       (record { cells = f .cells; norms = f .norms; cands = f .cands }) (ok-standing .lens l h)
       (passed-at (λ k i. allLayers (λ m y. layerOk (dimsAt (r .head .shape) m) y) k i (view r)) (λ i. layerOk (dimsAt (r .head .shape) i) (layerAt (view r) i))
       (layers-step (λ m y. layerOk (dimsAt (r .head .shape) m) y) (view r)) (r .head .shape .layers) 0 l (omega arith) (omega arith) ok-layers)

@@ -10,7 +10,7 @@ use lib.IntN.{ℤ, natAbs}
 use lib.Dec.{eqb}
 use Rattle.words.specs.Num.{top, wordSize}
 use Rattle.words.specs.Tests.{number, numbered}
-use Rattle.words.proofs.Tests.{Off, number-off, off-number, number-first, number-rest}
+use Rattle.words.proofs.Tests.{Off, number-off, off-number, number-first, number-rest, off-first, off-rest}
 use Rattle.header.specs.declared.Mode.{Mode}
 use Rattle.header.specs.declared.Totals.{Totals}
 use Rattle.header.specs.Shape.{maxLayers}
@@ -50,14 +50,6 @@ many-sent kind.Standard b = omega arith
 many-sent kind.Terminal b = omega arith
 
 -- ---- tests and then others
-
-off-first : (ts us : List (Bool × ℕ)) → Off (ts ++ us) → Off ts
-off-first [] us h = tt
-off-first (t ∷ ts) us h = (h .0, off-first ts us (h .1))
-
-off-rest : (ts us : List (Bool × ℕ)) → Off (ts ++ us) → Off us
-off-rest [] us h = h
-off-rest (t ∷ ts) us h = off-rest ts us (h .1)
 
 judge-rest : (ts us : List (Bool × ℕ)) (r : Lent) → Off ts → judge (ts ++ us) r ≡ judge us r
 judge-rest [] us r h = refl
