@@ -7,8 +7,8 @@ ghost use mathlib.Core.Bool.{Bool, true, _&&_};
 ghost use mathlib.Core.List.{List};
 ghost use Prim.Native.Nat.{ℕ, _+_, _*_, _≤_, _<_};
 ghost use lib.ListN.{length};
-ghost use lib.IntN.{ℤ, natAbs};
-ghost use Rattle.words.specs.Num.{top, inRange};
+ghost use lib.IntN.{ℤ};
+ghost use Rattle.words.specs.Num.{inRange};
 ghost use Rattle.matrix_storage.specs.Bits.{Shaped};
 ghost use Rattle.heap_moves.specs.declared.Who.{Who};
 ghost use Rattle.countsketch_l2_norm.specs.Sketch.{cellAt};
@@ -41,11 +41,11 @@ pub fn delta_reads(
     heap::counts_in_range(counts, len)
 }
 
-// Whether the counter stays within the range; it is in it.
+// Whether the counter, which is in range, stays so, whatever the count.
 pub fn delta_fits(counters: &[i64], d: Dims, row: usize, col: usize, count: i64) -> bool
     requires { ⌜ (row < d .rows) × (col < d .cols) ⌝ }
     requires { ⌜ Shaped (d .rows) (d .cols) ⌝ }
-    requires { ⌜ (length (now counters) ≡ d .rows * d .cols) × (natAbs count ≤ top) ⌝ }
+    requires { ⌜ length (now counters) ≡ d .rows * d .cols ⌝ }
     requires { ⌜ inRange (cellAt (now counters) (row * d .cols + col)) ≡ true ⌝ }
     ensures { λ r. ⌜ ((ws es : List ℕ) (ns : List ℤ) (len : ℕ) (flag every : Bool) (who : Who) → r ≡ deltaFits d (delta row col count who every) (layerOf d (now (counters .entry)) ws es ns len flag)) ⌝ }
 {

@@ -73,7 +73,6 @@ module _ (r : Lent) (words : List ℕ) (l row col : ℕ) (n : ℤ) (p : Arrives 
         words = words-long r (p .placed .standing) l (p .placed .inside) ca ce na ne ea ee ta te s;
         below = p .placed .below;
         inside = p .placed .within;
-        small = p .small;
         read = delta-reads-are d row col n who true xs ws es ns len false ∙ sym (delta-reads-are d row col n who true xs ws es ns len flag) ∙ ap (deltaReads d (delta row col n who true)) (sym here) ∙ p .read;
         fit = ap (deltaFits d (delta row col n who true)) (sym here) ∙ p .fit;
       }

@@ -2,13 +2,11 @@
 use mathlib.Core.Path.{_≡_, refl, sym, _∙_}
 use mathlib.Core.Bool.{Bool, true, false, cond, not, _&&_, _||_}
 use mathlib.Core.List.{List}
-use Prim.Native.Nat.{ℕ, _≤_}
+use Prim.Native.Nat.{ℕ}
 use native.Mathlib.Omega.{arith}
 use lib.ListN.{length}
-use lib.IntN.{natAbs}
 use lib.Dec.{eqb, leb}
 use borrow.Author.Tests.{eq-eqb, ne-eqb, eqb-true, leb-false}
-use Rattle.words.specs.Num.{top}
 use Rattle.words.proofs.Bools.{never}
 use Rattle.header.specs.declared.Mode.{Mode}
 use Rattle.header.specs.Header.{headerOk, withMode, settled}
@@ -92,10 +90,10 @@ module _ (r : Lent) (words : List ℕ) (a : Arrival) where
   passes z = passed _ _ _ _ _ _ _ _ z
 
   -- what is not refused may be made, in whatever mode; the tests look neither at the mode nor at the fidelity
-  pub arrives-of : (m : Mode) → deltaNumber r words a ≡ 0 → natAbs (a .count) ≤ top
+  pub arrives-of : (m : Mode) → deltaNumber r words a ≡ 0
       → Arrives (lent (withMode (r .head) m) (r .counters) (r .norms) (r .entries) (r .counts)) words (a .layer) (a .row) (a .col) (a .count)
   unfolding view layerAt deltaReads deltaFits
-  arrives-of m z k =
+  arrives-of m z =
       let p = passes z in
       let s = standing-of r (p .head) (p .lengths) in
       record {
@@ -106,7 +104,6 @@ module _ (r : Lent) (words : List ℕ) (a : Arrival) where
           below = leb-false _ _ (p .row);
           within = leb-false _ _ (p .col);
         };
-        small = k;
         read = p .read;
         fit = p .fit;
       }

@@ -11,9 +11,7 @@ use header::Mode;
 use heap::Answer;
 ghost use mathlib.Core.Path.{_≡_};
 ghost use mathlib.Core.Bool.{Bool, true, _&&_};
-ghost use Prim.Native.Nat.{ℕ, _≤_, _<_};
-ghost use lib.IntN.{ℤ, natAbs};
-ghost use Rattle.words.specs.Num.{top};
+ghost use Prim.Native.Nat.{ℕ, _<_};
 ghost use Rattle.heap.specs.Offer.{keptBy};
 ghost use Rattle.layer.specs.Delta.{delta, deltaLayer};
 ghost use Rattle.univmon.specs.declared.Fidelity.{Fidelity};
@@ -60,7 +58,6 @@ fn judge_delta(
     count: i64,
 ) -> u64
     requires { ⌜ Placed (lent h (now counters) (now norms) (now entries) (now counts)) (now words) l row col ⌝ }
-    requires { ⌜ natAbs count ≤ top ⌝ }
     ensures { λ r. ⌜ ((every : Bool) → r ≡ judgedDelta (dimsAt (h .shape) l) (delta row col count (whoAt (now (words .entry)) l) every)
         (layerAt (view (lent h (now (counters .entry)) (now (norms .entry)) (now (entries .entry)) (now (counts .entry)))) l)) ⌝ }
 {
@@ -158,7 +155,6 @@ fn delta_refusal(
     col: usize,
     count: i64,
 ) -> u64
-    requires { ⌜ natAbs count ≤ top ⌝ }
     ensures { λ r. ⌜ ((f : Fidelity) → r ≡ deltaNumber (lent h (now (counters .entry)) (now (norms .entry)) (now (entries .entry)) (now (counts .entry))) (now (words .entry)) (arrival l row col count f)) ⌝ }
 {
     if !h.in_range() {

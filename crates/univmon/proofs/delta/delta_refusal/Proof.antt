@@ -68,11 +68,7 @@ returns-6 c = λ f. simp (in-range (c .before .before .before .before .before .b
 
 judge-delta-requires : tie.Need-judge-delta-requires
 unfolding rowsAt colsAt
-judge-delta-requires c κs =
-    rw (toZ-ofZ (c .before .before .before .before .before .before .before .before .before .before .before .before .before .before .before .before .fits .count)) (
-      record { standing = standing-of (lent-of (c .before .before .before .before .before .before .before .before .before .before .before .before .before .before .before .before)) (in-range (c .before .before .before .before .before .before .before .before .before .before .before)) (sized (c .before .before .before .before .before .before .before .before)); recorded = c .before .before .before .before .before .before .if3 .left; inside = c .before .before .before .before .if4 .left; below = c .before .before .if5 .left; within = c .if6 .left },
-      c .before .before .before .before .before .before .before .before .before .before .before .before .before .before .before .before .pre,
-    )
+judge-delta-requires c κs = record { standing = standing-of (lent-of (c .before .before .before .before .before .before .before .before .before .before .before .before .before .before .before .before)) (in-range (c .before .before .before .before .before .before .before .before .before .before .before)) (sized (c .before .before .before .before .before .before .before .before)); recorded = c .before .before .before .before .before .before .if3 .left; inside = c .before .before .before .before .if4 .left; below = c .before .before .if5 .left; within = c .if6 .left }
 
 returns-7 : tie.Need-returns-7
 unfolding deltaNumber rowsAt colsAt

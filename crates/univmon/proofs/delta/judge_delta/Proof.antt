@@ -31,28 +31,28 @@ spanned : (c : tie.After-span-of) → let s = c .span-of .result in Spanned (c .
 spanned c = spanned-of (c .before .before .before .before .before .args .h .shape) (c .before .before .before .before .before .args .l) (c .span-of .result) (c .span-of .ensures)
 
 cells-ok : (c : tie.After-span-of) → (c .span-of .result .cells ≤ c .span-of .result .«cells_end») × (c .span-of .result .«cells_end» ≤ length (now (c .before .before .before .before .before .args .counters)))
-cells-ok c = let s = spanned c in (omega (arith, s .cellsEnd), cells-room (lent-of (c .before .before .before .before .before)) (c .before .before .before .before .before .pre .0 .standing) (c .before .before .before .before .before .args .l) (c .before .before .before .before .before .pre .0 .inside) _ _ _ _ _ _ _ _ s)
+cells-ok c = let s = spanned c in (omega (arith, s .cellsEnd), cells-room (lent-of (c .before .before .before .before .before)) (c .before .before .before .before .before .pre .standing) (c .before .before .before .before .before .args .l) (c .before .before .before .before .before .pre .inside) _ _ _ _ _ _ _ _ s)
 
 norms-ok : (c : tie.After-span-of) → (c .span-of .result .norms ≤ c .span-of .result .«norms_end») × (c .span-of .result .«norms_end» ≤ length (now (c .before .before .before .before .before .args .norms)))
-norms-ok c = let s = spanned c in (omega (arith, s .normsEnd), norms-room (lent-of (c .before .before .before .before .before)) (c .before .before .before .before .before .pre .0 .standing) (c .before .before .before .before .before .args .l) (c .before .before .before .before .before .pre .0 .inside) _ _ _ _ _ _ _ _ s)
+norms-ok c = let s = spanned c in (omega (arith, s .normsEnd), norms-room (lent-of (c .before .before .before .before .before)) (c .before .before .before .before .before .pre .standing) (c .before .before .before .before .before .args .l) (c .before .before .before .before .before .pre .inside) _ _ _ _ _ _ _ _ s)
 
 seats-ok : (c : tie.After-span-of) → (c .span-of .result .seats ≤ c .span-of .result .«seats_end») × (c .span-of .result .«seats_end» ≤ length (now (c .before .before .before .before .before .args .counts)))
-seats-ok c = let s = spanned c in (omega (arith, s .seatsEnd), seats-room (lent-of (c .before .before .before .before .before)) (c .before .before .before .before .before .pre .0 .standing) (c .before .before .before .before .before .args .l) (c .before .before .before .before .before .pre .0 .inside) _ _ _ _ _ _ _ _ s)
+seats-ok c = let s = spanned c in (omega (arith, s .seatsEnd), seats-room (lent-of (c .before .before .before .before .before)) (c .before .before .before .before .before .pre .standing) (c .before .before .before .before .before .args .l) (c .before .before .before .before .before .pre .inside) _ _ _ _ _ _ _ _ s)
 
 span-of-requires : tie.Need-span-of-requires
-span-of-requires c κs = (c .before .before .before .before .pre .0 .standing .accepted, c .before .before .before .before .pre .0 .inside)
+span-of-requires c κs = (c .before .before .before .before .pre .standing .accepted, c .before .before .before .before .pre .inside)
 
 dims-requires : tie.Need-dims-requires
 dims-requires c κs = search needs
 
 who-in-requires : tie.Need-who-in-requires
-who-in-requires c κs = let p = c .before .before .before .before .before .before .pre .0 in (omega (arith, p .inside, p .standing .accepted .few), omega (arith, p .inside, p .recorded))
+who-in-requires c κs = let p = c .before .before .before .before .before .before .pre in (omega (arith, p .inside, p .standing .accepted .few), omega (arith, p .inside, p .recorded))
 
 mul-len : tie.Need-mul-len
-mul-len c = let p = c .before .before .before .before .before .before .before .before .pre .0 in let q = p .standing .accepted .few in let i = p .inside in search needs
+mul-len c = let p = c .before .before .before .before .before .before .before .before .pre in let q = p .standing .accepted .few in let i = p .inside in search needs
 
 array-read-len : tie.Need-array-read-len
-array-read-len c = let p = c .before .before .before .before .before .before .before .before .pre .0 in let q = p .standing .accepted .few in let i = p .inside in search needs
+array-read-len c = let p = c .before .before .before .before .before .before .before .before .pre in let q = p .standing .accepted .few in let i = p .inside in search needs
 
 mul-cells : tie.Need-mul-cells
 mul-cells c = let b = cells-ok (c .before .before .before) in search needs
@@ -80,7 +80,7 @@ part-delta-reads-end c = let b = norms-ok (c .before .before .before .before) in
 
 mul-delta-reads-2 : tie.Need-mul-delta-reads-2
 mul-delta-reads-2 c =
-    let z = c .before .before .before .before .before .before .before .before .before .before .pre .0 in
+    let z = c .before .before .before .before .before .before .before .before .before .before .pre in
     record { fits = omega (arith, (spanned (c .before .before .before .before .before)) .seats, cand-off (c .before .before .before .before .before .before .before .before .before .before .args .h .shape) (c .before .before .before .before .before .before .before .before .before .before .args .l), seats-few (c .before .before .before .before .before .before .before .before .before .before .args .h .shape) (z .standing .accepted) (c .before .before .before .before .before .before .before .before .before .before .args .l) (omega (arith, z .inside))) }
 
 sub-delta-reads-2 : tie.Need-sub-delta-reads-2
@@ -94,7 +94,7 @@ part-delta-reads-end-2 c = let b = seats-ok (c .before .before .before .before .
 
 delta-reads-requires : tie.Need-delta-reads-requires
 delta-reads-requires c κs =
-    let p = c .before .before .before .before .before .before .before .before .before .before .before .pre .0 in
+    let p = c .before .before .before .before .before .before .before .before .before .before .before .pre in
     rw (c .before .before .before .before .before .dims .ensures) (housed (lent-of (c .before .before .before .before .before .before .before .before .before .before .before)) (p .standing) (c .before .before .before .before .before .before .before .before .before .before .before .args .l) (p .inside) _ _ _ _ _ _ _ _ (spanned (c .before .before .before .before .before .before)), (p .below, p .within))
 
 -- what the test of the layer's reads found
@@ -104,7 +104,7 @@ read-is c every =
     let a = c .before .before .before .before .before .before .before .before .before .before .before .before .args in
     let s = c .before .before .before .before .before .before .before .span-of .result in
     rw (c .before .before .before .before .before .before .dims .ensures, c .before .before .before .before .before .who-in .ensures) at (c .delta-reads .ensures (part (s .words) (s .«words_end» - s .words) (now (a .entries))) (getD (a .h .flags) (a .l) false) every (a .count))
-    ∙ ap (deltaReads (dimsAt (a .h .shape) (a .l)) (delta (a .row) (a .col) (a .count) (whoAt (now (a .words)) (a .l)) every)) (sym (handed-is (lent-of (c .before .before .before .before .before .before .before .before .before .before .before .before)) (c .before .before .before .before .before .before .before .before .before .before .before .before .pre .0 .standing) (a .l) (c .before .before .before .before .before .before .before .before .before .before .before .before .pre .0 .inside) _ _ _ _ _ _ _ _ (spanned (c .before .before .before .before .before .before .before))))
+    ∙ ap (deltaReads (dimsAt (a .h .shape) (a .l)) (delta (a .row) (a .col) (a .count) (whoAt (now (a .words)) (a .l)) every)) (sym (handed-is (lent-of (c .before .before .before .before .before .before .before .before .before .before .before .before)) (c .before .before .before .before .before .before .before .before .before .before .before .before .pre .standing) (a .l) (c .before .before .before .before .before .before .before .before .before .before .before .before .pre .inside) _ _ _ _ _ _ _ _ (spanned (c .before .before .before .before .before .before .before))))
 
 returns : tie.Need-returns
 returns c =
@@ -121,14 +121,14 @@ counter-in c =
     counter-read (dimsAt (a .h .shape) (a .l)) (a .row) (a .col) (a .count) (whoAt (now (a .words)) (a .l)) true
     (part (s .cells) (s .«cells_end» - s .cells) (now (a .counters))) (part (s .norms) (s .«norms_end» - s .norms) (now (a .norms))) (part (s .words) (s .«words_end» - s .words) (now (a .entries))) (part (s .seats) (s .«seats_end» - s .seats) (now (a .counts)))
     (getD (a .h .lens) (a .l) 0) (getD (a .h .flags) (a .l) false)
-    (ap (deltaReads (dimsAt (a .h .shape) (a .l)) (delta (a .row) (a .col) (a .count) (whoAt (now (a .words)) (a .l)) true)) (sym (handed-is (lent-of (c .before .before .before .before .before .before .before .before .before .before .before .before .before)) (c .before .before .before .before .before .before .before .before .before .before .before .before .before .pre .0 .standing) (a .l) (c .before .before .before .before .before .before .before .before .before .before .before .before .before .pre .0 .inside) _ _ _ _ _ _ _ _ (spanned (c .before .before .before .before .before .before .before .before))))
+    (ap (deltaReads (dimsAt (a .h .shape) (a .l)) (delta (a .row) (a .col) (a .count) (whoAt (now (a .words)) (a .l)) true)) (sym (handed-is (lent-of (c .before .before .before .before .before .before .before .before .before .before .before .before .before)) (c .before .before .before .before .before .before .before .before .before .before .before .before .before .pre .standing) (a .l) (c .before .before .before .before .before .before .before .before .before .before .before .before .before .pre .inside) _ _ _ _ _ _ _ _ (spanned (c .before .before .before .before .before .before .before .before))))
     ∙ sym (read-is (c .before) true) ∙ not-false _ (c .if1 .left))
 
 delta-fits-requires : tie.Need-delta-fits-requires
 delta-fits-requires c κs =
-    let p = c .before .before .before .before .before .before .before .before .before .before .before .before .before .pre .0 in
+    let p = c .before .before .before .before .before .before .before .before .before .before .before .before .before .pre in
     let h = housed (lent-of (c .before .before .before .before .before .before .before .before .before .before .before .before .before)) (p .standing) (c .before .before .before .before .before .before .before .before .before .before .before .before .before .args .l) (p .inside) _ _ _ _ _ _ _ _ (spanned (c .before .before .before .before .before .before .before .before)) in
-    rw (c .before .before .before .before .before .before .before .dims .ensures, toZ-ofZ (c .before .before .before .before .before .before .before .before .before .before .before .before .before .fits .count)) ((p .below, p .within), (h .shaped, ((h .cells, c .before .before .before .before .before .before .before .before .before .before .before .before .before .pre .1), counter-in c)))
+    rw (c .before .before .before .before .before .before .before .dims .ensures) ((p .below, p .within), (h .shaped, (h .cells, counter-in c)))
 
 -- what the test of the counter's sum found
 fit-is : (c : tie.After-delta-fits) → (every : Bool) → let a = c .before .before .before .before .before .before .before .before .before .before .before .before .before .before .args in
@@ -138,7 +138,7 @@ fit-is c every =
     let s = c .before .before .before .before .before .before .before .before .before .span-of .result in
     rw (c .before .before .before .before .before .before .before .before .dims .ensures, toZ-ofZ (c .before .before .before .before .before .before .before .before .before .before .before .before .before .before .fits .count)) at (c .delta-fits .ensures (part (s .norms) (s .«norms_end» - s .norms) (now (a .norms))) (part (s .words) (s .«words_end» - s .words) (now (a .entries))) (part (s .seats) (s .«seats_end» - s .seats) (now (a .counts)))
     (getD (a .h .lens) (a .l) 0) (getD (a .h .flags) (a .l) false) every (whoAt (now (a .words)) (a .l)))
-    ∙ ap (deltaFits (dimsAt (a .h .shape) (a .l)) (delta (a .row) (a .col) (a .count) (whoAt (now (a .words)) (a .l)) every)) (sym (handed-is (lent-of (c .before .before .before .before .before .before .before .before .before .before .before .before .before .before)) (c .before .before .before .before .before .before .before .before .before .before .before .before .before .before .pre .0 .standing) (a .l) (c .before .before .before .before .before .before .before .before .before .before .before .before .before .before .pre .0 .inside) _ _ _ _ _ _ _ _ (spanned (c .before .before .before .before .before .before .before .before .before))))
+    ∙ ap (deltaFits (dimsAt (a .h .shape) (a .l)) (delta (a .row) (a .col) (a .count) (whoAt (now (a .words)) (a .l)) every)) (sym (handed-is (lent-of (c .before .before .before .before .before .before .before .before .before .before .before .before .before .before)) (c .before .before .before .before .before .before .before .before .before .before .before .before .before .before .pre .standing) (a .l) (c .before .before .before .before .before .before .before .before .before .before .before .before .before .before .pre .inside) _ _ _ _ _ _ _ _ (spanned (c .before .before .before .before .before .before .before .before .before))))
 
 returns-2 : tie.Need-returns-2
 returns-2 c =
