@@ -14,7 +14,7 @@ ghost use Rattle.heap_moves.specs.declared.Who.{Who};
 ghost use Rattle.countsketch_l2_norm.specs.Sketch.{cellAt};
 ghost use Rattle.heap.specs.Offer.{keptBy, lenBy};
 ghost use Rattle.layer.specs.Layer.{layerOf};
-ghost use Rattle.layer.specs.Delta.{delta, deltaLayer, deltaReads, deltaFits};
+ghost use Rattle.layer.specs.Delta.{delta, deltaLayer, deltaAnswer, deltaReads, deltaFits};
 ghost use Rattle.layer.specs.Needs.{Housed, DeltaReady};
 
 // Whether all that a delta reads of the layer is in range.
@@ -68,6 +68,7 @@ pub fn apply_delta(
     requires { ⌜ DeltaReady d len row col count who (now counters) (now norms) (now entries) (now counts) ⌝ }
     ensures { λ r. ⌜ ((flag every : Bool) → layerOf d (now (counters .exit)) (now (norms .exit)) (now (entries .exit)) (now (counts .exit)) (lenBy r len) (flag && (keptBy r && every))
         ≡ deltaLayer d (delta row col count who every) (layerOf d (now (counters .entry)) (now (norms .entry)) (now (entries .entry)) (now (counts .entry)) len flag)) ⌝ }
+    ensures { λ r. ⌜ ((flag every : Bool) → r ≡ deltaAnswer d (delta row col count who every) (layerOf d (now (counters .entry)) (now (norms .entry)) (now (entries .entry)) (now (counts .entry)) len flag)) ⌝ }
 {
     let rows = d.rows;
     let cols = d.cols;
