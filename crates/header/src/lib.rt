@@ -8,7 +8,7 @@ ghost use mathlib.Core.List.{List};
 ghost use Prim.Native.Nat.{ℕ, _+_, _-_, _<_, _≤_};
 ghost use lib.ListN.{length, getD, set, replicate};
 ghost use Rattle.header.specs.declared.Mode.{Mode};
-ghost use Rattle.header.specs.Shape.{shapeRefusal, checkedShape, bottomOf, bottomLayer};
+ghost use Rattle.header.specs.Shape.{shapeRefusal, checkedShape, sameShape, bottomOf, bottomLayer};
 ghost use Rattle.header.specs.Header.{zeroHeader, freshHeader, withWeight, withMode, withFlags, withLens, withLayer, withLayers, headOf, fixedOf, clash, joined, beginOf, beginHeader, freshFlags, lensFrom, headerOk};
 
 // 2^52, the greatest weight.
@@ -130,6 +130,22 @@ impl Shape {
             return CheckedShape::Refused(n);
         }
         CheckedShape::Good(shape)
+    }
+
+    // Whether two shapes have the same dimensions.
+    pub fn same(self, other: Shape) -> bool
+        ensures { λ r. ⌜ r ≡ sameShape self other ⌝ }
+    {
+        if self.layers != other.layers {
+            return false;
+        }
+        if self.rows != other.rows {
+            return false;
+        }
+        if self.cols != other.cols {
+            return false;
+        }
+        self.heap_size == other.heap_size
     }
 }
 

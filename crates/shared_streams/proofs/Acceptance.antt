@@ -13,7 +13,7 @@ use Rattle.words.specs.Num.{top}
 use Rattle.words.proofs.Bools.{never}
 use Rattle.header.specs.declared.Shape.{Shape}
 use Rattle.header.specs.declared.Mode.{Mode}
-use Rattle.header.specs.Shape.{shapeRefusal}
+use Rattle.header.specs.Shape.{shapeRefusal, sameShape}
 use Rattle.header.specs.Header.{clash}
 use Rattle.univmon.specs.declared.Kind.{Kind}
 use Rattle.univmon.specs.State.{State}
@@ -21,7 +21,7 @@ use Rattle.univmon.specs.Judged.{Out, refused, done, unsound}
 use Rattle.univmon.specs.Updates.{recordLength, modeOf, updateTests, updated, update}
 use Rattle.univmon.specs.Slices.{Lent, view}
 use Rattle.univmon.specs.Calls.{outcomeOf, updateCall}
-use Rattle.univmon_merge.specs.Merges.{sameShape, mergeTests, merged, merge}
+use Rattle.univmon_merge.specs.Merges.{mergeTests, merged, merge}
 use Rattle.univmon_merge.specs.Calls.{mergeCall}
 use Rattle.shared_streams.specs.Books.{Book, bookMode}
 use Rattle.shared_streams.specs.Ledger.{feedNumber, joinNumber, Answers}

@@ -17,11 +17,12 @@ use Rattle.countsketch_l2_norm.proofs.Norms.{norm-at, length-norms}
 use Rattle.heap_moves.specs.Cands.{Cand, noCand}
 use Rattle.heap_moves.specs.Order.{Rest}
 use Rattle.header.specs.declared.Shape.{Shape}
-use Rattle.header.specs.Shape.{maxLayers, shapeRefusal}
+use Rattle.header.specs.Shape.{maxLayers, shapeRefusal, sameShape}
 use Rattle.header.specs.Header.{freshHeader, joined, settled}
 use Rattle.header.specs.Accepted.{Accepted}
 use Rattle.header.proofs.Bottoms.{bottom-lt}
 use Rattle.header.proofs.Refusals.{accepted-of}
+use Rattle.header.proofs.Shapes.{same-of}
 use Rattle.layer.specs.Layer.{Layer, addLayer, addFits}
 use Rattle.layer.specs.Delta.{deltaLayer, deltaFits}
 use Rattle.layer.specs.Merge.{mergeLayer, mergeFits}
@@ -34,8 +35,7 @@ use Rattle.univmon.specs.Updates.{bottomWord, bottomBy, itemAt, modeOf, firstSe
 use Rattle.univmon.specs.Deltas.{Arrival, deltaBy, deltaTests, arrived, applyDelta}
 use Rattle.univmon.proofs.Judging.{layers-step}
 use Rattle.univmon.proofs.Offsets.{off-step}
-use Rattle.univmon_merge.specs.Merges.{sameShape, mergeTests, merged, merge}
-use Rattle.univmon_merge.proofs.MergeCalls.{same-of}
+use Rattle.univmon_merge.specs.Merges.{mergeTests, merged, merge}
 use Rattle.shared_streams.specs.Books.{sent}
 use Rattle.shared_streams.proofs.BookLaws.{sent-room}
 use Rattle.shared_streams.proofs.Fresh.{new-by}

@@ -4,18 +4,19 @@ use mathlib.Core.Bool.{Bool, true, false, cond, not, _&&_, _||_}
 use Prim.Native.Nat.{ℕ, zero, suc, _+_, _≤_}
 use native.Mathlib.Omega.{arith}
 use lib.Dec.{eqb, leb}
-use borrow.Author.Tests.{eq-eqb, ne-eqb, eqb-true, leb-true}
+use borrow.Author.Tests.{eq-eqb, ne-eqb, leb-true}
 use Rattle.words.specs.Num.{top}
 use Rattle.words.proofs.Bools.{never, and-left, and-right}
-use Rattle.header.specs.declared.Shape.{Shape}
 use Rattle.header.specs.declared.Mode.{Mode}
+use Rattle.header.specs.Shape.{sameShape}
 use Rattle.header.specs.Header.{headerOk, clash, begun}
+use Rattle.header.proofs.Shapes.{same-of}
 use Rattle.header.proofs.Ranges.{ranged-of}
 use Rattle.layer.specs.Layer.{Layer}
 use Rattle.univmon.specs.State.{State, sizesOk, layerAt, overLayers, allLayers}
 use Rattle.univmon.specs.Slices.{Lent, lent, lentOk, view, flat}
 use Rattle.univmon.specs.Judged.{refused, done}
-use Rattle.univmon_merge.specs.Merges.{sameShape, mergeTests, merged, merge}
+use Rattle.univmon_merge.specs.Merges.{mergeTests, merged, merge}
 use Rattle.univmon.specs.Calls.{Outcome, outcomeOf, left, leftBy}
 use Rattle.univmon_merge.specs.Calls.{mergeCall}
 use Rattle.univmon.specs.Needs.{Standing}
@@ -29,25 +30,7 @@ stands-of r e = standing-of r (and-left (headerOk (r .head)) (lentOk r) e) (and-
 pub light-of : (r : Lent) → lentStands r ≡ true → r .head .weight ≤ top
 light-of r e = ranged-of (r .head) (and-left (headerOk (r .head)) (lentOk r) e) .light
 
--- ---- one shape
-
-pub same-of : (a b : Shape) → sameShape a b ≡ true → b ≡ a
-same-of a b e =
-    let l = eqb (a .layers) (b .layers) in
-    let r = eqb (a .rows) (b .rows) in
-    let c = eqb (a .cols) (b .cols) in
-    let z = eqb (a .«heap_size») (b .«heap_size») in
-    let lrc = and-left (l && r && c) z e in
-    let lr = and-left (l && r) c lrc in
-    let pl = sym (eqb-true (a .layers) (b .layers) (and-left l r lr)) in
-    let pr = sym (eqb-true (a .rows) (b .rows) (and-right l r lr)) in
-    let pc = sym (eqb-true (a .cols) (b .cols) (and-right (l && r) c lrc)) in
-    let pz = sym (eqb-true (a .«heap_size») (b .«heap_size») (and-right (l && r && c) z e)) in
-    λ i. record { «heap_size» = pz i; rows = pr i; cols = pc i; layers = pl i }
-
--- three tests that hold leave the last
-pub last-test : (l r c z : Bool) → l ≡ true → r ≡ true → c ≡ true → z ≡ l && r && c && z
-last-test l r c z a b d = rw (a, b, d)
+-- ---- the headers
 
 abbrev headsBy : Bool → Bool → Bool → ℕ
 headsBy s c w = cond (not s) 10 (cond c 6 (cond (not w) 7 0))

@@ -1,18 +1,14 @@
 -- A second state merged into a first.
 use Prim.Native.Nat.{ℕ, _+_}
-use mathlib.Core.Bool.{Bool, not, _&&_, _||_}
+use mathlib.Core.Bool.{Bool, not, _||_}
 use mathlib.Core.List.{List, [], _∷_}
-use lib.Dec.{eqb, leb}
+use lib.Dec.{leb}
 use Rattle.words.specs.Num.{top}
-use Rattle.header.specs.declared.Shape.{Shape}
+use Rattle.header.specs.Shape.{sameShape}
 use Rattle.header.specs.Header.{clash, begun}
 use Rattle.layer.specs.Merge.{mergeLayer, mergeReads, mergeFits}
 use Rattle.univmon.specs.State.{State, shapeOf, dimsAt, layerAt, overLayers, allLayers, withHead}
 use Rattle.univmon.specs.Judged.{Out, judge, unsound}
-
--- 10 "layers, rows, cols or heap sizes differ in merge"
-abbrev pub sameShape : Shape → Shape → Bool
-sameShape a b = eqb (a .layers) (b .layers) && eqb (a .rows) (b .rows) && eqb (a .cols) (b .cols) && eqb (a .«heap_size») (b .«heap_size»)
 
 unfoldable pub mergeTests : State → State → List (Bool × ℕ)
 mergeTests s t =

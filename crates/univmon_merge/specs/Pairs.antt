@@ -6,12 +6,12 @@ use lib.Dec.{eqb, leb}
 use Rattle.words.specs.Num.{top}
 use Rattle.header.specs.declared.Shape.{Shape}
 use Rattle.header.specs.declared.Header.{Header}
+use Rattle.header.specs.Shape.{sameShape}
 use Rattle.header.specs.Header.{headerOk, clash}
 use Rattle.layer.specs.Layer.{Layer}
 use Rattle.layer.specs.Merge.{mergeLayer, mergeReads, mergeFits}
 use Rattle.univmon.specs.State.{State, dimsAt, layerAt, allLayers}
 use Rattle.univmon.specs.Slices.{Lent, lentOk, view}
-use Rattle.univmon_merge.specs.Merges.{sameShape}
 use Rattle.univmon.specs.Needs.{Standing}
 
 -- the tests and the step of a merge at each layer, by the second state

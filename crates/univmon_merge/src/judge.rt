@@ -1,7 +1,6 @@
 // What a merge reads of two states, whether the sums fit, and the number that it is refused with: nothing
 // is written here. Both states are lent whole, so that a contract can name them.
 use header::Header;
-use header::Shape;
 use univmon::sizes::lengths_match;
 use univmon::sizes::span_of;
 ghost use mathlib.Core.Path.{_≡_};
@@ -9,7 +8,6 @@ ghost use Prim.Native.Nat.{_≤_};
 ghost use Rattle.words.specs.Num.{top};
 ghost use Rattle.univmon.specs.State.{layerAt, allLayers};
 ghost use Rattle.univmon.specs.Slices.{lent, view};
-ghost use Rattle.univmon_merge.specs.Merges.{sameShape};
 ghost use Rattle.univmon_merge.specs.Pairs.{Paired, PairRead, PairsRead, readsWith, fitsWith, lentStands, headsNumber, layersNumber, mergeNumber};
 
 // Whether what a merge reads of one layer of both states is in range.
@@ -158,21 +156,6 @@ fn all_fit(
 // 2^52, the greatest weight.
 const TOP: u64 = 4503599627370496;
 
-fn same_shape(a: Shape, b: Shape) -> bool
-    ensures { λ r. ⌜ r ≡ sameShape a b ⌝ }
-{
-    if a.layers != b.layers {
-        return false;
-    }
-    if a.rows != b.rows {
-        return false;
-    }
-    if a.cols != b.cols {
-        return false;
-    }
-    a.heap_size == b.heap_size
-}
-
 // Whether a header is in range, and the slices are as long as it says.
 fn stands(h: Header, counters: &[i64], norms: &[u64], entries: &[u64], counts: &[i64]) -> bool
     ensures { λ r. ⌜ r ≡ lentStands (lent h (now (counters .entry)) (now (norms .entry)) (now (entries .entry)) (now (counts .entry))) ⌝ }
@@ -194,7 +177,8 @@ fn heads_refusal(h: Header, other: Header) -> u64
     requires { ⌜ (h .weight ≤ top) × (other .weight ≤ top) ⌝ }
     ensures { λ r. ⌜ r ≡ headsNumber h other ⌝ }
 {
-    if !same_shape(h.shape, other.shape) {
+    let shape = h.shape;
+    if !shape.same(other.shape) {
         return 10;
     }
     let had = h.mode;
