@@ -11,7 +11,7 @@ ghost use Rattle.words.specs.Num.{top};
 ghost use Rattle.words.specs.Tests.{number};
 ghost use Rattle.header.specs.declared.Mode.{Mode};
 ghost use Rattle.header.specs.Totals.{noTotals, updateTotals, addTotals, setWeight, totalsOk, totalsTests};
-ghost use Rattle.header.specs.Shape.{maxLayers, shapeRefusal, checkedShape, bottomOf, bottomLayer};
+ghost use Rattle.header.specs.Shape.{maxLayers, shapeRefusal, checkedShape, sameShape, bottomOf, bottomLayer};
 ghost use Rattle.header.specs.Header.{zeroHeader, freshHeader, withTotals, withMode, withFlags, withLens, withLayer, withLayers, headOf, scalarsOf, clash, joined, beginTests, beginOf, beginHeader, freshFlags, lensFrom, headerOk};
 
 // Heap size, rows, columns and layers.
@@ -133,6 +133,22 @@ impl Shape {
             return CheckedShape::Refused(n);
         }
         CheckedShape::Good(shape)
+    }
+
+    // Whether two shapes have the same dimensions.
+    pub fn same(self, other: Shape) -> bool
+        ensures { λ r. ⌜ r ≡ sameShape self other ⌝ }
+    {
+        if self.layers != other.layers {
+            return false;
+        }
+        if self.rows != other.rows {
+            return false;
+        }
+        if self.cols != other.cols {
+            return false;
+        }
+        self.heap_size == other.heap_size
     }
 }
 

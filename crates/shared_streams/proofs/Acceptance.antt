@@ -13,7 +13,7 @@ use Rattle.words.proofs.Bools.{never}
 use Rattle.words.proofs.Tests.{Off, off-number, number-rest, number-alone}
 use Rattle.header.specs.declared.Shape.{Shape}
 use Rattle.header.specs.declared.Mode.{Mode}
-use Rattle.header.specs.Shape.{shapeRefusal}
+use Rattle.header.specs.Shape.{shapeRefusal, sameShape}
 use Rattle.header.specs.Totals.{totalsTests}
 use Rattle.header.specs.Header.{scalarsOf, clash, beginTests}
 use Rattle.univmon.specs.declared.Kind.{Kind}
@@ -23,7 +23,7 @@ use Rattle.layout.specs.Outcomes.{Outcome, judge, lentTests}
 use Rattle.layout.proofs.Judged.{passed, refused}
 use Rattle.univmon.specs.Updates.{modeOf, sentTests, updateTests, updated}
 use Rattle.univmon.specs.Calls.{updateCall}
-use Rattle.univmon_merge.specs.Merges.{sameShape, pairTests, mergeTests, merged, mergeCall}
+use Rattle.univmon_merge.specs.Merges.{pairTests, mergeTests, merged, mergeCall}
 use Rattle.shared_streams.specs.Books.{Book, bookMode}
 use Rattle.shared_streams.specs.Ledger.{feedTests, feedNumber, joinTests, joinNumber, Answers}
 use Rattle.shared_streams.proofs.Relays.{RelayBy}

@@ -13,12 +13,13 @@ use Rattle.words.proofs.Lists.{getD-all}
 use Rattle.countsketch_l2_norm.proofs.Bounds.{kept-none}
 use Rattle.heap_moves.specs.Cands.{noCand}
 use Rattle.header.specs.declared.Shape.{Shape}
-use Rattle.header.specs.Shape.{shapeRefusal}
+use Rattle.header.specs.Shape.{shapeRefusal, sameShape}
 use Rattle.header.specs.Totals.{updateTotals, addTotals}
 use Rattle.header.specs.Header.{freshHeader, joined, settled}
 use Rattle.header.specs.Accepted.{Accepted}
 use Rattle.header.proofs.Bottoms.{bottom-lt}
 use Rattle.header.proofs.Refusals.{accepted-of}
+use Rattle.header.proofs.Shapes.{same-of}
 use Rattle.layer.specs.declared.Dims.{Dims}
 use Rattle.layer.specs.Layer.{Layer, noLayer, addLayer, addFits}
 use Rattle.layer.specs.Delta.{deltaLayer, deltaFits}
@@ -31,8 +32,7 @@ use Rattle.layout.proofs.Fresh.{new-layer, new-sized, new-past-lens, new-past-f
 use Rattle.univmon.specs.Updates.{bottomBy, itemAt, modeOf, firstSent, manySent, sentAll, sentTests, updated}
 use Rattle.univmon.proofs.Touched.{sent-room}
 use Rattle.univmon_delta.specs.Deltas.{Arrival, deltaBy, counterTests, deltaTestsAt, arrived}
-use Rattle.univmon_merge.specs.Merges.{sameShape, pairTests, merged}
-use Rattle.univmon_merge.proofs.MergeCalls.{same-of}
+use Rattle.univmon_merge.specs.Merges.{pairTests, merged}
 use Rattle.layout.proofs.Offsets.{shaped-at}
 use Rattle.state_check.proofs.KeptLayers.{add-whole, delta-whole, merge-whole}
 use Rattle.state_check.proofs.Passed.{passed-at}

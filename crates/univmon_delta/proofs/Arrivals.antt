@@ -72,7 +72,6 @@ module _ {r : Lent} {words : List ℕ} {l row col : ℕ} {n : ℤ} {s : Span} (p
         words = word-length q;
         below = p .placed .below;
         inside = p .placed .within;
-        small = p .small;
         read = delta-reads-are d row col n who true xs ws es ns len false ∙ sym (delta-reads-are d row col n who true xs ws es ns len flag) ∙ ap (deltaReads d (delta row col n who true)) (sym (handed-is q)) ∙ p .read;
         fit = ap (deltaFits d (delta row col n who true)) (sym (handed-is q)) ∙ p .fit;
       }

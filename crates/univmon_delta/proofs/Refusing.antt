@@ -42,10 +42,10 @@ module _ (r : Lent) (words : List ℕ) (a : Arrival) where
   call-done z = left-done (deltaTests r words a) r _ refl z
 
   -- what is not refused may be made, in whatever mode; the tests look neither at the mode nor at the fidelity
-  pub arrives-of : (m : Mode) → number (deltaTests r words a) ≡ 0 → natAbs (a .count) ≤ top
+  pub arrives-of : (m : Mode) → number (deltaTests r words a) ≡ 0
       → Arrives (lent (withMode (r .head) m) (r .counters) (r .norms) (r .entries) (r .counts)) words (a .layer) (a .row) (a .col) (a .count)
   unfolding deltaTests view layerAt deltaReads deltaFits
-  arrives-of m z k =
+  arrives-of m z =
       let p = off-number (deltaTests r words a) refl z in
       let s = standing-of r (not-false _ (p .0)) (not-false _ (p .1 .0)) in
       let at = p .1 .1 .1 in
@@ -57,7 +57,6 @@ module _ (r : Lent) (words : List ℕ) (a : Arrival) where
           below = leb-false _ _ (at .1 .0);
           within = leb-false _ _ (at .1 .1 .0);
         };
-        small = k;
         read = not-false _ (at .1 .1 .1 .0);
         fit = not-false _ (at .1 .1 .1 .1 .0);
       }

@@ -1,11 +1,10 @@
 -- What the functions of a delta need, by name, and the number that a delta is refused with.
-use Prim.Native.Nat.{ℕ, _≤_, _<_}
+use Prim.Native.Nat.{ℕ, _<_}
 use mathlib.Core.Path.{_≡_}
 use mathlib.Core.Bool.{true}
 use mathlib.Core.List.{List}
 use lib.ListN.{length}
-use lib.IntN.{ℤ, natAbs}
-use Rattle.words.specs.Num.{top}
+use lib.IntN.{ℤ}
 use Rattle.layer.specs.Delta.{delta, deltaReads, deltaFits}
 use Rattle.univmon_delta.specs.declared.Fidelity.{Fidelity}
 use Rattle.layout.specs.State.{dimsAt, layerAt}
@@ -28,6 +27,5 @@ pub record Placed (r : Lent) (words : List ℕ) (l row col : ℕ) : Type 0 where
 -- what the delta on one layer needs
 pub record Arrives (r : Lent) (words : List ℕ) (l row col : ℕ) (n : ℤ) : Type 0 where
   pub placed : Placed r words l row col
-  pub small : natAbs n ≤ top
   pub read : deltaReads (dimsAt (r .head .shape) l) (delta row col n (whoAt words l) true) (layerAt (view r) l) ≡ true
   pub fit : deltaFits (dimsAt (r .head .shape) l) (delta row col n (whoAt words l) true) (layerAt (view r) l) ≡ true

@@ -13,9 +13,7 @@ use layout::span_of;
 use layout::who_in;
 ghost use mathlib.Core.Path.{_≡_};
 ghost use mathlib.Core.Bool.{Bool, true, _&&_};
-ghost use Prim.Native.Nat.{ℕ, _≤_, _<_};
-ghost use lib.IntN.{ℤ, natAbs};
-ghost use Rattle.words.specs.Num.{top};
+ghost use Prim.Native.Nat.{ℕ, _<_};
 ghost use Rattle.words.specs.Tests.{number};
 ghost use Rattle.heap.specs.Offer.{keptBy};
 ghost use Rattle.layer.specs.Delta.{delta, deltaLayer};
@@ -69,7 +67,6 @@ fn judge_delta(
     count: i64,
 ) -> u64
     requires { ⌜ Placed (lent h (now counters) (now norms) (now entries) (now counts)) (now words) l row col ⌝ }
-    requires { ⌜ natAbs count ≤ top ⌝ }
     ensures { λ r. ⌜ ((every : Bool) → r ≡ number (deltaTestsAt (dimsAt (h .shape) l) (delta row col count (whoAt (now (words .entry)) l) every)
         (layerAt (view (lent h (now (counters .entry)) (now (norms .entry)) (now (entries .entry)) (now (counts .entry)))) l))) ⌝ }
 {
@@ -160,7 +157,6 @@ fn delta_refusal(
     col: usize,
     count: i64,
 ) -> u64
-    requires { ⌜ natAbs count ≤ top ⌝ }
     ensures { λ r. ⌜ ((f : Fidelity) → r ≡ number (deltaTests (lent h (now (counters .entry)) (now (norms .entry)) (now (entries .entry)) (now (counts .entry))) (now (words .entry)) (arrival l row col count f))) ⌝ }
 {
     let unfit = lent_refusal(h, counters, norms, entries, counts);

@@ -12,36 +12,20 @@ use Rattle.words.proofs.Tests.{Off, number-off, off-number, number-first, numbe
 use Rattle.header.specs.declared.Shape.{Shape}
 use Rattle.header.specs.declared.Mode.{Mode}
 use Rattle.header.specs.declared.Totals.{Totals}
+use Rattle.header.specs.Shape.{sameShape}
 use Rattle.header.specs.Totals.{totalsTests}
+use Rattle.header.proofs.Shapes.{same-of}
 use Rattle.header.specs.Header.{begun}
 use Rattle.layer.specs.Layer.{Layer}
 use Rattle.layout.specs.State.{layerAt, overLayers, allLayers}
 use Rattle.layout.specs.Slices.{Lent, lent, view, flat}
 use Rattle.layout.specs.Outcomes.{left, leftBy, lentTests}
-use Rattle.univmon_merge.specs.Merges.{sameShape, headsTests, pairTests, mergeTests, merged, mergeCall}
+use Rattle.univmon_merge.specs.Merges.{headsTests, pairTests, mergeTests, merged, mergeCall}
 use Rattle.univmon_merge.specs.Pairs.{Paired, MergesReady, readsWith, fitsWith, mergesWith}
 use Rattle.layout.proofs.Judged.{left-refused, left-done}
 use Rattle.layout.proofs.Lengths.{stands-of}
 
--- ---- one shape
-
-pub same-of : (a b : Shape) → sameShape a b ≡ true → b ≡ a
-same-of a b e =
-    let l = eqb (a .layers) (b .layers) in
-    let r = eqb (a .rows) (b .rows) in
-    let c = eqb (a .cols) (b .cols) in
-    let z = eqb (a .«heap_size») (b .«heap_size») in
-    let lrc = and-left (l && r && c) z e in
-    let lr = and-left (l && r) c lrc in
-    let pl = sym (eqb-true (a .layers) (b .layers) (and-left l r lr)) in
-    let pr = sym (eqb-true (a .rows) (b .rows) (and-right l r lr)) in
-    let pc = sym (eqb-true (a .cols) (b .cols) (and-right (l && r) c lrc)) in
-    let pz = sym (eqb-true (a .«heap_size») (b .«heap_size») (and-right (l && r && c) z e)) in
-    λ i. record { «heap_size» = pz i; rows = pr i; cols = pc i; layers = pl i }
-
--- three tests that hold leave the last
-pub last-test : (l r c z : Bool) → l ≡ true → r ≡ true → c ≡ true → z ≡ l && r && c && z
-last-test l r c z a b d = rw (a, b, d)
+-- ---- the headers
 
 -- the tests of the layers look neither at the totals nor at the mode
 all-begun : (p : ℕ → Layer → Bool) (k l : ℕ) (r : Lent) (w : Totals) (m : Mode) → allLayers p k l (view (lent (begun (r .head) w m) (r .counters) (r .norms) (r .entries) (r .counts))) ≡ allLayers p k l (view r)

@@ -1,10 +1,9 @@
 -- A second state merged into a first.
 use Prim.Native.Nat.{ℕ}
-use mathlib.Core.Bool.{Bool, not, _&&_}
+use mathlib.Core.Bool.{Bool, not}
 use mathlib.Core.List.{List, [], _∷_, _++_}
-use lib.Dec.{eqb}
-use Rattle.header.specs.declared.Shape.{Shape}
 use Rattle.header.specs.declared.Header.{Header}
+use Rattle.header.specs.Shape.{sameShape}
 use Rattle.header.specs.Totals.{totalsTests}
 use Rattle.header.specs.Header.{clash, begun}
 use Rattle.layer.specs.Merge.{mergeLayer, mergeReads, mergeFits}
@@ -12,9 +11,6 @@ use Rattle.layout.specs.State.{State, shapeOf, dimsAt, layerAt, overLayers, all
 use Rattle.layout.specs.Slices.{Lent, view, flat}
 use Rattle.layout.specs.Outcomes.{Outcome, judge, lentTests}
 
--- 10 "layers, rows, cols or heap sizes differ in merge"
-abbrev pub sameShape : Shape → Shape → Bool
-sameShape a b = eqb (a .layers) (b .layers) && eqb (a .rows) (b .rows) && eqb (a .cols) (b .cols) && eqb (a .«heap_size») (b .«heap_size»)
 
 unfoldable pub merged : State → State → State
 merged s t =

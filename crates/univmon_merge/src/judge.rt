@@ -1,7 +1,6 @@
 // What a merge reads of two states, whether the sums fit, and the number that it is refused with: nothing
 // is written here. Both states are lent whole, so that a contract can name them.
 use header::Header;
-use header::Shape;
 use layout::cells_at;
 use layout::lent_refusal;
 use layout::seats_at;
@@ -9,7 +8,7 @@ ghost use mathlib.Core.Path.{_≡_};
 ghost use Rattle.words.specs.Tests.{number};
 ghost use Rattle.layout.specs.State.{layerAt, allLayers};
 ghost use Rattle.layout.specs.Slices.{lent, view};
-ghost use Rattle.univmon_merge.specs.Merges.{sameShape, headsTests, pairTests, mergeTests};
+ghost use Rattle.univmon_merge.specs.Merges.{headsTests, pairTests, mergeTests};
 ghost use Rattle.univmon_merge.specs.Pairs.{Paired, PairRead, PairsRead, readsWith, fitsWith};
 
 // Whether what a merge reads of one layer of both states is in range.
@@ -152,26 +151,12 @@ fn all_fit(
 
 // ---- the number that a merge is refused with
 
-fn same_shape(a: Shape, b: Shape) -> bool
-    ensures { λ r. ⌜ r ≡ sameShape a b ⌝ }
-{
-    if a.layers != b.layers {
-        return false;
-    }
-    if a.rows != b.rows {
-        return false;
-    }
-    if a.cols != b.cols {
-        return false;
-    }
-    a.heap_size == b.heap_size
-}
-
 // 10, 6 or 7 by the two headers, 0 for none.
 fn heads_refusal(h: Header, other: Header) -> u64
     ensures { λ r. ⌜ r ≡ number (headsTests h other) ⌝ }
 {
-    if !same_shape(h.shape, other.shape) {
+    let shape = h.shape;
+    if !shape.same(other.shape) {
         return 10;
     }
     let had = h.mode;

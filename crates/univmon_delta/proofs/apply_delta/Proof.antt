@@ -1,15 +1,12 @@
 -- `univmon_delta::apply_delta` meets its contract.
 -- Written by tools/places.py from answers.txt; assumes nothing.
-use Prim.Native.Nat.{_^_, _≤_, _<_}
 use mathlib.Core.Path.{_≡_, sym, ap, _∙_}
-use lib.IntN.{ℤ, natAbs}
-use native.Mathlib.Omega.{arith}
+use lib.IntN.{ℤ}
 use borrow.Author.Needs.{needs}
 use denote.Ref.{now}
 use mir.Syntax.{w64, w32}
 use mir.Val.{toZ, ofZ}
-use mir.Facts.{toZ-ofZ, sfits-widen, fits-natAbs}
-use Rattle.words.specs.Num.{top}
+use mir.Facts.{toZ-ofZ, sfits-widen}
 use Rattle.header.specs.Header.{withMode, settled}
 use Rattle.layout.specs.Slices.{lent, view, Lent}
 use Rattle.layout.specs.Outcomes.{left}
@@ -31,15 +28,8 @@ delta-of c = arrival (c .args .layer) (c .args .row) (c .args .col) (c .args .co
 cast-n : tie.Need-cast-n
 cast-n c = rw (toZ-ofZ (c .before .before .before .fits .count)) (sfits-widen tt (c .before .before .before .fits .count))
 
--- the count of 32 bits is the same in 64, and small
-count-is : (c : tie.Start) → toZ w64 (ofZ w64 (toZ w32 (ofZ w32 (c .args .count)))) ≡ c .args .count
-count-is c = ap (λ (z : ℤ). toZ w64 (ofZ w64 z)) (toZ-ofZ (c .fits .count)) ∙ toZ-ofZ (sfits-widen tt (c .fits .count))
-
-small : (c : tie.Start) → natAbs (c .args .count) ≤ top
-small c = let f : natAbs (c .args .count) < 2 ^ 32 = fits-natAbs {w = w32} {w′ = w32} tt (c .fits .count) .fits in omega arith
-
 delta-refusal-requires : tie.Need-delta-refusal-requires
-delta-refusal-requires c κs = rw (count-is (c .before .before .before .before .before .before .before)) (small (c .before .before .before .before .before .before .before))
+delta-refusal-requires c κs = search needs
 
 same-length : tie.Need-same-length
 same-length c = search needs
@@ -52,6 +42,10 @@ same-length-3 c = search needs
 
 same-length-4 : tie.Need-same-length-4
 same-length-4 c = search needs
+
+-- the count of 32 bits is the same in 64
+count-is : (c : tie.Start) → toZ w64 (ofZ w64 (toZ w32 (ofZ w32 (c .args .count)))) ≡ c .args .count
+count-is c = ap (λ (z : ℤ). toZ w64 (ofZ w64 z)) (toZ-ofZ (c .fits .count)) ∙ toZ-ofZ (sfits-widen tt (c .fits .count))
 
 -- the number that was found
 number-is : (c : tie.After-delta-refusal) → c .delta-refusal .result ≡ number (deltaTests (lent-of (c .before .before .before .before .before .before .before .before)) (now (c .before .before .before .before .before .before .before .before .args .words)) (delta-of (c .before .before .before .before .before .before .before .before)))
@@ -78,7 +72,7 @@ header-set : (c : tie.After-with-mode) → c .with-mode .result ≡ withMode (c 
 header-set c = rw (c .before .join .ensures) at (c .with-mode .ensures)
 
 deliver-requires : tie.Need-deliver-requires
-deliver-requires c κs = rw (header-set (c .before .before .before .before .before), count-is (c .before .before .before .before .before .before .before .before .before .before .before .before .before .before .before .before)) (arrives-of (lent-of (c .before .before .before .before .before .before .before .before .before .before .before .before .before .before .before .before)) (now (c .before .before .before .before .before .before .before .before .before .before .before .before .before .before .before .before .args .words)) (delta-of (c .before .before .before .before .before .before .before .before .before .before .before .before .before .before .before .before)) (settled (c .before .before .before .before .before .before .before .before .before .before .before .before .before .before .before .before .args .header .mode)) (none (c .before .before .before .before .before .before .before)) (small (c .before .before .before .before .before .before .before .before .before .before .before .before .before .before .before .before)))
+deliver-requires c κs = rw (header-set (c .before .before .before .before .before), count-is (c .before .before .before .before .before .before .before .before .before .before .before .before .before .before .before .before)) (arrives-of (lent-of (c .before .before .before .before .before .before .before .before .before .before .before .before .before .before .before .before)) (now (c .before .before .before .before .before .before .before .before .before .before .before .before .before .before .before .before .args .words)) (delta-of (c .before .before .before .before .before .before .before .before .before .before .before .before .before .before .before .before)) (settled (c .before .before .before .before .before .before .before .before .before .before .before .before .before .before .before .before .args .header .mode)) (none (c .before .before .before .before .before .before .before)))
 
 same-length-5 : tie.Need-same-length-5
 same-length-5 c = search needs

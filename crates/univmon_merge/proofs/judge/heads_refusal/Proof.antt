@@ -9,8 +9,8 @@ use Rattle.univmon_merge.specs.Merges.{sameShape}
 use Rattle.univmon_merge.proofs.judge.heads_refusal.Statement.{statement}
 use Rattle.univmon_merge.proofs.judge.heads_refusal.Tie as tie
 
-same-shape-requires : tie.Need-same-shape-requires
-same-shape-requires c κs = search needs
+same-requires : tie.Need-same-requires
+same-requires c κs = search needs
 
 returns : tie.Need-returns
 returns c = simp (sym (c .before .same-shape .ensures) ∙ not-true _ (c .if1 .taken))
@@ -19,8 +19,8 @@ clashes-requires : tie.Need-clashes-requires
 clashes-requires c κs = search needs
 
 -- the shapes were found the same, and the modes fit
-same : (c : tie.Else1) → sameShape (c .before .before .args .h .shape) (c .before .before .args .other .shape) ≡ true
-same c = sym (c .before .same-shape .ensures) ∙ not-false _ (c .if1 .left)
+shapes : (c : tie.Else1) → sameShape (c .before .before .before .args .h .shape) (c .before .before .before .args .other .shape) ≡ true
+shapes c = sym (c .before .same .ensures) ∙ not-false _ (c .if1 .left)
 
 returns-2 : tie.Need-returns-2
 returns-2 c = simp (same (c .before .before), sym (c .before .clashes .ensures) ∙ c .if2 .taken)
@@ -28,7 +28,7 @@ returns-2 c = simp (same (c .before .before), sym (c .before .clashes .ensures) 
 sum-refusal-requires : tie.Need-sum-refusal-requires
 sum-refusal-requires c κs = search needs
 
-modes : (c : tie.Else2) → clash (c .before .before .before .before .args .h .mode) (c .before .before .before .before .args .other .mode) ≡ false
+modes : (c : tie.Else2) → clash (c .before .before .before .before .before .args .h .mode) (c .before .before .before .before .before .args .other .mode) ≡ false
 modes c = sym (c .before .clashes .ensures) ∙ c .if2 .left
 
 returns-3 : tie.Need-returns-3

@@ -1,9 +1,9 @@
--- `univmon_merge::judge::same_shape` meets its contract.
+-- `header::Shape::same` meets its contract.
 -- Written by tools/places.py from answers.txt; assumes nothing.
 use borrow.Author.Tests.{eq-eqb, ne-eqb}
-use Rattle.univmon_merge.proofs.MergeCalls.{last-test}
-use Rattle.univmon_merge.proofs.judge.same_shape.Statement.{statement}
-use Rattle.univmon_merge.proofs.judge.same_shape.Tie as tie
+use Rattle.header.proofs.Shapes.{last-test}
+use Rattle.header.proofs.Shape.same.Statement.{statement}
+use Rattle.header.proofs.Shape.same.Tie as tie
 
 returns : tie.Need-returns
 returns c = simp (ne-eqb _ _ (c .if1 .taken))
@@ -17,5 +17,5 @@ returns-3 c = simp (eq-eqb _ _ (c .before .before .before .before .before .befor
 returns-4 : tie.Need-returns-4
 returns-4 c = last-test _ _ _ _ (eq-eqb _ _ (c .before .before .before .before .before .before .before .before .if1 .left)) (eq-eqb _ _ (c .before .before .before .before .before .if2 .left)) (eq-eqb _ _ (c .before .before .if3 .left))
 
-pub same-shape-spec : {M : Type 1} → statement M
-same-shape-spec = tie.close (tie.spec returns returns-2 returns-3 returns-4)
+pub same-spec : {M : Type 1} → statement M
+same-spec = tie.close (tie.spec returns returns-2 returns-3 returns-4)
