@@ -125,7 +125,7 @@ layer-now : (c : tie.After-apply-delta) → let a = c .before .before .before .b
     ≡ deltaLayer (dimsAt (a .h .shape) (a .l)) (delta (a .row) (a .col) (a .count) (whoAt (now (a .words)) (a .l)) (a .every)) (layerAt (view (lent-of (c .before .before .before .before .before .before .before .before .before .before .before .before .before))) (a .l))
 layer-now c =
     let a = c .before .before .before .before .before .before .before .before .before .before .before .before .before .args in
-    rw (c .before .before .before .before .before .before .before .dims .ensures, c .before .before .before .before .before .before .who-in .ensures, toZ-ofZ (c .before .before .before .before .before .before .before .before .before .before .before .before .before .fits .count)) at (c .apply-delta .ensures (getD (a .h .flags) (a .l) false) (a .every))
+    rw (c .before .before .before .before .before .before .before .dims .ensures, c .before .before .before .before .before .before .who-in .ensures, toZ-ofZ (c .before .before .before .before .before .before .before .before .before .before .before .before .before .fits .count)) at (c .apply-delta .ensures .0 (getD (a .h .flags) (a .l) false) (a .every))
     ∙ ap (deltaLayer (dimsAt (a .h .shape) (a .l)) (delta (a .row) (a .col) (a .count) (whoAt (now (a .words)) (a .l)) (a .every))) (sym (handed-is (spanned (c .before .before .before .before .before .before .before .before))))
 
 -- the header as it is handed back

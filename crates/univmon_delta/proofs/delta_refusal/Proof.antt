@@ -61,10 +61,7 @@ returns-5 c = λ f. simp ((passed (c .before .before .before .before .before .be
 
 judge-delta-requires : tie.Need-judge-delta-requires
 judge-delta-requires c κs =
-    rw (toZ-ofZ (c .before .before .before .before .before .before .before .before .before .before .before .before .before .before .before .fits .count)) (
-      record { standing = standing (c .before .before .before .before .before .before .before .before .before .before); recorded = c .before .before .before .before .before .before .before .if2 .left; inside = c .before .before .before .before .before .if3 .left; below = rw (c .before .before .before .before .dims .ensures) at (c .before .before .if4 .left); within = rw (c .before .before .before .before .dims .ensures) at (c .if5 .left) },
-      c .before .before .before .before .before .before .before .before .before .before .before .before .before .before .before .pre,
-    )
+    record { standing = standing (c .before .before .before .before .before .before .before .before .before .before); recorded = c .before .before .before .before .before .before .before .if2 .left; inside = c .before .before .before .before .before .if3 .left; below = rw (c .before .before .before .before .dims .ensures) at (c .before .before .if4 .left); within = rw (c .before .before .before .before .dims .ensures) at (c .if5 .left) }
 
 returns-6 : tie.Need-returns-6
 unfolding deltaTests

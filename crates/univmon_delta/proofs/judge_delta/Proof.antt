@@ -30,29 +30,29 @@ abbrev lent-of : tie.Start → Lent
 lent-of c = lent (c .args .h) (now (c .args .counters)) (now (c .args .norms)) (now (c .args .entries)) (now (c .args .counts))
 
 here : (c : tie.Start) → layerAt (view (lent-of c)) (c .args .l) ≡ layerHere (lent-of c) (c .args .l)
-here c = layer-view (lent-of c) (c .pre .0 .standing .sizes) (c .args .l) (c .pre .0 .inside)
+here c = layer-view (lent-of c) (c .pre .standing .sizes) (c .args .l) (c .pre .inside)
 
 who-in-requires : tie.Need-who-in-requires
-who-in-requires c κs = let p = c .before .before .before .before .before .pre .0 in (omega (arith, p .inside, p .standing .accepted .few), omega (arith, p .inside, p .recorded))
+who-in-requires c κs = let p = c .before .before .before .before .before .pre in (omega (arith, p .inside, p .standing .accepted .few), omega (arith, p .inside, p .recorded))
 
 mul-len : tie.Need-mul-len
-mul-len c = let p = c .before .before .before .before .before .before .before .pre .0 in let q = p .standing .accepted .few in let i = p .inside in search needs
+mul-len c = let p = c .before .before .before .before .before .before .before .pre in let q = p .standing .accepted .few in let i = p .inside in search needs
 
 array-read-len : tie.Need-array-read-len
-array-read-len c = let p = c .before .before .before .before .before .before .before .pre .0 in let q = p .standing .accepted .few in let i = p .inside in search needs
+array-read-len c = let p = c .before .before .before .before .before .before .before .pre in let q = p .standing .accepted .few in let i = p .inside in search needs
 
 cells-at-requires : tie.Need-cells-at-requires
-cells-at-requires c κs = let p = c .before .before .before .before .before .before .before .pre .0 in (p .standing .accepted, (p .inside, p .standing .sizes .cells))
+cells-at-requires c κs = let p = c .before .before .before .before .before .before .before .pre in (p .standing .accepted, (p .inside, p .standing .sizes .cells))
 
 norms-at-requires : tie.Need-norms-at-requires
-norms-at-requires c κs = let p = c .before .before .before .before .before .before .before .before .pre .0 in (p .standing .accepted, (p .inside, p .standing .sizes .norms))
+norms-at-requires c κs = let p = c .before .before .before .before .before .before .before .before .pre in (p .standing .accepted, (p .inside, p .standing .sizes .norms))
 
 seats-at-requires : tie.Need-seats-at-requires
-seats-at-requires c κs = let p = c .before .before .before .before .before .before .before .before .before .pre .0 in (p .standing .accepted, (p .inside, p .standing .sizes .counts))
+seats-at-requires c κs = let p = c .before .before .before .before .before .before .before .before .before .pre in (p .standing .accepted, (p .inside, p .standing .sizes .counts))
 
 delta-reads-requires : tie.Need-delta-reads-requires
 delta-reads-requires c κs =
-    let p = c .before .before .before .before .before .before .before .before .before .before .pre .0 in
+    let p = c .before .before .before .before .before .before .before .before .before .before .pre in
     rw (c .before .before .before .before .before .dims .ensures, c .before .before .cells-at .ensures, c .before .norms-at .ensures, c .seats-at .ensures) (housed-here (lent-of (c .before .before .before .before .before .before .before .before .before .before)) (p .standing) (c .before .before .before .before .before .before .before .before .before .before .args .l) (p .inside), (p .below, p .within))
 
 -- what the test of the layer's reads found
@@ -85,9 +85,9 @@ counter-in c =
 
 delta-fits-requires : tie.Need-delta-fits-requires
 delta-fits-requires c κs =
-    let p = c .before .before .before .before .before .before .before .before .before .before .before .before .pre .0 in
+    let p = c .before .before .before .before .before .before .before .before .before .before .before .before .pre in
     let h = housed-here (lent-of (c .before .before .before .before .before .before .before .before .before .before .before .before)) (p .standing) (c .before .before .before .before .before .before .before .before .before .before .before .before .args .l) (p .inside) in
-    rw (c .before .before .before .before .before .before .before .dims .ensures, c .before .before .before .before .cells-at .ensures, toZ-ofZ (c .before .before .before .before .before .before .before .before .before .before .before .before .fits .count)) ((p .below, p .within), (h .shaped, ((h .cells, c .before .before .before .before .before .before .before .before .before .before .before .before .pre .1), counter-in c)))
+    rw (c .before .before .before .before .before .before .before .dims .ensures, c .before .before .before .before .cells-at .ensures) ((p .below, p .within), (h .shaped, (h .cells, counter-in c)))
 
 -- what the test of the counter's sum found
 fit-is : (c : tie.After-delta-fits) → (every : Bool) → let a = c .before .before .before .before .before .before .before .before .before .before .before .before .before .args in
