@@ -10,7 +10,7 @@ use denote.Ref.{now}
 use Rattle.header.proofs.Refusals.{accepted-of}
 use Rattle.layout.specs.Slices.{Lent, lent}
 use Rattle.layout.specs.Outcomes.{left}
-use Rattle.panel_step.specs.declared.extent.Extent.{Extent}
+use Rattle.layout.specs.declared.Extent.{Extent}
 use Rattle.panel_step.specs.Panel.{refusalIn}
 use Rattle.panel_step.proofs.Rooms.{Fit, fit-of}
 use Rattle.panel_step.proofs.Fronts.{not-started, has-started}

@@ -9,8 +9,9 @@ use Rattle.header.specs.Shape.{shapeRefusal}
 use Rattle.header.proofs.Refusals.{accepted-of}
 use Rattle.layout.specs.Slices.{cellsIn, candsIn}
 use Rattle.layout.specs.Outcomes.{left}
-use Rattle.panel_step.specs.declared.extent.Extent.{Extent}
-use Rattle.panel_step.specs.Panel.{extentOf, maxCounters, maxCandidates, roomy, panelRefusal}
+use Rattle.layout.specs.declared.Extent.{Extent}
+use Rattle.layout.specs.Spans.{extentOf}
+use Rattle.panel_step.specs.Panel.{maxCounters, maxCandidates, roomy, panelRefusal}
 use Rattle.panel_step.proofs.extent.panel_refusal.Statement.{statement}
 use Rattle.panel_step.proofs.extent.panel_refusal.Tie as tie
 
