@@ -5,7 +5,7 @@ use mathlib.Core.Bool.{true, false}
 use borrow.Author.Needs.{needs}
 use borrow.Author.Tests.{not-true, not-false}
 use Rattle.header.specs.Header.{clash}
-use Rattle.univmon_merge.specs.Merges.{sameShape}
+use Rattle.header.specs.Shape.{sameShape}
 use Rattle.univmon_merge.proofs.judge.heads_refusal.Statement.{statement}
 use Rattle.univmon_merge.proofs.judge.heads_refusal.Tie as tie
 
@@ -13,7 +13,7 @@ same-requires : tie.Need-same-requires
 same-requires c κs = search needs
 
 returns : tie.Need-returns
-returns c = simp (sym (c .before .same-shape .ensures) ∙ not-true _ (c .if1 .taken))
+returns c = simp (sym (c .before .same .ensures) ∙ not-true _ (c .if1 .taken))
 
 clashes-requires : tie.Need-clashes-requires
 clashes-requires c κs = search needs
@@ -23,7 +23,7 @@ shapes : (c : tie.Else1) → sameShape (c .before .before .before .args .h .shap
 shapes c = sym (c .before .same .ensures) ∙ not-false _ (c .if1 .left)
 
 returns-2 : tie.Need-returns-2
-returns-2 c = simp (same (c .before .before), sym (c .before .clashes .ensures) ∙ c .if2 .taken)
+returns-2 c = simp (shapes (c .before .before), sym (c .before .clashes .ensures) ∙ c .if2 .taken)
 
 sum-refusal-requires : tie.Need-sum-refusal-requires
 sum-refusal-requires c κs = search needs
@@ -32,7 +32,7 @@ modes : (c : tie.Else2) → clash (c .before .before .before .before .before .ar
 modes c = sym (c .before .clashes .ensures) ∙ c .if2 .left
 
 returns-3 : tie.Need-returns-3
-returns-3 c = simp (same (c .before .before .before), modes (c .before)) (c .sum-refusal .ensures)
+returns-3 c = simp (shapes (c .before .before .before), modes (c .before)) (c .sum-refusal .ensures)
 
 pub heads-refusal-spec : {M : Type 1} → statement M
-heads-refusal-spec = tie.close (tie.spec same-shape-requires returns clashes-requires returns-2 sum-refusal-requires returns-3)
+heads-refusal-spec = tie.close (tie.spec same-requires returns clashes-requires returns-2 sum-refusal-requires returns-3)
