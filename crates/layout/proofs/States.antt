@@ -14,7 +14,7 @@ use Rattle.heap_moves.specs.Cands.{Cand}
 use Rattle.header.specs.declared.Shape.{Shape}
 use Rattle.layer.specs.Layer.{Layer}
 use Rattle.layer.specs.Needs.{Fits}
-use Rattle.layout.proofs.Offsets.{off-step}
+use Rattle.layout.proofs.Offsets.{off-step, cell-end, norm-end, cand-end}
 use Rattle.layout.specs.State.{State, rowsAt, colsAt, dimsAt, cellOff, normOff, candOff, layerAt, putLayer, allLayers}
 
 -- ---- lengths
@@ -32,16 +32,13 @@ layer-path p q r s t = λ i. record { sketch = record { cells = p i; norms = q i
 
 module _ (s : State) (z : Long s) where
   pub cell-room : (l : ℕ) → l < s .head .shape .layers → cellOff (s .head .shape) l + dimsAt (s .head .shape) l .rows * dimsAt (s .head .shape) l .cols ≤ length (s .counters)
-  unfolding cellOff
-  cell-room l h = omega (arith, z .counters, off-step (λ m. dimsAt (s .head .shape) m .rows * dimsAt (s .head .shape) m .cols) l (s .head .shape .layers) h)
+  cell-room l h = omega (arith, z .counters, cell-end (s .head .shape) l h)
 
   pub norm-room : (l : ℕ) → l < s .head .shape .layers → normOff (s .head .shape) l + dimsAt (s .head .shape) l .rows ≤ length (s .norms)
-  unfolding normOff
-  norm-room l h = omega (arith, z .norms, off-step (λ m. dimsAt (s .head .shape) m .rows) l (s .head .shape .layers) h)
+  norm-room l h = omega (arith, z .norms, norm-end (s .head .shape) l h)
 
   pub cand-room : (l : ℕ) → l < s .head .shape .layers → candOff (s .head .shape) l + dimsAt (s .head .shape) l .size ≤ length (s .cands)
-  unfolding candOff
-  cand-room l h = omega (arith, z .cands, off-step (λ m. dimsAt (s .head .shape) m .size) l (s .head .shape .layers) h)
+  cand-room l h = omega (arith, z .cands, cand-end (s .head .shape) l h)
 
   pub at-fits : (l : ℕ) → l < s .head .shape .layers → Fits (dimsAt (s .head .shape) l) (layerAt s l)
   unfolding layerAt

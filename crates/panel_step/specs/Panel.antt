@@ -1,6 +1,6 @@
 -- The program `panel`: what each line is answered, and what it leaves of the state. To be held beside the paper's paragraph
 -- "The program `panel` reads lines and answers each line with one".
-use Prim.Native.Nat.{ℕ, _+_, _*_}
+use Prim.Native.Nat.{ℕ, _+_}
 use mathlib.Core.Bool.{Bool, cond, not, _&&_}
 use mathlib.Core.List.{List, [], _∷_, _++_}
 use lib.ListN.{length, take, drop}

@@ -10,7 +10,6 @@ use Rattle.words.specs.Num.{allIn}
 use Rattle.words.specs.Parts.{part}
 use Rattle.words.proofs.Bools.{and-left, and-right}
 use Rattle.header.specs.declared.Shape.{Shape}
-use Rattle.layer.specs.declared.Dims.{Dims}
 use Rattle.layer.specs.Merge.{mergeReads, mergeFits}
 use Rattle.layer.specs.Gather as gather
 use Rattle.layer.specs.Needs.{Housed}
