@@ -8,7 +8,7 @@ use lib.Signed.{nonNeg}
 use lib.Dec.{eqb, ltb, leb}
 use Rattle.words.specs.Tests.{number}
 use Rattle.header.specs.Shape.{maxLayers, shapeRefusal}
-use Rattle.header.specs.Totals.{noTotals, updateTotals, addTotals, setWeight, totalsOk, totalsTests}
+use Rattle.header.specs.Totals.{noTotals, updateTotals, addTotals, totalsOk, totalsTests}
 use Rattle.header.specs.declared.Shape.{Shape}
 use Rattle.header.specs.declared.Mode.{Mode}
 use Rattle.header.specs.declared.Mode.the-variants as mode

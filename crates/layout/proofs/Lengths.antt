@@ -13,7 +13,7 @@ use Rattle.countsketch_l2_norm.proofs.Norms.{length-norms}
 use Rattle.heap_moves.proofs.Views.{length-cands}
 use Rattle.header.specs.declared.Shape.{Shape}
 use Rattle.header.specs.Header.{freshHeader, headerOk}
-use Rattle.header.proofs.Ranges.{Ranged, ranged-of, len-few}
+use Rattle.header.proofs.Ranges.{ranged-of, len-few}
 use Rattle.layout.specs.Slices.{Lent, cellsIn, normsIn, candsIn, lengthsOk, lent, lentOk, view, freshLent}
 use Rattle.layout.specs.Outcomes.{left, lentTests}
 use Rattle.layout.specs.Needs.{Sizes, Standing}
@@ -59,6 +59,3 @@ pub stands-of : (r : Lent) → number (lentTests r) ≡ 0 → Standing r
 stands-of r z =
     let p = off-number (lentTests r) refl z in
     standing-of r (not-false _ (p .0)) (not-false _ (p .1 .0))
-
-pub ranges-of : (r : Lent) → number (lentTests r) ≡ 0 → Ranged (r .head)
-ranges-of r z = ranged-of (r .head) (not-false _ (off-number (lentTests r) refl z .0))

@@ -18,7 +18,7 @@ use Rattle.estimates.specs.declared.Answer.{Answer}
 use Rattle.estimates.specs.declared.PanelAnswer.{PanelAnswer}
 use Rattle.estimates.specs.Calls.{refusedBy, noPanel}
 use Rattle.univmon_c.specs.declared.CHeader.{CHeader}
-use Rattle.univmon_c.specs.Crossing.{modeOf, modeNumber, headerOf, cHeader, cAnswered, cAnswer, cPanel}
+use Rattle.univmon_c.specs.Crossing.{modeOf, modeNumber, headerOf, cAnswered, cAnswer, cPanel}
 use Rattle.univmon_c.specs.Calls.{CLent, cLent, lentOf, ofLent, cLeft, crossed, changeBy, mergeBy, headBy, answerBy, panelBy, checkBy}
 
 -- ---- calls that change a state
@@ -131,6 +131,3 @@ number-back zero h = refl
 number-back (suc zero) h = refl
 number-back (suc (suc zero)) h = refl
 number-back (suc (suc (suc n))) h = absurd (omega arith)
-
-pub header-back : (h : CHeader) → h .mode ≤ 2 → cHeader (headerOf h) ≡ h
-header-back h k = rw (number-back (h .mode) k)

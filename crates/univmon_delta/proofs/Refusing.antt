@@ -2,12 +2,10 @@
 use mathlib.Core.Path.{_≡_, refl, sym, _∙_}
 use mathlib.Core.Bool.{not}
 use mathlib.Core.List.{List, _∷_, _++_}
-use Prim.Native.Nat.{ℕ, _≤_}
+use Prim.Native.Nat.{ℕ}
 use lib.ListN.{length}
-use lib.IntN.{natAbs}
 use lib.Dec.{eqb}
 use borrow.Author.Tests.{eqb-true, leb-false, not-false}
-use Rattle.words.specs.Num.{top}
 use Rattle.words.specs.Tests.{number}
 use Rattle.words.proofs.Tests.{off-number, number-first}
 use Rattle.header.specs.declared.Mode.{Mode}

@@ -1,18 +1,14 @@
 -- The tests of a merge, stage by stage, and what the merge of the layers needs once none of them holds. Assumes nothing.
 use mathlib.Core.Path.{_≡_, refl, sym, ap, _∙_}
-use mathlib.Core.Bool.{Bool, true, _&&_}
+use mathlib.Core.Bool.{Bool, _&&_}
 use mathlib.Core.List.{List, _++_}
 use Prim.Native.Nat.{ℕ, zero, suc}
 use native.Mathlib.Omega.{arith}
-use lib.Dec.{eqb}
-use borrow.Author.Tests.{eqb-true, not-false}
+use borrow.Author.Tests.{not-false}
 use Rattle.words.specs.Tests.{number}
-use Rattle.words.proofs.Bools.{and-left, and-right}
 use Rattle.words.proofs.Tests.{Off, number-off, off-number, number-first, number-rest, off-first, off-rest}
-use Rattle.header.specs.declared.Shape.{Shape}
 use Rattle.header.specs.declared.Mode.{Mode}
 use Rattle.header.specs.declared.Totals.{Totals}
-use Rattle.header.specs.Shape.{sameShape}
 use Rattle.header.specs.Totals.{totalsTests}
 use Rattle.header.proofs.Shapes.{same-of}
 use Rattle.header.specs.Header.{begun}

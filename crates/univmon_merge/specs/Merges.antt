@@ -11,7 +11,6 @@ use Rattle.layout.specs.State.{State, shapeOf, dimsAt, layerAt, overLayers, all
 use Rattle.layout.specs.Slices.{Lent, view, flat}
 use Rattle.layout.specs.Outcomes.{Outcome, judge, lentTests}
 
-
 unfoldable pub merged : State → State → State
 merged s t =
     overLayers (λ l y. mergeLayer (dimsAt (shapeOf s) l) y (layerAt t l)) (shapeOf s .layers) 0 (withHead s (begun (s .head) (t .head .totals) (t .head .mode)))
