@@ -1,10 +1,9 @@
 -- A call as C makes it is the library's own on the header that C's stands for.
-use Prim.Native.Nat.{ℕ, zero, suc, _≤_, _<_}
+use Prim.Native.Nat.{ℕ, _≤_, _<_}
 use mathlib.Core.Path.{_≡_, refl, sym, ap, _∙_}
 use mathlib.Core.Bool.{Bool, true, false}
 use mathlib.Core.List.{List}
 use lib.IntN.{ℤ}
-use native.Mathlib.Omega.{arith}
 use borrow.Author.Tests.{le-leb, lt-leb}
 use Rattle.header.specs.declared.Shape.{Shape}
 use Rattle.header.specs.declared.Header.{Header}
@@ -18,7 +17,7 @@ use Rattle.estimates.specs.declared.Answer.{Answer}
 use Rattle.estimates.specs.declared.PanelAnswer.{PanelAnswer}
 use Rattle.estimates.specs.Calls.{refusedBy, noPanel}
 use Rattle.univmon_c.specs.declared.CHeader.{CHeader}
-use Rattle.univmon_c.specs.Crossing.{modeOf, modeNumber, headerOf, cAnswered, cAnswer, cPanel}
+use Rattle.univmon_c.specs.Crossing.{modeNumber, headerOf, cAnswered, cAnswer, cPanel}
 use Rattle.univmon_c.specs.Calls.{CLent, cLent, lentOf, ofLent, cLeft, crossed, changeBy, mergeBy, headBy, answerBy, panelBy, checkBy}
 
 -- ---- calls that change a state
@@ -124,10 +123,3 @@ unfolding checkBy
 checked f r h b e = e ∙ simp (le-leb _ _ h)
 
 -- ---- a refused call gives the header back as it came
-
-number-back : (n : ℕ) → n ≤ 2 → modeNumber (modeOf n) ≡ n
-unfolding modeOf
-number-back zero h = refl
-number-back (suc zero) h = refl
-number-back (suc (suc zero)) h = refl
-number-back (suc (suc (suc n))) h = absurd (omega arith)
