@@ -8,7 +8,7 @@ use lib.ListN.{length, set, take, length-set}
 use lib.Seq.{getD-set-other, take-suc-set}
 use lib.IntN.{ℤ, pos, _+ℤ_}
 use Rattle.words.specs.Num.{top}
-use Rattle.matrix_storage.specs.Bits.{maxRows, maxCols, maskBits, signed}
+use Rattle.matrix_storage.specs.Bits.{maxRows, maxCols, hashBits, maskBits, signed}
 use Rattle.countsketch_l2_norm.specs.Sketch.{cellOf, cellAt}
 use Rattle.countsketch_l2_norm.specs.Estimate.{estimates}
 use Rattle.countsketch_l2_norm.specs.Needs.{Ready, CellReady, RowAdded}
@@ -58,7 +58,7 @@ count-on rows cols h w xs₀ ws₀ es xs ws r ys vs v d f l a =
 abbrev pub RowAsks : (cols bits h w r : ℕ) (xs : List ℤ) (ws : List ℕ) → Type 0
 RowAsks cols bits h w r xs ws =
     ((1 ≤ cols) × ((cols ≤ maxCols) × (bits ≡ maskBits cols)))
-    × (((r < maxRows) × (r * maskBits cols < 128)) × ((w ≤ top) × CellReady (cellOf cols h r) r (signed h r (pos w)) xs ws))
+    × (((r < maxRows) × (r * maskBits cols < hashBits)) × ((w ≤ top) × CellReady (cellOf cols h r) r (signed h r (pos w)) xs ws))
 
 pub row-asks : (rows cols bits h w : ℕ) (xs₀ : List ℤ) (ws₀ : List ℕ) (xs : List ℤ) (ws : List ℕ) (r : ℕ) → Ready rows cols h w xs₀ ws₀ → bits ≡ maskBits cols → Going rows cols h w xs₀ ws₀ xs ws r → r < rows
     → RowAsks cols bits h w r xs ws
@@ -80,9 +80,9 @@ count-end rows cols h w xs₀ ws₀ es xs ws r f l =
 
 pub record Filled (rows cols h w : ℕ) (xs₀ : List ℤ) (ws₀ : List ℕ) (buf xs : List ℤ) (ws : List ℕ) (r : ℕ) : Type 0 where
   pub counted : Counted rows cols h w xs₀ ws₀ (take r buf) xs ws r
-  pub len : length buf ≡ 20
+  pub len : length buf ≡ maxRows
 
-pub fill-start : (rows cols h w : ℕ) (buf xs : List ℤ) (ws : List ℕ) → Ready rows cols h w xs ws → length buf ≡ 20 → Filled rows cols h w xs ws buf xs ws 0
+pub fill-start : (rows cols h w : ℕ) (buf xs : List ℤ) (ws : List ℕ) → Ready rows cols h w xs ws → length buf ≡ maxRows → Filled rows cols h w xs ws buf xs ws 0
 fill-start rows cols h w buf xs ws d l = record { counted = count-start rows cols h w xs ws d; len = l }
 
 pub fill-on : (rows cols h w : ℕ) (xs₀ : List ℤ) (ws₀ : List ℕ) (buf xs : List ℤ) (ws : List ℕ) (r : ℕ) (ys : List ℤ) (vs : List ℕ) (v : ℤ)

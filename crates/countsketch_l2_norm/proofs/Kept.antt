@@ -15,7 +15,7 @@ use Rattle.matrix_storage.specs.Bits.{column, signed}
 use Rattle.matrix_storage.proofs.Cells.{column-lt}
 use Rattle.countsketch_l2_norm.specs.Sketch.{Sketch, cellOf, cellAt, addCell, addRow, addRows, rowsRead}
 use Rattle.countsketch_l2_norm.specs.Estimate.{cellsIn}
-use Rattle.countsketch_l2_norm.specs.Merge.{sumBelow, squaresFrom, rowNorm, rowNorms, mergeSketch}
+use Rattle.countsketch_l2_norm.specs.Merge.{sumBelow, squaresFrom, rowNorm, rowNorms}
 use Rattle.countsketch_l2_norm.proofs.Places.{place-lt, same-row, same-col}
 use Rattle.countsketch_l2_norm.proofs.Merges.{length-rowNorms, row-at, squares-most}
 use Rattle.countsketch_l2_norm.proofs.After.{length-cell}
@@ -121,9 +121,6 @@ kept-rows rows cols h w zero r s p l room e = e
 kept-rows rows cols h w (suc k) r s p l room e =
     kept-rows rows cols h w k (suc r) (addRow cols h w r s) p (omega arith) (omega (arith, length-cell (cellOf cols h r) r (signed h r (pos w)) s))
     (kept-cell rows cols r (column cols h r) (signed h r (pos w)) s (omega arith) (column-lt cols h r p) room e)
-
-pub kept-merge : (rows cols : ℕ) (s t : Sketch) → Kept rows cols (mergeSketch rows cols s t)
-kept-merge rows cols s t = refl
 
 -- ---- norms that are kept are in range: what an update reads is in range where the counters are
 pub kept-read : (rows cols h : ℕ) (s : Sketch) (k r : ℕ) → 1 ≤ cols → k + r ≤ rows → Kept rows cols s → cellsIn cols h (s .cells) k r ≡ true → rowsRead cols h s k r ≡ true

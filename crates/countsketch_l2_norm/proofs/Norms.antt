@@ -103,7 +103,3 @@ norms-from ws n r = ap₂ (λ (x : ℕ) (l : List ℕ). x ∷ l) (ap₂ twoWords
 pub norms-none : (ws : List ℕ) → normsOf ws 0 ≡ []
 unfolding normsOf
 norms-none ws = refl
-
--- a slice of just the words of n norms, by those norms
-pub words-are : (ws : List ℕ) (n : ℕ) (ns : List ℕ) → length ws ≡ 2 * n → ((k : ℕ) → getD ws k 0 < wordSize) → normsOf ws n ≡ ns → ws ≡ wordsOf ns
-words-are ws n ns h w e = sym (words-norms ws n h w) ∙ ap wordsOf e

@@ -4,7 +4,7 @@ use Prim.Native.Nat.{ℕ, suc, _+_, _*_, _/_, _≤_, _<_}
 use native.Mathlib.Omega.{arith}
 use native.Mathlib.Nat.{suc-mul, mul-le-mul, mul-le-mul-right}
 use lib.Arith.{digits-div}
-use Rattle.matrix_storage.specs.Bits.{maxRows, maxCols, maskBits, Shaped}
+use Rattle.matrix_storage.specs.Bits.{maxRows, maxCols, hashBits, maskBits, Shaped}
 use Rattle.matrix_storage.proofs.Cells.{row-bits, column-lt}
 use Rattle.countsketch_l2_norm.specs.Sketch.{cellOf}
 
@@ -12,8 +12,8 @@ use Rattle.countsketch_l2_norm.specs.Sketch.{cellOf}
 pub row-end : (r n c : ℕ) → r < n → r * c + c ≤ n * c
 row-end r n c h = let k : suc r * c ≤ n * c = mul-le-mul-right c h in omega (arith, suc-mul r c)
 
-pub row-small : (r c : ℕ) → r < maxRows → c ≤ maxCols → r * c ≤ 77824
-row-small r c h k = let q : r ≤ 19 = omega arith in mul-le-mul q k
+pub row-small : (r c : ℕ) → r < maxRows → c ≤ maxCols → r * c ≤ maxRows * maxCols
+row-small r c h k = let q : r ≤ maxRows = omega arith in mul-le-mul q k
 
 -- a column of a row lies within the list
 pub place-lt : (rows cols r c len : ℕ) → r < rows → c < cols → rows * cols ≤ len → r * cols + c < len
@@ -34,5 +34,5 @@ pub same-col : (cols q r c e : ℕ) → c < cols → e < cols → q * cols + c �
 same-col cols q r c e hc he p = omega (arith, p, ap (λ (n : ℕ). n * cols) (same-row cols q r c e hc he p))
 
 -- what `place` asks for
-pub place-asks : (rows cols r bits : ℕ) → Shaped rows cols → r < rows → bits ≡ maskBits cols → ((1 ≤ cols) × ((cols ≤ maxCols) × (bits ≡ maskBits cols))) × ((r < maxRows) × (r * maskBits cols < 128))
+pub place-asks : (rows cols r bits : ℕ) → Shaped rows cols → r < rows → bits ≡ maskBits cols → ((1 ≤ cols) × ((cols ≤ maxCols) × (bits ≡ maskBits cols))) × ((r < maxRows) × (r * maskBits cols < hashBits))
 place-asks rows cols r bits s k e = ((s .some, (s .wide, e)), (omega (arith, s .few), row-bits rows cols r s k))

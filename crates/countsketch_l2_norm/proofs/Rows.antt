@@ -11,12 +11,14 @@ use lib.Seq.{getD-set-other}
 use lib.IntN.{ℤ, pos, natAbs, _+ℤ_}
 use lib.Dec.{leb}
 use borrow.Author.Tests.{leb-true}
+use mir.Syntax.{w64}
+use mir.Val.{SFits, toZ, ofZ}
+use mir.Facts.{toZ-ofZ}
 use Rattle.words.specs.Num.{top, shortTop, squareCap, inRange, capped}
 use Rattle.words.proofs.Bools.{and-left, and-right, both, and-cross}
-use Rattle.words.proofs.Signed.{abs-add}
+use Rattle.words.proofs.Signed.{abs-add, back}
 use Rattle.words.proofs.Squares.{range-bound, range-of, capped-small}
 use Rattle.matrix_storage.specs.Bits.{maxRows, maxCols, signed}
-use Rattle.matrix_storage.proofs.Cells.{abs-signed}
 use Rattle.countsketch_l2_norm.specs.Norms.{normsOf, normAt, setNorm}
 use Rattle.countsketch_l2_norm.specs.Sketch.{Sketch, sketchOf, cellOf, cellAt, addCell, addRow, addRows, rowRead, cellRead, cellFits, rowsRead, rowsFit, rowsReady}
 use Rattle.countsketch_l2_norm.specs.Needs.{Ready, CellReady}
@@ -45,20 +47,23 @@ and-end true = refl
 and-end false = refl
 
 -- a short counter and a weight that is not near the end of the range: only the norm is asked for
-pub small-ready : (x d : ℤ) (n cols : ℕ) → natAbs x ≤ shortTop → natAbs d ≤ 4503597479886848 → leb n (cols * squareCap) && leb (natAbs x * natAbs x) n ≡ rowRead x n cols && inRange (x +ℤ d)
+pub small-ready : (x d : ℤ) (n cols : ℕ) → natAbs x ≤ shortTop → natAbs d ≤ top - shortTop → leb n (cols * squareCap) && leb (natAbs x * natAbs x) n ≡ rowRead x n cols && inRange (x +ℤ d)
 small-ready x d n cols h k =
     rw (capped-small x (omega arith), range-of x (omega arith), range-of (x +ℤ d) (omega (arith, abs-add x d))) (and-end (leb n (cols * squareCap) && leb (capped x) n))
 
+-- a counter in range and any number, whose sum is in range, added as the code does
+pub sum-within : (x d : ℤ) → natAbs x ≤ top → SFits w64 d → natAbs (x +ℤ d) ≤ top → toZ w64 (ofZ w64 (toZ w64 (ofZ w64 x) +ℤ toZ w64 (ofZ w64 d))) ≡ x +ℤ d
+sum-within x d h f k = rw (back x (omega arith), toZ-ofZ f) (back (x +ℤ d) (omega arith))
+
 -- what is read of a counter is in range, and it stays so: it may be stored
-pub cell-ready : (rows cols at r : ℕ) (d : ℤ) (xs : List ℤ) (ws : List ℕ) → at < length xs → r < rows → rows ≤ maxRows → cols ≤ maxCols → 2 * rows ≤ length ws → natAbs d ≤ top
+pub cell-ready : (rows cols at r : ℕ) (d : ℤ) (xs : List ℤ) (ws : List ℕ) → at < length xs → r < rows → rows ≤ maxRows → cols ≤ maxCols → 2 * rows ≤ length ws
     → rowRead (cellAt xs at) (normAt ws r) cols ≡ true → cellFits at d xs ≡ true → CellReady at r d xs ws
-cell-ready rows cols at r d xs ws i l few wide p s e f =
+cell-ready rows cols at r d xs ws i l few wide p e f =
     let q = read-as (cellAt xs at) (normAt ws r) cols e in
     record {
       inside = i;
       few = omega arith;
       pair = omega arith;
-      small = s;
       cellIn = q .cellIn;
       sumIn = range-bound (cellAt xs at +ℤ d) f;
       holds = q .holds;
@@ -149,7 +154,7 @@ ready-row rows cols h w xs₀ ws₀ xs ws r d g l = go (g .left) (g .all) (g .re
     go : (k : ℕ) → k + r ≡ rows → rowsRead cols h (sketchOf xs ws rows) k r ≡ true → rowsFit cols h w xs k r ≡ true → CellReady (cellOf cols h r) r (signed h r (pos w)) xs ws
     go zero e p q = absurd (omega arith)
     go (suc k) e p q =
-        cell-ready rows cols (cellOf cols h r) r (signed h r (pos w)) xs ws (cell-lt rows cols h r (length xs) (d .shaped .some) l (omega (arith, d .room, g .sameCells))) l (d .shaped .few) (d .shaped .wide) (omega (arith, d .pairs, g .sameWords)) (omega (arith, abs-signed h r (pos w), d .light))
+        cell-ready rows cols (cellOf cols h r) r (signed h r (pos w)) xs ws (cell-lt rows cols h r (length xs) (d .shaped .some) l (omega (arith, d .room, g .sameCells))) l (d .shaped .few) (d .shaped .wide) (omega (arith, d .pairs, g .sameWords))
         (and-left (rowRead (cellAt xs (cellOf cols h r)) (normAt ws r) cols) (rowsRead cols h (sketchOf xs ws rows) k (suc r)) (sym (read-step cols h xs ws rows k r l) ∙ p))
         (and-left (cellFits (cellOf cols h r) (signed h r (pos w)) xs) (rowsFit cols h w xs k (suc r)) (sym (fit-step cols h w xs k r) ∙ q))
 

@@ -23,7 +23,6 @@ pub record CellReady (at r : ℕ) (d : ℤ) (xs : List ℤ) (ws : List ℕ) : Ty
   pub inside : at < length xs
   pub few : r < maxRows
   pub pair : 2 * r + 1 < length ws
-  pub small : natAbs d ≤ top
   pub cellIn : natAbs (cellAt xs at) ≤ top
   pub sumIn : natAbs (cellAt xs at +ℤ d) ≤ top
   pub holds : capped (cellAt xs at) ≤ normAt ws r
@@ -46,6 +45,5 @@ pub record Placed (rows cols row col : ℕ) (xs : List ℤ) : Type 0 where
 pub record DeltaReady (rows cols row col : ℕ) (d : ℤ) (xs : List ℤ) (ws : List ℕ) : Type 0 where
   pub placed : Placed rows cols row col xs
   pub pairs : 2 * rows ≤ length ws
-  pub small : natAbs d ≤ top
   pub read : cellRead cols (row * cols + col) row (sketchOf xs ws rows) ≡ true
   pub fit : cellFits (row * cols + col) d xs ≡ true

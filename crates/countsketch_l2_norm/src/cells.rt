@@ -93,7 +93,19 @@ pub fn cell_read(
     row_read(counters[at], norm_of(norms, row), cols)
 }
 
-// Whether a counter that is in range stays so when it takes a delta.
+// Whether the sum of a number in range and any other is in range. The sum is not formed, so that no
+// number is too large to be judged.
+fn sum_in_range(x: i64, d: i64) -> bool
+    requires { ⌜ natAbs x ≤ top ⌝ }
+    ensures { λ b. ⌜ b ≡ inRange (x +ℤ d) ⌝ }
+{
+    if d < -words::TOP - x {
+        return false;
+    }
+    d <= words::TOP - x
+}
+
+// Whether a counter that is in range stays so when it takes a delta, whatever the delta's count.
 pub fn cell_fits(
     counters: &[i64],
     rows: usize,
@@ -103,13 +115,11 @@ pub fn cell_fits(
     count: i64,
 ) -> bool
     requires { ⌜ Placed rows cols row col (now counters) ⌝ }
-    requires { ⌜ natAbs count ≤ top ⌝ }
     requires { ⌜ inRange (cellAt (now counters) (row * cols + col)) ≡ true ⌝ }
     ensures { λ b. ⌜ b ≡ cellFits (row * cols + col) count (now (counters .entry)) ⌝ }
 {
     let at = index_of(cols, row, col);
-    let sum = counters[at] + count;
-    words::in_range(sum)
+    sum_in_range(counters[at], count)
 }
 
 // Adds a delta to one counter.

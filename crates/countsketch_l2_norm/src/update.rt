@@ -7,7 +7,7 @@ ghost use lib.IntN.{ℤ, pos, _+ℤ_};
 ghost use lib.Dec.{leb};
 ghost use Rattle.words.specs.Num.{top, squareCap, inRange};
 ghost use Rattle.words.specs.Wide.{valueOf};
-ghost use Rattle.matrix_storage.specs.Bits.{maxRows, maxCols, maskBits, signed, hashOf, Shaped};
+ghost use Rattle.matrix_storage.specs.Bits.{maxRows, maxCols, hashBits, maskBits, signed, hashOf, Shaped};
 ghost use Rattle.countsketch_l2_norm.specs.Sketch.{sketchOf, cellOf, addRows, rowRead, rowsRead, rowsFit, rowsReady};
 ghost use Rattle.countsketch_l2_norm.specs.Estimate.{estimates, estimateOf, cellsIn};
 ghost use Rattle.countsketch_l2_norm.specs.Needs.{Ready, CellReady, RowAdded};
@@ -16,15 +16,16 @@ use crate::cells::index_of;
 use crate::cells::norm_of;
 use crate::cells::row_read;
 use crate::estimate::row_estimate;
+use matrix_storage::MAX_ROWS;
 use words::Wide;
 
-// 2^52 - 2^31: a weight up to here keeps a counter of 32 bits in range.
-const LIGHT_TOP: u64 = 4503597479886848;
+// A weight up to here keeps a counter of 32 bits in range.
+const LIGHT_TOP: u64 = words::MAX_WEIGHT - words::SHORT_TOP as u64;
 
 // The index of the counter that a hash names in a row, with `bits` the mask bits of `cols`.
 pub fn place(high: u64, low: u64, bits: usize, cols: usize, r: usize) -> usize
     requires { ⌜ (1 ≤ cols) × ((cols ≤ maxCols) × (bits ≡ maskBits cols)) ⌝ }
-    requires { ⌜ (r < maxRows) × (r * maskBits cols < 128) ⌝ }
+    requires { ⌜ (r < maxRows) × (r * maskBits cols < hashBits) ⌝ }
     ensures { λ p. ⌜ p ≡ cellOf cols (hashOf high low) r ⌝ }
 {
     let col = matrix_storage::column_at(high, low, bits, cols, r);
@@ -76,7 +77,7 @@ fn update_row(
     weight: u64,
 ) -> i64
     requires { ⌜ (1 ≤ cols) × ((cols ≤ maxCols) × (bits ≡ maskBits cols)) ⌝ }
-    requires { ⌜ (r < maxRows) × (r * maskBits cols < 128) ⌝ }
+    requires { ⌜ (r < maxRows) × (r * maskBits cols < hashBits) ⌝ }
     requires { ⌜ weight ≤ top ⌝ }
     requires { ⌜ CellReady (cellOf cols (hashOf high low) r) r (signed (hashOf high low) r (pos weight)) (now counters) (now norms) ⌝ }
     ensures { λ v. ⌜ RowAdded cols (hashOf high low) weight r (now (counters .entry)) (now (norms .entry)) (now (counters .exit)) (now (norms .exit)) v ⌝ }
@@ -89,7 +90,7 @@ fn update_row(
 
 // Every row of an update, and the rows' estimates after it to the front of a buffer.
 fn update_rows(
-    buf: &mut [i64; 20],
+    buf: &mut [i64; MAX_ROWS],
     counters: &mut [i64],
     norms: &mut [u64],
     rows: usize,
@@ -98,9 +99,9 @@ fn update_rows(
     low: u64,
     weight: u64,
 )
-    requires { ⌜ length (now buf) ≡ 20 ⌝ }
+    requires { ⌜ length (now buf) ≡ maxRows ⌝ }
     requires { ⌜ Ready rows cols (hashOf high low) weight (now counters) (now norms) ⌝ }
-    ensures { λ _. ⌜ length (now (buf .exit)) ≡ 20 ⌝ }
+    ensures { λ _. ⌜ length (now (buf .exit)) ≡ maxRows ⌝ }
     ensures { λ _. ⌜ sketchOf (now (counters .exit)) (now (norms .exit)) rows
         ≡ addRows cols (hashOf high low) weight rows 0 (sketchOf (now (counters .entry)) (now (norms .entry)) rows) ⌝ }
     ensures { λ _. ⌜ take rows (now (buf .exit)) ≡ estimates cols (hashOf high low) (now (counters .exit)) rows 0 ⌝ }
@@ -157,7 +158,7 @@ pub fn update_and_count(
     if rows == 5 {
         return update_five(counters, norms, cols, high, low, weight);
     }
-    let mut buf = [0i64; 20];
+    let mut buf = [0i64; MAX_ROWS];
     update_rows(&mut buf, counters, norms, rows, cols, high, low, weight);
     structure_utils::median_of(&buf, rows)
 }

@@ -8,6 +8,8 @@ ghost use Rattle.matrix_storage.specs.Bits.{Shaped};
 // The greatest layer that is run: 9 rows of 4,096.
 const CELLS: usize = 36864;
 
+const NORM_WORDS: usize = 2 * matrix_storage::MAX_ROWS;
+
 // Whether slices of these lengths hold a layer of these rows and columns.
 fn held(rows: usize, cols: usize, cells: usize, words: usize) -> bool
     ensures { λ b. ⌜ (b ≡ true → Shaped rows cols × ((rows * cols ≤ cells) × (2 * rows ≤ words))) ⌝ }
@@ -40,7 +42,7 @@ fn clear_norms(norms: &mut [u64]) {
 
 // 4: the estimate of a hash's count, as a float and cut.
 fn estimate(counters: &[i64], rows: usize, cols: usize, high: u64, low: u64) {
-    if !held(rows, cols, counters.len(), 40) {
+    if !held(rows, cols, counters.len(), NORM_WORDS) {
         return;
     }
     if !countsketch_l2_norm::cells_in(counters, rows, cols, high, low) {
@@ -67,7 +69,7 @@ fn add(
     if !held(rows, cols, counters.len(), norms.len()) {
         return;
     }
-    if 4503599627370496 < weight {
+    if words::MAX_WEIGHT < weight {
         vectors::print_refusal(7);
         return;
     }
@@ -328,7 +330,7 @@ fn serve(counters: &mut [i64], norms: &mut [u64], other: &mut [i64]) {
 
 fn main() {
     let mut counters = [0i64; CELLS];
-    let mut norms = [0u64; 40];
+    let mut norms = [0u64; NORM_WORDS];
     let mut other = [0i64; CELLS];
     serve(&mut counters, &mut norms, &mut other);
 }

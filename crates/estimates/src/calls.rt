@@ -4,9 +4,8 @@ ghost use mathlib.Core.Bool.{Bool, true, not, _&&_};
 ghost use Prim.Native.Nat.{ℕ, _*_};
 ghost use lib.Dec.{eqb};
 ghost use Rattle.header.specs.Accepted.{Accepted};
-ghost use Rattle.header.specs.Header.{headerOk};
-ghost use Rattle.univmon.specs.Slices.{normsIn, lent, lentOk, view};
-ghost use Rattle.univmon.specs.Needs.{Standing};
+ghost use Rattle.layout.specs.Slices.{normsIn, lent, view};
+ghost use Rattle.layout.specs.Needs.{Standing};
 ghost use Rattle.estimates.specs.Norms.{isTerminal};
 ghost use Rattle.estimates.specs.Calls.{normsLent, l1Call, l2Call, sumCall, sumAnswer, cardinalityCall, panelCall, noPanel};
 use crate::Answer;
@@ -37,7 +36,7 @@ pub fn estimate_l1(header: Header) -> Answer
     }
     Answer {
         refusal: 0,
-        value: header.weight as f64,
+        value: header.totals.weight as f64,
     }
 }
 
@@ -46,7 +45,8 @@ fn norms_match(shape: Shape, norms: usize) -> bool
     requires { ⌜ Accepted shape ⌝ }
     ensures { λ r. ⌜ r ≡ eqb norms (2 * normsIn shape) ⌝ }
 {
-    norms == 2 * (shape.layers * shape.rows)
+    let e = layout::extent_of(shape);
+    norms == e.norms
 }
 
 fn norms_lent(header: Header, norms: &[u64]) -> bool
@@ -80,29 +80,6 @@ pub fn estimate_l2(header: Header, norms: &[u64]) -> Answer
 }
 
 // ---- sums
-
-// Whether header and lengths are in range.
-fn lent_in_range(
-    header: Header,
-    counters: &[i64],
-    norms: &[u64],
-    entries: &[u64],
-    counts: &[i64],
-) -> bool
-    ensures { λ r. ⌜ r ≡ (headerOk header && lentOk (lent header (now (counters .entry)) (now (norms .entry)) (now (entries .entry)) (now (counts .entry)))) ⌝ }
-{
-    if !header.in_range() {
-        return false;
-    }
-    let shape = header.shape;
-    univmon::sizes::lengths_match(
-        shape,
-        counters.len(),
-        norms.len(),
-        entries.len(),
-        counts.len(),
-    )
-}
 
 fn is_terminal(mode: Mode) -> bool
     ensures { λ r. ⌜ r ≡ isTerminal mode ⌝ }
@@ -165,13 +142,14 @@ pub fn estimate_g_sum(
 ) -> Answer
     ensures { λ r. ⌜ r ≡ sumCall g «count_every_key» (lent header (now (counters .entry)) (now (norms .entry)) (now (entries .entry)) (now (counts .entry))) ⌝ }
 {
-    if !lent_in_range(header, counters, norms, entries, counts) {
+    let refusal = layout::lent_refusal(header, counters, norms, entries, counts);
+    if refusal != 0 {
         return Answer {
-            refusal: REFUSED,
+            refusal,
             value: 0.0,
         };
     }
-    if header_alone(header.weight, count_every_key) {
+    if header_alone(header.totals.weight, count_every_key) {
         return Answer {
             refusal: 0,
             value: 0.0,

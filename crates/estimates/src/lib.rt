@@ -1,5 +1,5 @@
 // What a state answers: norms, sums over candidates, cardinality.
-mod anew;
+pub mod anew;
 mod calls;
 mod norms;
 mod reads;

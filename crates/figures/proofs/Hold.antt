@@ -20,16 +20,16 @@ use Rattle.header.specs.Shape.{shapeRefusal, bottomFrom, bottomOf, bottomLayer}
 use Rattle.layer.specs.Layer.{addSketch, addLayer, addReads, addFits}
 use Rattle.layer.specs.Merge.{whos}
 use Rattle.univmon.specs.Calls.{newCall, updateCall}
-use Rattle.univmon.specs.Slices.{lengthsOk, view, flat, freshLent}
-use Rattle.univmon.specs.State.{rowsAt, colsAt, cellOff, normOff, candOff, layerAt, putLayer, overLayers, allLayers, sizesOk}
-use Rattle.univmon.specs.Updates.{updateTests, updated, update}
+use Rattle.layout.specs.Slices.{lengthsOk, view, flat, freshLent}
+use Rattle.layout.specs.State.{rowsAt, colsAt, cellOff, normOff, candOff, layerAt, putLayer, overLayers, allLayers}
+use Rattle.univmon.specs.Updates.{updateTests, updated}
 use Rattle.sums.specs.Layers.{gSum, standardSum}
 use Rattle.sums.specs.Terms.{gOf, factor, counted, addTerm, sumOver}
 use Rattle.estimates.specs.Calls.{l2Call, sumCall}
 use Rattle.estimates.specs.Norms.{l2OfState}
-use Rattle.estimates.specs.Sums.{ownAt, gSumOf, whosRead, layerReads, sumRefusal}
+use Rattle.estimates.specs.Sums.{ownAt, gSumOf, whosRead, layerReads}
 use Rattle.figures.specs.Figures.{same, allHold, relay, afterA, afterB, figures}
 
 pub figures-hold : allHold figures ≡ true
-unfolding ofInt ofBits toBits sub mul div le inRange capped allIn normRead root log2In log2 maskBits hashOf column signed insertBy sortBy middleF median middle estimates estimateF estimateOf cellsIn l2Squared l2Of normsIn sumBelow squaresFrom normsOf wordsOf addCell addRows rowsRead rowsFit up candsOf entriesOf find seat offer freshHeader lensFrom headerOk shapeRefusal bottomFrom bottomOf bottomLayer addSketch addLayer addReads addFits whos newCall updateCall lengthsOk view flat freshLent rowsAt colsAt cellOff normOff candOff layerAt putLayer overLayers allLayers sizesOk updateTests updated update gSum standardSum gOf factor counted addTerm sumOver l2Call sumCall l2OfState ownAt gSumOf whosRead layerReads sumRefusal same allHold relay afterA afterB figures
+unfolding ofInt ofBits toBits sub mul div le inRange capped allIn normRead root log2In log2 maskBits hashOf column signed insertBy sortBy middleF median middle estimates estimateF estimateOf cellsIn l2Squared l2Of normsIn sumBelow squaresFrom normsOf wordsOf addCell addRows rowsRead rowsFit up candsOf entriesOf find seat offer freshHeader lensFrom headerOk shapeRefusal bottomFrom bottomOf bottomLayer addSketch addLayer addReads addFits whos newCall updateCall lengthsOk view flat freshLent rowsAt colsAt cellOff normOff candOff layerAt putLayer overLayers allLayers updateTests updated gSum standardSum gOf factor counted addTerm sumOver l2Call sumCall l2OfState ownAt gSumOf whosRead layerReads same allHold relay afterA afterB figures
 figures-hold = refl

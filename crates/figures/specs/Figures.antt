@@ -17,8 +17,9 @@ use Rattle.header.specs.declared.BottomLayer.{BottomLayer}
 use Rattle.header.specs.declared.BottomLayer.the-variants as bottom
 use Rattle.header.specs.Shape.{bottomLayer}
 use Rattle.univmon.specs.declared.Kind.the-variants as kind
-use Rattle.univmon.specs.Slices.{Lent}
-use Rattle.univmon.specs.Calls.{newCall, updateCall, leftBy}
+use Rattle.layout.specs.Slices.{Lent}
+use Rattle.univmon.specs.Calls.{newCall, updateCall}
+use Rattle.layout.specs.Outcomes.{leftBy}
 use Rattle.estimates.specs.declared.Answer.{Answer}
 use Rattle.estimates.specs.Calls.{l2Call, cardinalityCall}
 

@@ -9,7 +9,8 @@ use lib.Pow.{shr-shr}
 use lib.Count.{trailingZeros, under}
 use borrow.Author.Tests.{ne-eqb}
 use lib.Dec.{eqb}
-use Rattle.header.specs.Shape.{bottomFrom, bottomOf}
+use Rattle.words.specs.Num.{wordSize}
+use Rattle.header.specs.Shape.{maxLayers, bottomFrom, bottomOf}
 
 -- ones from the lowest digit on, at most k
 unfoldable run : ℕ → ℕ → ℕ
@@ -46,7 +47,7 @@ run-min (suc w) (suc k) g h b =
     go (suc d) zero p q ih = let t : suc (run k (g / 2)) ≡ min (suc (trailingZeros w ((2 ^ suc w - 1 - g) / 2))) (suc k) = omega arith in rw (ne-eqb (suc d) 0 (omega arith)) t
     go (suc d) (suc e) p q ih = absurd (omega (arith, pow-suc 2 w, b))
 
-pub bottom-min : (h layers : ℕ) → layers ≤ 19 → h < 2 ^ 64 → bottomOf h layers ≡ min (trailingZeros 64 (18446744073709551615 - h / 2 ^ 1)) (layers - 1)
+pub bottom-min : (h layers : ℕ) → layers ≤ maxLayers → h < 2 ^ 64 → bottomOf h layers ≡ min (trailingZeros 64 (wordSize - 1 - h / 2 ^ 1)) (layers - 1)
 unfolding bottomOf
 bottom-min h layers l b = from-run h (layers - 1) 0 ∙ zero-add (run (layers - 1) (h / 2 ^ 1)) ∙ run-min 64 (layers - 1) (h / 2 ^ 1) (omega arith) (omega arith)
 

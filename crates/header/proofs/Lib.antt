@@ -3,3 +3,4 @@ pub mod Refusals
 pub mod Steps
 pub mod Ranges
 pub mod Sweeps
+pub mod Shapes

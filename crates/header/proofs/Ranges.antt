@@ -6,11 +6,12 @@ use Prim.Native.Nat.{ℕ, zero, suc, _+_, _≤_, _<_}
 use native.Mathlib.Nat.{zero-add}
 use native.Mathlib.Omega.{arith}
 use borrow.Author.Tests.{leb-true, eqb-true, lt-ltb}
-use lib.Dec.{eqb, leb}
+use lib.Dec.{eqb}
 use lib.ListN.{getD}
 use Rattle.words.specs.Num.{top}
 use Rattle.words.proofs.Bools.{and-left, and-right}
 use Rattle.header.specs.Shape.{maxLayers, shapeRefusal}
+use Rattle.header.specs.Totals.{totalsOk}
 use Rattle.header.specs.Header.{layerOk, lensFrom, headerOk}
 use Rattle.header.specs.declared.Header.{Header}
 use Rattle.header.specs.Accepted.{Accepted}
@@ -18,17 +19,17 @@ use Rattle.header.proofs.Refusals.{accepted-of}
 
 pub record Ranged (h : Header) : Type 0 where
   pub accepted : Accepted (h .shape)
-  pub light : h .weight ≤ top
+  pub light : h .totals .weight ≤ top
   pub lens : lensFrom (h .shape .layers) (h .shape .«heap_size») (h .lens) (h .flags) maxLayers 0 ≡ true
 
 pub ranged-of : (h : Header) → headerOk h ≡ true → Ranged h
 unfolding headerOk
 ranged-of h e =
-    let both = and-left (eqb (shapeRefusal (h .shape)) 0 && leb (h .weight) top) (lensFrom (h .shape .layers) (h .shape .«heap_size») (h .lens) (h .flags) maxLayers 0) e in
+    let both = and-left (eqb (shapeRefusal (h .shape)) 0 && totalsOk (h .totals)) (lensFrom (h .shape .layers) (h .shape .«heap_size») (h .lens) (h .flags) maxLayers 0) e in
     record {
-      accepted = accepted-of (h .shape) (eqb-true (shapeRefusal (h .shape)) 0 (and-left (eqb (shapeRefusal (h .shape)) 0) (leb (h .weight) top) both));
-      light = leb-true (h .weight) top (and-right (eqb (shapeRefusal (h .shape)) 0) (leb (h .weight) top) both);
-      lens = and-right (eqb (shapeRefusal (h .shape)) 0 && leb (h .weight) top) (lensFrom (h .shape .layers) (h .shape .«heap_size») (h .lens) (h .flags) maxLayers 0) e;
+      accepted = accepted-of (h .shape) (eqb-true (shapeRefusal (h .shape)) 0 (and-left (eqb (shapeRefusal (h .shape)) 0) (totalsOk (h .totals)) both));
+      light = leb-true (h .totals .weight) top (and-right (eqb (shapeRefusal (h .shape)) 0) (totalsOk (h .totals)) both);
+      lens = and-right (eqb (shapeRefusal (h .shape)) 0 && totalsOk (h .totals)) (lensFrom (h .shape .layers) (h .shape .«heap_size») (h .lens) (h .flags) maxLayers 0) e;
     }
 
 -- a layer's length is at most the heap size

@@ -1,24 +1,27 @@
 -- The header's own steps: flags, lengths, the tests of a weight. Assumes nothing.
 use mathlib.Core.Path.{_≡_, refl, sym, ap, _∙_}
-use mathlib.Core.Bool.{Bool, true, false, not, _&&_}
+use mathlib.Core.Bool.{Bool, true, false, cond, not, _&&_}
 use mathlib.Core.List.{List, _∷_, _++_}
 use Prim.Native.Nat.{ℕ, zero, suc, _+_, _-_, _≤_, _<_}
 use native.Mathlib.Omega.{arith}
 use native.Mathlib.Nat.{zero-add}
-use borrow.Author.Tests.{ltb-true, leb-true, lt-ltb, le-ltb}
+use borrow.Author.Tests.{ltb-true, leb-true, lt-ltb, le-ltb, eq-eqb, ne-eqb, not-false}
 use lib.ListN.{getD, set, replicate}
 use lib.Seq.{set-getD}
 use lib.IntN.{ℤ, pos, negsuc, natAbs}
 use lib.Signed.{ltZ, nonNeg}
 use lib.Dec.{eqb, leb}
 use Rattle.words.specs.Num.{top}
+use Rattle.words.specs.Tests.{number}
 use Rattle.words.proofs.Bools.{never}
+use Rattle.words.proofs.Tests.{number-off, off-number}
 use Rattle.header.proofs.Sweeps.{and-assoc}
-use Rattle.header.specs.Header.{withWeight, withMode, withFlags, withLens, withLayer, headOf, fixedOf, clash, begun, begunFixed, beginOf, beginHeader, layerOk, lensFrom}
+use Rattle.header.specs.Header.{withTotals, withMode, withFlags, withLens, withLayer, headOf, scalarsOf, begun, begunScalars, beginTests, beginOf, beginHeader, layerOk, lensFrom}
+use Rattle.header.specs.Totals.{updateTotals, totalsTests}
 use Rattle.header.specs.declared.Shape.{Shape}
 use Rattle.header.specs.declared.Header.{Header}
-use Rattle.header.specs.declared.Fixed.{Fixed}
-use Rattle.header.specs.declared.Begun.{Begun}
+use Rattle.header.specs.declared.Scalars.{Scalars}
+use Rattle.header.specs.declared.AnsweredLent.{AnsweredLent}
 use Rattle.header.specs.declared.Answered.{Answered}
 use Rattle.header.specs.declared.Mode.{Mode}
 
@@ -34,71 +37,78 @@ weight-positive (negsuc n) e = absurd (never (sym e))
 
 -- ---- an update begins, with and without lengths and flags
 
-module _ (f : Fixed) (w : ℤ) (m : Mode) where
-  -- whatever holds of each answer holds of what is answered: the three tests, one after another
-  pub begin-by : (P : Begun → Type 0)
-      → (nonNeg w ≡ false → P (beginOf f w m))
-      → (nonNeg w ≡ true → clash (f .mode) m ≡ true → P (beginOf f w m))
-      → (nonNeg w ≡ true → clash (f .mode) m ≡ false → leb (f .weight + natAbs w) top ≡ false → P (beginOf f w m))
-      → (nonNeg w ≡ true → clash (f .mode) m ≡ false → leb (f .weight + natAbs w) top ≡ true → P (beginOf f w m)) → P (beginOf f w m)
-  begin-by P five six seven none = go (nonNeg w) refl (clash (f .mode) m) refl (leb (f .weight + natAbs w) top) refl
-    where
-      go : (x : Bool) → nonNeg w ≡ x → (y : Bool) → clash (f .mode) m ≡ y → (z : Bool) → leb (f .weight + natAbs w) top ≡ z → P (beginOf f w m)
-      go false p y q z s = five p
-      go true p true q z s = six p q
-      go true p false q false s = seven p q s
-      go true p false q true s = none p q s
+module _ (f : Scalars) (w : ℤ) (m : Mode) where
+  abbrev tests : List (Bool × ℕ)
+  tests = beginTests f w m
 
   -- the shape stays
-  pub begin-shape : beginOf f w m .fixed .shape ≡ f .shape
+  pub begin-shape : beginOf f w m .scalars .shape ≡ f .shape
   unfolding beginOf
-  begin-shape = begin-by (λ b. b .fixed .shape ≡ f .shape) (λ p. rw p) (λ p q. rw (p, q)) (λ p q s. rw (p, q, s)) (λ p q s. rw (p, q, s))
+  begin-shape = go (eqb (number tests) 0)
+    where
+      go : (b : Bool) → cond b (begunScalars f (updateTotals (natAbs w)) m) f .shape ≡ f .shape
+      go true = refl
+      go false = refl
 
-  -- an accepted one has the weight added and the mode joined
-  pub begun-is : (b : Begun) → b ≡ beginOf f w m → b .refusal ≡ 0 → b .fixed ≡ begunFixed f (natAbs w) m
+  -- an accepted one has the totals added and the mode joined
+  pub begun-is : (b : AnsweredLent) → b ≡ beginOf f w m → b .refusal ≡ 0 → b .scalars ≡ begunScalars f (updateTotals (natAbs w)) m
   unfolding beginOf
-  begun-is b e n =
-      ap (λ (a : Begun). a .fixed) e
-      ∙ begin-by (λ a. a .refusal ≡ 0 → a .fixed ≡ begunFixed f (natAbs w) m) (λ p z. absurd (omega (arith, rw p at z))) (λ p q z. absurd (omega (arith, rw (p, q) at z)))
-      (λ p q s z. absurd (omega (arith, rw (p, q, s) at z))) (λ p q s z. rw (p, q, s)) (sym (ap (λ (a : Begun). a .refusal) e) ∙ n)
+  begun-is b e n = ap (λ (a : AnsweredLent). a .scalars) e ∙ rw (eq-eqb (number tests) 0 (sym (ap (λ (a : AnsweredLent). a .refusal) e) ∙ n))
 
   -- and a weight of at most 2^52
-  pub begin-light : beginOf f w m .refusal ≡ 0 → natAbs w ≤ top
-  unfolding beginOf
-  begin-light =
-      begin-by (λ a. a .refusal ≡ 0 → natAbs w ≤ top) (λ p z. absurd (omega (arith, rw p at z))) (λ p q z. absurd (omega (arith, rw (p, q) at z)))
-      (λ p q s z. absurd (omega (arith, rw (p, q, s) at z))) (λ p q s z. let l = leb-true (f .weight + natAbs w) top s in omega (arith, l))
+  pub begin-light : number tests ≡ 0 → natAbs w ≤ top
+  begin-light z = let l = leb-true (f .totals .weight + natAbs w) top (not-false _ (off-number tests refl z .1 .1 .0)) in omega (arith, l)
 
   -- a refused one changes nothing
-  pub begin-kept : (beginOf f w m .refusal ≡ 0 → ⊥) → beginOf f w m .fixed ≡ f
+  pub begin-kept : (number tests ≡ 0 → ⊥) → beginOf f w m .scalars ≡ f
   unfolding beginOf
-  begin-kept =
-      begin-by (λ a. (a .refusal ≡ 0 → ⊥) → a .fixed ≡ f) (λ p n. rw p) (λ p q n. rw (p, q)) (λ p q s n. rw (p, q, s)) (λ p q s n. absurd (n (rw (p, q, s))))
+  begin-kept n = rw (ne-eqb (number tests) 0 n)
+
+  pub begin-number : beginOf f w m .refusal ≡ number tests
+  unfolding beginOf
+  begin-number = refl
+
+  -- the totals may be added
+  pub begin-sum : number tests ≡ 0 → number (totalsTests (f .totals) (updateTotals (natAbs w))) ≡ 0
+  begin-sum z = number-off (totalsTests (f .totals) (updateTotals (natAbs w))) (off-number tests refl z .1 .1)
+
+  -- what the code answers
+  pub begin-refused : (n : ℕ) → n ≡ number tests → (n ≡ 0 → ⊥) → record { refusal = n; scalars = f } ≡ beginOf f w m
+  unfolding beginOf
+  begin-refused n e h = rw (ne-eqb (number tests) 0 (λ z. h (e ∙ z))) (ap (λ (k : ℕ). record { refusal = k; scalars = f }) e)
+
+  pub begin-done : number tests ≡ 0 → record { refusal = 0; scalars = begunScalars f (updateTotals (natAbs w)) m } ≡ beginOf f w m
+  unfolding beginOf
+  begin-done z = rw z
 
 module _ (h : Header) (w : ℤ) (m : Mode) where
   -- the same of a header
-  pub header-begun : (a : Answered) → a ≡ beginHeader h w m → a .refusal ≡ 0 → a .header ≡ begun h (natAbs w) m
+  pub header-begun : (a : Answered) → a ≡ beginHeader h w m → a .refusal ≡ 0 → a .header ≡ begun h (updateTotals (natAbs w)) m
   unfolding beginHeader
   header-begun a e n =
       ap (λ (b : Answered). b .header) e
-      ∙ ap (λ (f : Fixed). headOf f (h .flags) (h .lens)) (begun-is (fixedOf h) w m (beginOf (fixedOf h) w m) refl (sym (ap (λ (b : Answered). b .refusal) e) ∙ n))
+      ∙ ap (λ (f : Scalars). headOf f (h .flags) (h .lens)) (begun-is (scalarsOf h) w m (beginOf (scalarsOf h) w m) refl (sym (ap (λ (b : Answered). b .refusal) e) ∙ n))
 
-  pub header-kept : (beginHeader h w m .refusal ≡ 0 → ⊥) → beginHeader h w m .header ≡ h
+  pub header-kept : (number (beginTests (scalarsOf h) w m) ≡ 0 → ⊥) → beginHeader h w m .header ≡ h
   unfolding beginHeader
-  header-kept n = ap (λ (f : Fixed). headOf f (h .flags) (h .lens)) (begin-kept (fixedOf h) w m n)
+  header-kept n = ap (λ (f : Scalars). headOf f (h .flags) (h .lens)) (begin-kept (scalarsOf h) w m n)
 
-  -- the header with the weight and the mode that were answered
-  abbrev pub beginning : Begun → Answered
-  beginning b = record { refusal = b .refusal; header = withMode (withWeight h (b .fixed .weight)) (b .fixed .mode) }
+  pub header-number : beginHeader h w m .refusal ≡ number (beginTests (scalarsOf h) w m)
+  unfolding beginHeader beginOf
+  header-number = refl
 
-  pub header-begins : (b : Begun) → b ≡ beginOf (fixedOf h) w m → beginning b ≡ beginHeader h w m
+  -- the header with the totals and the mode that were answered
+  abbrev pub beginning : AnsweredLent → Answered
+  beginning b = record { refusal = b .refusal; header = withMode (withTotals h (b .scalars .totals)) (b .scalars .mode) }
+
+  pub header-begins : (b : AnsweredLent) → b ≡ beginOf (scalarsOf h) w m → beginning b ≡ beginHeader h w m
   unfolding beginHeader
-  header-begins b e = ap beginning e ∙ ap shaped (sym (begin-shape (fixedOf h) w m))
+  header-begins b e = ap beginning e ∙ ap shaped (sym (begin-shape (scalarsOf h) w m))
     where
       shaped : Shape → Answered
       shaped sh =
-          let f : Fixed = beginOf (fixedOf h) w m .fixed in
-          record { refusal = beginOf (fixedOf h) w m .refusal; header = record { shape = sh; weight = f .weight; mode = f .mode; flags = h .flags; lens = h .lens } }
+          let f : Scalars = beginOf (scalarsOf h) w m .scalars in
+          record { refusal = beginOf (scalarsOf h) w m .refusal; header = record { shape = sh; totals = f .totals; mode = f .mode; flags = h .flags; lens = h .lens } }
 
 -- ---- a layer's flag and length
 

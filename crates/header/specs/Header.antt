@@ -1,19 +1,21 @@
 -- The header and its own steps. Only the functions of this page build a header.
-use Prim.Native.Nat.{ℕ, zero, suc, _+_, _-_}
+use Prim.Native.Nat.{ℕ, zero, suc, _-_}
 use mathlib.Core.Bool.{Bool, true, false, cond, not, _&&_}
-use mathlib.Core.List.{List, _++_}
+use mathlib.Core.List.{List, _∷_, _++_}
 use lib.ListN.{getD, set, replicate}
 use lib.IntN.{ℤ, natAbs}
 use lib.Signed.{nonNeg}
 use lib.Dec.{eqb, ltb, leb}
-use Rattle.words.specs.Num.{top}
+use Rattle.words.specs.Tests.{number}
 use Rattle.header.specs.Shape.{maxLayers, shapeRefusal}
+use Rattle.header.specs.Totals.{noTotals, updateTotals, addTotals, totalsOk, totalsTests}
 use Rattle.header.specs.declared.Shape.{Shape}
 use Rattle.header.specs.declared.Mode.{Mode}
 use Rattle.header.specs.declared.Mode.the-variants as mode
+use Rattle.header.specs.declared.Totals.{Totals}
 use Rattle.header.specs.declared.Header.{Header}
-use Rattle.header.specs.declared.Fixed.{Fixed}
-use Rattle.header.specs.declared.Begun.{Begun}
+use Rattle.header.specs.declared.Scalars.{Scalars}
+use Rattle.header.specs.declared.AnsweredLent.{AnsweredLent}
 use Rattle.header.specs.declared.Answered.{Answered}
 
 -- ---- headers from nothing
@@ -23,7 +25,7 @@ abbrev pub zeroHeader : Header
 zeroHeader =
     record {
       shape = record { «heap_size» = 0; rows = 0; cols = 0; layers = 0 };
-      weight = 0;
+      totals = noTotals;
       mode = mode.Unset;
       flags = replicate maxLayers false;
       lens = replicate maxLayers 0;
@@ -34,21 +36,21 @@ abbrev pub freshFlags : ℕ → List Bool
 freshFlags layers = replicate layers true ++ replicate (maxLayers - layers) false
 
 unfoldable pub freshHeader : Shape → Header
-freshHeader sh = record { shape = sh; weight = 0; mode = mode.Unset; flags = freshFlags (sh .layers); lens = replicate maxLayers 0 }
+freshHeader sh = record { shape = sh; totals = noTotals; mode = mode.Unset; flags = freshFlags (sh .layers); lens = replicate maxLayers 0 }
 
 -- ---- one field changed
 
-abbrev pub withWeight : Header → ℕ → Header
-withWeight h w = record { shape = h .shape; weight = w; mode = h .mode; flags = h .flags; lens = h .lens }
+abbrev pub withTotals : Header → Totals → Header
+withTotals h t = record { shape = h .shape; totals = t; mode = h .mode; flags = h .flags; lens = h .lens }
 
 abbrev pub withMode : Header → Mode → Header
-withMode h m = record { shape = h .shape; weight = h .weight; mode = m; flags = h .flags; lens = h .lens }
+withMode h m = record { shape = h .shape; totals = h .totals; mode = m; flags = h .flags; lens = h .lens }
 
 abbrev pub withFlags : Header → List Bool → Header
-withFlags h fs = record { shape = h .shape; weight = h .weight; mode = h .mode; flags = fs; lens = h .lens }
+withFlags h fs = record { shape = h .shape; totals = h .totals; mode = h .mode; flags = fs; lens = h .lens }
 
 abbrev pub withLens : Header → List ℕ → Header
-withLens h ns = record { shape = h .shape; weight = h .weight; mode = h .mode; flags = h .flags; lens = ns }
+withLens h ns = record { shape = h .shape; totals = h .totals; mode = h .mode; flags = h .flags; lens = ns }
 
 -- layer l's flag and length
 abbrev pub withLayer : Header → ℕ → Bool → ℕ → Header
@@ -59,12 +61,12 @@ abbrev pub withLayers : Header → List Bool → List ℕ → Header
 withLayers h fs ns = withLens (withFlags h fs) ns
 
 -- the header of what is lent beside lengths and flags
-abbrev pub headOf : Fixed → List Bool → List ℕ → Header
-headOf f fs ns = record { shape = f .shape; weight = f .weight; mode = f .mode; flags = fs; lens = ns }
+abbrev pub headOf : Scalars → List Bool → List ℕ → Header
+headOf f fs ns = record { shape = f .shape; totals = f .totals; mode = f .mode; flags = fs; lens = ns }
 
 -- and what is left without them
-abbrev pub fixedOf : Header → Fixed
-fixedOf h = record { shape = h .shape; weight = h .weight; mode = h .mode }
+abbrev pub scalarsOf : Header → Scalars
+scalarsOf h = record { shape = h .shape; totals = h .totals; mode = h .mode }
 
 -- ---- modes
 
@@ -88,26 +90,30 @@ joined mode.Terminal m = mode.Terminal
 abbrev pub settled : Mode → Mode
 settled m = joined m mode.Standard
 
--- ---- an update begins: 5 "negative weight", 6 "mode mixed", 7 "weight would pass 2^52"
+-- ---- the totals and the mode of an update or of a second header come in
 
-abbrev pub begun : Header → ℕ → Mode → Header
-begun h w m = withMode (withWeight h (h .weight + w)) (joined (h .mode) m)
+abbrev pub begun : Header → Totals → Mode → Header
+begun h t m = withMode (withTotals h (addTotals (h .totals) t)) (joined (h .mode) m)
 
--- the same of what no layer's step changes
-abbrev pub begunFixed : Fixed → ℕ → Mode → Fixed
-begunFixed f w m = record { shape = f .shape; weight = f .weight + w; mode = joined (f .mode) m }
+-- the same without lengths and flags
+abbrev pub begunScalars : Scalars → Totals → Mode → Scalars
+begunScalars f t m = record { shape = f .shape; totals = addTotals (f .totals) t; mode = joined (f .mode) m }
 
-unfoldable pub beginOf : Fixed → ℤ → Mode → Begun
+-- an update: 5 "negative weight", 6 "mode mixed in update", then the totals
+abbrev pub beginTests : Scalars → ℤ → Mode → List (Bool × ℕ)
+beginTests f w m = (not (nonNeg w), 5) ∷ (clash (f .mode) m, 6) ∷ totalsTests (f .totals) (updateTotals (natAbs w))
+
+unfoldable pub beginOf : Scalars → ℤ → Mode → AnsweredLent
 beginOf f w m =
-    cond (not (nonNeg w)) (record { refusal = 5; fixed = f })
-    (cond (clash (f .mode) m) (record { refusal = 6; fixed = f })
-    (cond (not (leb (f .weight + natAbs w) top)) (record { refusal = 7; fixed = f })
-    (record { refusal = 0; fixed = begunFixed f (natAbs w) m })))
+    record {
+      refusal = number (beginTests f w m);
+      scalars = cond (eqb (number (beginTests f w m)) 0) (begunScalars f (updateTotals (natAbs w)) m) f;
+    }
 
 -- "The header's own steps hand back the changed header.": the same of a whole header, whose lengths and flags stay
 unfoldable pub beginHeader : Header → ℤ → Mode → Answered
 beginHeader h w m =
-    record { refusal = beginOf (fixedOf h) w m .refusal; header = headOf (beginOf (fixedOf h) w m .fixed) (h .flags) (h .lens) }
+    record { refusal = beginOf (scalarsOf h) w m .refusal; header = headOf (beginOf (scalarsOf h) w m .scalars) (h .flags) (h .lens) }
 
 -- ---- "A header is in range if `new` accepts its dimensions, its weight is 0 to 2^52, each length is at most the heap size, and past the last layer
 -- lengths are 0 and flags false."
@@ -122,4 +128,4 @@ lensFrom layers size lens flags zero l = true
 lensFrom layers size lens flags (suc k) l = layerOk l layers size (getD lens l 0) (getD flags l false) && lensFrom layers size lens flags k (suc l)
 
 unfoldable pub headerOk : Header → Bool
-headerOk h = eqb (shapeRefusal (h .shape)) 0 && leb (h .weight) top && lensFrom (h .shape .layers) (h .shape .«heap_size») (h .lens) (h .flags) maxLayers 0
+headerOk h = eqb (shapeRefusal (h .shape)) 0 && totalsOk (h .totals) && lensFrom (h .shape .layers) (h .shape .«heap_size») (h .lens) (h .flags) maxLayers 0

@@ -1,3 +1,4 @@
 pub mod Shape
+pub mod Totals
 pub mod Header
 pub mod Accepted

@@ -1,8 +1,9 @@
 -- Dimensions, and the layer that a key reaches.
 use Prim.Native.Nat.{ℕ, zero, suc, _+_, _-_, _*_, _/_, _%_, _^_}
-use mathlib.Core.Bool.{cond, _||_}
+use mathlib.Core.Bool.{Bool, cond, _&&_, _||_}
 use lib.Dec.{eqb, ltb}
 use Rattle.matrix_storage.specs.Bits.{maxRows, maxCols, hashBits, maskBits}
+use Rattle.heap_moves.specs.Cands.{mostCands}
 use Rattle.header.specs.declared.Shape.{Shape}
 use Rattle.header.specs.declared.CheckedShape.{CheckedShape}
 use Rattle.header.specs.declared.CheckedShape.the-variants as checked
@@ -14,7 +15,7 @@ abbrev pub maxLayers : ℕ
 maxLayers = 19
 
 abbrev pub maxHeap : ℕ
-maxHeap = 1024
+maxHeap = mostCands
 
 -- 1 "a dimension is 0", 2 "layers above 19", 3 "hash bits above 128", 4 "rows, cols or heap size above the domain"; 0 where nothing is refused
 unfoldable pub shapeRefusal : Shape → ℕ
@@ -28,6 +29,10 @@ shapeRefusal sh =
 -- the shape, or its refusal
 unfoldable pub checkedShape : Shape → CheckedShape
 checkedShape sh = cond (eqb (shapeRefusal sh) 0) (checked.Good sh) (checked.Refused (shapeRefusal sh))
+
+-- 10 "layers, rows, cols or heap sizes differ in merge": whether none does
+abbrev pub sameShape : Shape → Shape → Bool
+sameShape a b = eqb (a .layers) (b .layers) && eqb (a .rows) (b .rows) && eqb (a .cols) (b .cols) && eqb (a .«heap_size») (b .«heap_size»)
 
 -- "Bottom layer: l − 1 for the first l from 1 to layers − 1 whose hash bit l is 0, else layers − 1.": k layers from l on are looked at
 unfoldable pub bottomFrom : ℕ → ℕ → ℕ → ℕ

@@ -7,14 +7,11 @@ ghost use mathlib.Core.Bool.{Bool, true, false, _&&_};
 ghost use mathlib.Core.List.{List};
 ghost use Prim.Native.Nat.{ℕ, _+_, _-_, _<_, _≤_};
 ghost use lib.ListN.{length, getD, set, replicate};
+ghost use Rattle.words.specs.Tests.{number};
 ghost use Rattle.header.specs.declared.Mode.{Mode};
-ghost use Rattle.header.specs.Shape.{shapeRefusal, checkedShape, bottomOf, bottomLayer};
-ghost use Rattle.header.specs.Header.{zeroHeader, freshHeader, withWeight, withMode, withFlags, withLens, withLayer, withLayers, headOf, fixedOf, clash, joined, beginOf, beginHeader, freshFlags, lensFrom, headerOk};
-
-// 2^52, the greatest weight.
-const TOP: u64 = 4503599627370496;
-
-const WORD_MAX: u64 = 18446744073709551615;
+ghost use Rattle.header.specs.Totals.{noTotals, updateTotals, addTotals, setWeight, totalsOk, totalsTests};
+ghost use Rattle.header.specs.Shape.{maxLayers, shapeRefusal, checkedShape, sameShape, bottomOf, bottomLayer};
+ghost use Rattle.header.specs.Header.{zeroHeader, freshHeader, withTotals, withMode, withFlags, withLens, withLayer, withLayers, headOf, scalarsOf, clash, joined, beginTests, beginOf, beginHeader, freshFlags, lensFrom, headerOk};
 
 // Heap size, rows, columns and layers.
 pub struct Shape {
@@ -43,20 +40,25 @@ pub enum Mode {
     Terminal,
 }
 
+// What updates and merges add up, beside the layers: the weight of all that was counted.
+pub struct Totals {
+    pub weight: u64,
+}
+
 // The fields stand by falling alignment, so that no copy of a header starts at an odd byte.
 pub struct Header {
     pub shape: Shape,
-    pub weight: u64,
-    pub lens: [usize; 19],
-    pub flags: [bool; 19],
+    pub totals: Totals,
+    pub lens: [usize; Shape::MAX_LAYERS],
+    pub flags: [bool; Shape::MAX_LAYERS],
     pub mode: Mode,
 }
 
-// What of a header no layer's step changes. It goes beside lengths and flags, which are lent: a header
-// by value would be copied at each call.
-pub struct Fixed {
+// A header without what it holds by layer. It goes beside lengths and flags, which are lent: a header by
+// value would be copied at each call.
+pub struct Scalars {
     pub shape: Shape,
-    pub weight: u64,
+    pub totals: Totals,
     pub mode: Mode,
 }
 
@@ -67,9 +69,9 @@ pub struct Answered {
 }
 
 // The same where lengths and flags are lent.
-pub struct Begun {
+pub struct AnsweredLent {
     pub refusal: u64,
-    pub fixed: Fixed,
+    pub scalars: Scalars,
 }
 
 impl Shape {
@@ -79,7 +81,7 @@ impl Shape {
 
     pub const MAX_COLS: usize = matrix_storage::MAX_COLS;
 
-    pub const MAX_HEAP_SIZE: usize = 1024;
+    pub const MAX_HEAP_SIZE: usize = heap_moves::MAX_HEAP_SIZE;
 
     // 0, or the refusal of the dimensions: 1, 2, 3, 4 in this order.
     pub fn refusal(self) -> u64
@@ -131,6 +133,22 @@ impl Shape {
         }
         CheckedShape::Good(shape)
     }
+
+    // Whether two shapes have the same dimensions.
+    pub fn same(self, other: Shape) -> bool
+        ensures { λ r. ⌜ r ≡ sameShape self other ⌝ }
+    {
+        if self.layers != other.layers {
+            return false;
+        }
+        if self.rows != other.rows {
+            return false;
+        }
+        if self.cols != other.cols {
+            return false;
+        }
+        self.heap_size == other.heap_size
+    }
 }
 
 // 0, or the refusal of these dimensions.
@@ -147,10 +165,10 @@ pub fn check_shape(heap_size: usize, rows: usize, cols: usize, layers: usize) ->
 // The last layer that a key with this bottom hash reaches, of at least one layer: as many as there
 // are ones from bit 1 on, by the zeros of their opposites, so that no jump depends on the hash.
 pub fn bottom_of(hash: u64, layers: usize) -> usize
-    requires { ⌜ (1 ≤ layers) × (layers ≤ 19) ⌝ }
+    requires { ⌜ (1 ≤ layers) × (layers ≤ maxLayers) ⌝ }
     ensures { λ r. ⌜ (r ≡ bottomOf hash layers) × (r < layers) ⌝ }
 {
-    let ones = u64::trailing_zeros(WORD_MAX - (hash >> 1)) as usize;
+    let ones = u64::trailing_zeros(u64::MAX - (hash >> 1)) as usize;
     let last = layers - 1;
     if ones < last {
         return ones;
@@ -158,7 +176,7 @@ pub fn bottom_of(hash: u64, layers: usize) -> usize
     last
 }
 
-// The same for any number of layers: 1 for none, 2 above 19.
+// The same for any number of layers: 1 for none, 2 above the domain.
 pub fn bottom_layer_for_hash(hash: u64, layers: usize) -> BottomLayer
     ensures { λ r. ⌜ r ≡ bottomLayer hash layers ⌝ }
 {
@@ -216,58 +234,69 @@ impl Header {
         };
         Header {
             shape,
-            weight: 0,
+            totals: Totals::zero(),
             mode: Mode::Unset,
-            flags: [false; 19],
-            lens: [0usize; 19],
+            flags: [false; Shape::MAX_LAYERS],
+            lens: [0usize; Shape::MAX_LAYERS],
         }
     }
 
     // Nothing counted yet, every layer complete.
     pub fn fresh(shape: Shape) -> Self
-        requires { ⌜ shape .layers ≤ 19 ⌝ }
+        requires { ⌜ shape .layers ≤ maxLayers ⌝ }
         ensures { λ r. ⌜ r ≡ freshHeader shape ⌝ }
     {
         let layers = shape.layers;
         let flags = fresh_flags(layers);
         Header {
             shape,
-            weight: 0,
+            totals: Totals::zero(),
             mode: Mode::Unset,
             flags,
-            lens: [0usize; 19],
+            lens: [0usize; Shape::MAX_LAYERS],
         }
     }
 
     // What is left without lengths and flags.
-    pub fn fixed(self) -> Fixed
-        ensures { λ r. ⌜ r ≡ fixedOf self ⌝ }
+    pub fn scalars(self) -> Scalars
+        ensures { λ r. ⌜ r ≡ scalarsOf self ⌝ }
     {
         let shape = self.shape;
+        let totals = self.totals;
         let mode = self.mode;
-        Fixed {
+        Scalars {
             shape,
-            weight: self.weight,
+            totals,
             mode,
         }
     }
 
-    pub fn with_weight(mut self, weight: u64) -> Self
-        ensures { λ r. ⌜ r ≡ withWeight self weight ⌝ }
+    pub fn with_totals(self, totals: Totals) -> Self
+        ensures { λ r. ⌜ r ≡ withTotals self totals ⌝ }
     {
-        self.weight = weight;
-        self
+        let shape = self.shape;
+        let mode = self.mode;
+        let flags = self.flags;
+        let lens = self.lens;
+        Header {
+            shape,
+            totals,
+            mode,
+            flags,
+            lens,
+        }
     }
 
     pub fn with_mode(self, mode: Mode) -> Self
         ensures { λ r. ⌜ r ≡ withMode self mode ⌝ }
     {
         let shape = self.shape;
+        let totals = self.totals;
         let flags = self.flags;
         let lens = self.lens;
         Header {
             shape,
-            weight: self.weight,
+            totals,
             mode,
             flags,
             lens,
@@ -275,7 +304,7 @@ impl Header {
     }
 
     pub fn clear_flag(mut self, layer: usize) -> Self
-        requires { ⌜ layer < 19 ⌝ }
+        requires { ⌜ layer < maxLayers ⌝ }
         ensures { λ r. ⌜ r ≡ withFlags self (set (self .flags) layer false) ⌝ }
     {
         self.flags[layer] = false;
@@ -284,14 +313,14 @@ impl Header {
 
     // No layer is complete any more.
     pub fn clear_flags(mut self) -> Self
-        ensures { λ r. ⌜ r ≡ withFlags self (replicate 19 false) ⌝ }
+        ensures { λ r. ⌜ r ≡ withFlags self (replicate maxLayers false) ⌝ }
     {
-        self.flags = [false; 19];
+        self.flags = [false; Shape::MAX_LAYERS];
         self
     }
 
     pub fn with_len(mut self, layer: usize, len: usize) -> Self
-        requires { ⌜ layer < 19 ⌝ }
+        requires { ⌜ layer < maxLayers ⌝ }
         ensures { λ r. ⌜ r ≡ withLens self (set (self .lens) layer len) ⌝ }
     {
         self.lens[layer] = len;
@@ -301,7 +330,7 @@ impl Header {
     // A layer's new length; its flag falls where a key was not kept. The test comes first: each way
     // then copies the header no more than storing in place would.
     pub fn touched(self, layer: usize, len: usize, kept: bool) -> Self
-        requires { ⌜ layer < 19 ⌝ }
+        requires { ⌜ layer < maxLayers ⌝ }
         ensures { λ r. ⌜ r ≡ withLayer self layer (getD (self .flags) layer false && kept) len ⌝ }
     {
         if kept {
@@ -311,7 +340,11 @@ impl Header {
     }
 
     // Every length and flag anew, after a call that was lent them.
-    pub fn with_layers(mut self, lens: [usize; 19], flags: [bool; 19]) -> Self
+    pub fn with_layers(
+        mut self,
+        lens: [usize; Shape::MAX_LAYERS],
+        flags: [bool; Shape::MAX_LAYERS],
+    ) -> Self
         ensures { λ r. ⌜ r ≡ withLayers self flags lens ⌝ }
     {
         self.lens = lens;
@@ -319,79 +352,129 @@ impl Header {
         self
     }
 
-    // Weight and mode of an update: 5, 6 or 7 and the header as it was, or 0 and the header that the
+    // Totals and mode of an update: 5, 6 or 7 and the header as it was, or 0 and the header that the
     // update begins with.
     pub fn begin_update(self, weight: i64, mode: Mode) -> Answered
         ensures { λ r. ⌜ r ≡ beginHeader self weight mode ⌝ }
     {
-        let begun = self.fixed().begin_update(weight, mode);
-        let fixed = begun.fixed;
-        let next = fixed.mode;
+        let begun = self.scalars().begin_update(weight, mode);
+        let scalars = begun.scalars;
+        let totals = scalars.totals;
+        let next = scalars.mode;
         Answered {
             refusal: begun.refusal,
-            header: self.with_weight(fixed.weight).with_mode(next),
+            header: self.with_totals(totals).with_mode(next),
         }
     }
 
-    // Whether dimensions, weight, lengths and flags are in range.
+    // Whether dimensions, totals, lengths and flags are in range.
     pub fn in_range(self) -> bool
         ensures { λ r. ⌜ r ≡ headerOk self ⌝ }
     {
         let lens = self.lens;
         let flags = self.flags;
-        fields_in_range(self.shape, self.weight, &lens, &flags)
+        fields_in_range(self.shape, self.totals, &lens, &flags)
     }
 }
 
-impl Fixed {
-    // The same without lengths and flags, which an update's beginning does not change: here it is
-    // tested, for any weight that was there.
-    pub fn begin_update(self, weight: i64, mode: Mode) -> Begun
-        ensures { λ r. ⌜ r ≡ beginOf self weight mode ⌝ }
+impl Totals {
+    pub fn zero() -> Self
+        ensures { λ r. ⌜ r ≡ noTotals ⌝ }
+    {
+        Totals { weight: 0 }
+    }
+
+    // What one update adds.
+    pub fn of_update(weight: u64) -> Self
+        ensures { λ r. ⌜ r ≡ updateTotals weight ⌝ }
+    {
+        Totals { weight }
+    }
+
+    pub fn with_weight(self, weight: u64) -> Self
+        ensures { λ r. ⌜ r ≡ setWeight self weight ⌝ }
+    {
+        Totals { weight }
+    }
+
+    pub fn in_range(self) -> bool
+        ensures { λ r. ⌜ r ≡ totalsOk self ⌝ }
+    {
+        self.weight <= words::MAX_WEIGHT
+    }
+
+    // 7 where the sum would pass 2^52, 0 where not; of any two.
+    pub fn sum_refusal(self, more: Totals) -> u64
+        ensures { λ r. ⌜ r ≡ number (totalsTests self more) ⌝ }
+    {
+        if words::MAX_WEIGHT < more.weight {
+            return 7;
+        }
+        if words::MAX_WEIGHT - more.weight < self.weight {
+            return 7;
+        }
+        0
+    }
+
+    pub fn plus(self, more: Totals) -> Self
+        requires { ⌜ number (totalsTests self more) ≡ 0 ⌝ }
+        ensures { λ r. ⌜ r ≡ addTotals self more ⌝ }
+    {
+        Totals {
+            weight: self.weight + more.weight,
+        }
+    }
+}
+
+impl Scalars {
+    // The number that an update's beginning is refused with, 0 for none: 5, 6, 7.
+    pub fn begin_refusal(self, weight: i64, mode: Mode) -> u64
+        ensures { λ r. ⌜ r ≡ number (beginTests self weight mode) ⌝ }
     {
         if weight < 0 {
-            return Begun {
-                refusal: 5,
-                fixed: self,
+            return 5;
+        }
+        let before = self.mode;
+        if clashes(before, mode) {
+            return 6;
+        }
+        self.totals
+            .sum_refusal(Totals::of_update(words::magnitude(weight)))
+    }
+
+    // An update's beginning without lengths and flags, which it does not change; for any totals that
+    // were there.
+    pub fn begin_update(self, weight: i64, mode: Mode) -> AnsweredLent
+        ensures { λ r. ⌜ r ≡ beginOf self weight mode ⌝ }
+    {
+        let refusal = self.begin_refusal(weight, mode);
+        if refusal != 0 {
+            return AnsweredLent {
+                refusal,
+                scalars: self,
             };
         }
-        let had = self.mode;
-        if clashes(had, mode) {
-            return Begun {
-                refusal: 6,
-                fixed: self,
-            };
-        }
-        let w = weight as u64;
-        if TOP < w {
-            return Begun {
-                refusal: 7,
-                fixed: self,
-            };
-        }
-        if TOP - w < self.weight {
-            return Begun {
-                refusal: 7,
-                fixed: self,
-            };
-        }
-        let sum = self.weight + w;
         let shape = self.shape;
-        let fixed = Fixed {
+        let before = self.mode;
+        let scalars = Scalars {
             shape,
-            weight: sum,
-            mode: join(had, mode),
+            totals: self.totals
+                .plus(Totals::of_update(words::magnitude(weight))),
+            mode: join(before, mode),
         };
-        Begun { refusal: 0, fixed }
+        AnsweredLent {
+            refusal: 0,
+            scalars,
+        }
     }
 }
 
 // True for the layers, false past the last.
-fn fresh_flags(layers: usize) -> [bool; 19]
-    requires { ⌜ layers ≤ 19 ⌝ }
+fn fresh_flags(layers: usize) -> [bool; Shape::MAX_LAYERS]
+    requires { ⌜ layers ≤ maxLayers ⌝ }
     ensures { λ r. ⌜ r ≡ freshFlags layers ⌝ }
 {
-    let mut flags = [false; 19];
+    let mut flags = [false; Shape::MAX_LAYERS];
     let mut l = 0;
     while l < layers {
         flags[l] = true;
@@ -419,27 +502,27 @@ fn lens_few(lens: &[usize], layers: usize, heap_size: usize) -> bool
 
 // Whether past the last layer lengths are 0 and flags false.
 fn rest_clear(lens: &[usize], flags: &[bool], layers: usize) -> bool
-    requires { ⌜ (layers ≤ 19) × ((length (now lens) ≡ 19) × (length (now flags) ≡ 19)) ⌝ }
-    ensures { λ r. ⌜ ((size : ℕ) → r ≡ lensFrom layers size (now (lens .entry)) (now (flags .entry)) (19 - layers) layers) ⌝ }
+    requires { ⌜ (layers ≤ maxLayers) × ((length (now lens) ≡ maxLayers) × (length (now flags) ≡ maxLayers)) ⌝ }
+    ensures { λ r. ⌜ ((size : ℕ) → r ≡ lensFrom layers size (now (lens .entry)) (now (flags .entry)) (maxLayers - layers) layers) ⌝ }
 {
     let mut clear = true;
     let mut l = layers;
-    while l < 19 {
+    while l < Shape::MAX_LAYERS {
         clear = clear & (lens[l] == 0) & !flags[l];
         l += 1;
     }
     clear
 }
 
-// Whether dimensions, weight, lengths and flags are in range; of the mode nothing is asked.
-pub fn fields_in_range(shape: Shape, weight: u64, lens: &[usize], flags: &[bool]) -> bool
-    requires { ⌜ (length (now lens) ≡ 19) × (length (now flags) ≡ 19) ⌝ }
-    ensures { λ r. ⌜ ((m : Mode) → r ≡ headerOk (headOf (record { shape = shape; weight = weight; mode = m }) (now (flags .entry)) (now (lens .entry)))) ⌝ }
+// Whether dimensions, totals, lengths and flags are in range; of the mode nothing is asked.
+pub fn fields_in_range(shape: Shape, totals: Totals, lens: &[usize], flags: &[bool]) -> bool
+    requires { ⌜ (length (now lens) ≡ maxLayers) × (length (now flags) ≡ maxLayers) ⌝ }
+    ensures { λ r. ⌜ ((m : Mode) → r ≡ headerOk (headOf (record { shape = shape; totals = totals; mode = m }) (now (flags .entry)) (now (lens .entry)))) ⌝ }
 {
     if shape.refusal() != 0 {
         return false;
     }
-    if TOP < weight {
+    if !totals.in_range() {
         return false;
     }
     let few = lens_few(lens, shape.layers, shape.heap_size);

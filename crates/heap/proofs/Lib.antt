@@ -3,3 +3,4 @@ pub mod Steps
 pub mod Cases
 pub mod Sounds
 pub mod Effects
+pub mod Entries

@@ -9,10 +9,6 @@ use Rattle.heap_moves.specs.Cands.{Cand, noCand, countAt, recount, up, down, up
 use Rattle.heap.specs.declared.Answer.{Answer}
 use Rattle.heap.specs.declared.Answer.the-variants.{Rescored, Seated, Displaced, TurnedAway}
 
--- "heap size 1 to 1,024"
-abbrev pub mostCands : ℕ
-mostCands = 1024
-
 -- the entries of `heap size` places, of which the first len are candidates
 pub record Table : Type 0 where
   pub cands : List Cand

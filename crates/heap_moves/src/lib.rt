@@ -12,6 +12,9 @@ ghost use Rattle.heap_moves.specs.Cands.{smaller, swapped, up, leftOr, l
 ghost use Rattle.heap_moves.specs.Flat.{candsOf, store4, whoOf, candOf};
 ghost use Rattle.heap_moves.specs.Post.{Two};
 
+// The greatest heap size: the most candidates of a layer.
+pub const MAX_HEAP_SIZE: usize = 1024;
+
 // Who is counted: the key, its bottom hash, and the halves of this layer's hash.
 pub struct Who {
     pub key: u64,

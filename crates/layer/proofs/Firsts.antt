@@ -42,11 +42,6 @@ or-none : (a : Bool) → (a || false) ≡ a
 or-none true = refl
 or-none false = refl
 
-or-known : (a b : Bool) → (a || b) ≡ true → (a || (b || true)) ≡ true
-or-known true b h = refl
-or-known false true h = refl
-or-known false false h = refl
-
 -- ---- keys seen
 
 abbrev pub Same : List ℕ → List ℕ → Type 0

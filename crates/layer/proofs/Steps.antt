@@ -15,11 +15,11 @@ use Rattle.heap_moves.specs.Cands.{Cand}
 use Rattle.heap.specs.Offer.{Table, Offered, offer, rescore, seat, replaceRoot, keptBy, lenBy, kept}
 use Rattle.heap.proofs.Cases.{offer-cases}
 use Rattle.heap.specs.Slices.{tableOf, offered}
-use Rattle.heap.proofs.Sounds.{offer-table, offer-long}
+use Rattle.heap.proofs.Sounds.{offer-len, offer-table, offer-long}
 use Rattle.layer.specs.declared.Dims.{Dims}
-use Rattle.layer.specs.Layer.{Layer, Item, layerOf, item, hashBy, countOf, offerTo, addSketch, addLayer}
+use Rattle.layer.specs.Layer.{Layer, Item, layerOf, item, hashBy, countOf, offerTo, addSketch, addLayer, addAnswer}
 use Rattle.layer.specs.Needs.{Fits}
-use Rattle.layer.specs.Delta.{Delta, delta, deltaLayer}
+use Rattle.layer.specs.Delta.{Delta, delta, deltaLayer, deltaAnswer}
 
 -- a sketch, and the offer of a key with its count from the new counters
 module _ (d : Dims) (who : Who) (s : Sketch) (es : List ℕ) (ns : List ℤ) (len : ℕ) (xs′ : List ℤ) (ws′ es′ : List ℕ) (ns′ : List ℤ) (a : Answer) (v : ℤ)
@@ -30,13 +30,15 @@ module _ (d : Dims) (who : Who) (s : Sketch) (es : List ℕ) (ns : List ℤ) (le
   same-offer : offered es ns (d .size) len who v ≡ offerTo d who (s .cells) (tableOf es ns len)
   same-offer = ap (λ (n : ℤ). offer (d .size) (tableOf es ns len) (candOf who n)) (count ∙ ap (λ (t : Sketch). countOf d who (t .cells)) sketch)
 
+  pub answered : a ≡ offerTo d who (s .cells) (tableOf es ns len) .answer
+  answered = said ∙ ap (λ (o : Offered). o .answer) same-offer
+
   pub stepped : (flag every : Bool) → layerOf d xs′ ws′ es′ ns′ (lenBy a len) (flag && (keptBy a && every))
       ≡ record { sketch = s; table = offerTo d who (s .cells) (tableOf es ns len) .table; flag = flag && (kept (offerTo d who (s .cells) (tableOf es ns len)) && every) }
   stepped flag every =
       let t : tableOf es′ ns′ (lenBy a len) ≡ offerTo d who (s .cells) (tableOf es ns len) .table =
       offer-table es ns (d .size) len who v es′ ns′ a words counts said ∙ ap (λ (o : Offered). o .table) same-offer in
-      let b : a ≡ offerTo d who (s .cells) (tableOf es ns len) .answer = said ∙ ap (λ (o : Offered). o .answer) same-offer in
-      λ i. record { sketch = sketch i; table = t i; flag = flag && (keptBy (b i) && every) }
+      λ i. record { sketch = sketch i; table = t i; flag = flag && (keptBy (answered i) && every) }
 
 and-true : (a : Bool) → a && true ≡ a
 and-true true = refl
@@ -46,23 +48,49 @@ pub add-is : (d : Dims) (who : Who) (w : ℕ) (xs : List ℤ) (ws es : List ℕ)
     → sketchOf xs′ ws′ (d .rows) ≡ addRows (d .cols) (hashBy who) w (d .rows) 0 (sketchOf xs ws (d .rows)) → v ≡ estimateOf (d .rows) (d .cols) (hashBy who) xs′
     → es′ ≡ entriesOf (offered es ns (d .size) len who v .table .cands) → ns′ ≡ countsOf (offered es ns (d .size) len who v .table .cands)
     → a ≡ offered es ns (d .size) len who v .answer
-    → (flag : Bool) → layerOf d xs′ ws′ es′ ns′ (lenBy a len) (flag && keptBy a) ≡ addLayer d (item who w) (layerOf d xs ws es ns len flag)
-unfolding addLayer addSketch
-add-is d who w xs ws es ns len xs′ ws′ es′ ns′ a v e f g h k flag =
+    → ((flag : Bool) → layerOf d xs′ ws′ es′ ns′ (lenBy a len) (flag && keptBy a) ≡ addLayer d (item who w) (layerOf d xs ws es ns len flag))
+    × ((flag : Bool) → a ≡ addAnswer d (item who w) (layerOf d xs ws es ns len flag))
+unfolding addLayer addAnswer addSketch
+add-is d who w xs ws es ns len xs′ ws′ es′ ns′ a v e f g h k =
     let s = addRows (d .cols) (hashBy who) w (d .rows) 0 (sketchOf xs ws (d .rows)) in
-    let o = offerTo d who (s .cells) (tableOf es ns len) in
-    ap (λ (b : Bool). layerOf d xs′ ws′ es′ ns′ (lenBy a len) (flag && b)) (sym (and-true (keptBy a)))
-    ∙ stepped d who s es ns len xs′ ws′ es′ ns′ a v e f g h k flag true
-    ∙ (λ i. record { sketch = s; table = o .table; flag = flag && and-true (kept o) i })
+    let o = offerTo d who (s .cells) (tableOf es ns len) in (
+      λ flag.
+          ap (λ (b : Bool). layerOf d xs′ ws′ es′ ns′ (lenBy a len) (flag && b)) (sym (and-true (keptBy a)))
+          ∙ stepped d who s es ns len xs′ ws′ es′ ns′ a v e f g h k flag true
+          ∙ (λ i. record { sketch = s; table = o .table; flag = flag && and-true (kept o) i }),
+      λ flag. answered d who s es ns len xs′ ws′ es′ ns′ a v e f g h k,
+    )
 
 pub delta-is : (d : Dims) (row col : ℕ) (n : ℤ) (who : Who) (xs : List ℤ) (ws es : List ℕ) (ns : List ℤ) (len : ℕ) (xs′ : List ℤ) (ws′ es′ : List ℕ) (ns′ : List ℤ) (a : Answer) (v : ℤ)
     → sketchOf xs′ ws′ (d .rows) ≡ addCell (row * d .cols + col) row n (sketchOf xs ws (d .rows)) → v ≡ estimateOf (d .rows) (d .cols) (hashBy who) xs′
     → es′ ≡ entriesOf (offered es ns (d .size) len who v .table .cands) → ns′ ≡ countsOf (offered es ns (d .size) len who v .table .cands)
     → a ≡ offered es ns (d .size) len who v .answer
-    → (flag every : Bool) → layerOf d xs′ ws′ es′ ns′ (lenBy a len) (flag && (keptBy a && every)) ≡ deltaLayer d (delta row col n who every) (layerOf d xs ws es ns len flag)
-unfolding deltaLayer
-delta-is d row col n who xs ws es ns len xs′ ws′ es′ ns′ a v e f g h k flag every =
-    stepped d who (addCell (row * d .cols + col) row n (sketchOf xs ws (d .rows))) es ns len xs′ ws′ es′ ns′ a v e f g h k flag every
+    → ((flag every : Bool) → layerOf d xs′ ws′ es′ ns′ (lenBy a len) (flag && (keptBy a && every)) ≡ deltaLayer d (delta row col n who every) (layerOf d xs ws es ns len flag))
+    × ((flag every : Bool) → a ≡ deltaAnswer d (delta row col n who every) (layerOf d xs ws es ns len flag))
+unfolding deltaLayer deltaAnswer
+delta-is d row col n who xs ws es ns len xs′ ws′ es′ ns′ a v e f g h k =
+    let s = addCell (row * d .cols + col) row n (sketchOf xs ws (d .rows)) in (
+      λ flag every. stepped d who s es ns len xs′ ws′ es′ ns′ a v e f g h k flag every,
+      λ flag every. answered d who s es ns len xs′ ws′ es′ ns′ a v e f g h k,
+    )
+
+-- ---- the answer says which length and which flag a layer has then
+
+pub add-len : (d : Dims) (u : Item) (l : Layer) → addLayer d u l .table .len ≡ lenBy (addAnswer d u l) (l .table .len)
+unfolding addLayer addAnswer
+add-len d u l = offer-len (d .size) (l .table) _
+
+pub add-flag : (d : Dims) (u : Item) (l : Layer) → addLayer d u l .flag ≡ (l .flag && keptBy (addAnswer d u l))
+unfolding addLayer addAnswer
+add-flag d u l = refl
+
+pub delta-len : (d : Dims) (u : Delta) (l : Layer) → deltaLayer d u l .table .len ≡ lenBy (deltaAnswer d u l) (l .table .len)
+unfolding deltaLayer deltaAnswer
+delta-len d u l = offer-len (d .size) (l .table) _
+
+pub delta-flag : (d : Dims) (u : Delta) (l : Layer) → deltaLayer d u l .flag ≡ (l .flag && (keptBy (deltaAnswer d u l) && u .every))
+unfolding deltaLayer deltaAnswer
+delta-flag d u l = refl
 
 -- ---- no more candidates than seats
 

@@ -5,6 +5,7 @@ use lib.IntN.{ℤ}
 use Rattle.countsketch_l2_norm.specs.Sketch.{Sketch, addCell, cellRead, cellFits}
 use Rattle.countsketch_l2_norm.specs.Estimate.{cellsIn}
 use Rattle.heap_moves.specs.declared.Who.{Who}
+use Rattle.heap.specs.declared.Answer.{Answer}
 use Rattle.heap.specs.Offer.{Offered, kept}
 use Rattle.layer.specs.declared.Dims.{Dims}
 use Rattle.layer.specs.Layer.{Layer, hashBy, offerTo, countsRead}
@@ -23,12 +24,23 @@ delta row col n who every = record { row = row; col = col; count = n; who = who;
 abbrev pub placeBy : Dims → Delta → ℕ
 placeBy d u = u .row * d .cols + u .col
 
--- the counter takes the count, then the key is offered with its estimate; the flag falls where a key was lost or not every insert was promoted
+-- the counter takes the count
+abbrev pub deltaSketch : Dims → Delta → Sketch → Sketch
+deltaSketch d u s = addCell (placeBy d u) (u .row) (u .count) s
+
+-- then the key is offered with its estimate
+abbrev pub deltaOffer : Dims → Delta → Layer → Offered
+deltaOffer d u l = offerTo d (u .who) (deltaSketch d u (l .sketch) .cells) (l .table)
+
+-- the flag falls where a key was lost or not every insert was promoted
 unfoldable pub deltaLayer : Dims → Delta → Layer → Layer
 deltaLayer d u l =
-    let s : Sketch = addCell (placeBy d u) (u .row) (u .count) (l .sketch) in
-    let o : Offered = offerTo d (u .who) (s .cells) (l .table) in
-    record { sketch = s; table = o .table; flag = l .flag && (kept o && u .every) }
+    let o : Offered = deltaOffer d u l in
+    record { sketch = deltaSketch d u (l .sketch); table = o .table; flag = l .flag && (kept o && u .every) }
+
+-- which of the four things the offer did
+unfoldable pub deltaAnswer : Dims → Delta → Layer → Answer
+deltaAnswer d u l = deltaOffer d u l .answer
 
 -- what it reads is in range: its cell and norm, the cells of the key's estimate, and the candidates
 unfoldable pub deltaReads : Dims → Delta → Layer → Bool

@@ -9,8 +9,9 @@ use Rattle.words.specs.Num.{allIn}
 use Rattle.matrix_storage.specs.Bits.{Shaped}
 use Rattle.countsketch_l2_norm.specs.Merge.{sums}
 use Rattle.heap_moves.specs.declared.Who.{Who}
+use Rattle.heap_moves.specs.Cands.{mostCands}
 use Rattle.heap_moves.specs.Flat.{whoOf}
-use Rattle.heap.specs.Offer.{Table, mostCands}
+use Rattle.heap.specs.Offer.{Table}
 use Rattle.heap.specs.Slices.{tableOf}
 use Rattle.layer.specs.declared.Dims.{Dims}
 use Rattle.layer.specs.declared.Merged.{Merged}

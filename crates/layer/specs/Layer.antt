@@ -11,6 +11,7 @@ use Rattle.countsketch_l2_norm.specs.Estimate.{estimateOf}
 use Rattle.heap_moves.specs.declared.Who.{Who}
 use Rattle.heap_moves.specs.Cands.{noCand}
 use Rattle.heap_moves.specs.Flat.{candOf, countsOf}
+use Rattle.heap.specs.declared.Answer.{Answer}
 use Rattle.heap.specs.Offer.{Table, Offered, offer, kept}
 use Rattle.heap.specs.Slices.{tableOf}
 use Rattle.layer.specs.declared.Dims.{Dims}
@@ -50,11 +51,17 @@ addSketch d u s = addRows (d .cols) (hashBy (u .who)) (u .weight) (d .rows) 0 s
 abbrev pub offerTo : Dims → Who → List ℤ → Table → Offered
 offerTo d w cells t = offer (d .size) t (candOf w (countOf d w cells))
 
+abbrev pub addOffer : Dims → Item → Layer → Offered
+addOffer d u l = offerTo d (u .who) (addSketch d u (l .sketch) .cells) (l .table)
+
 unfoldable pub addLayer : Dims → Item → Layer → Layer
 addLayer d u l =
-    let s : Sketch = addSketch d u (l .sketch) in
-    let o : Offered = offerTo d (u .who) (s .cells) (l .table) in
-    record { sketch = s; table = o .table; flag = l .flag && kept o }
+    let o : Offered = addOffer d u l in
+    record { sketch = addSketch d u (l .sketch); table = o .table; flag = l .flag && kept o }
+
+-- which of the four things the offer did
+unfoldable pub addAnswer : Dims → Item → Layer → Answer
+addAnswer d u l = addOffer d u l .answer
 
 -- "A candidate is in range if its count lies within ±2^52 .. A read candidate layer is read whole, up to its length."
 abbrev pub countsRead : Table → Bool

@@ -4,11 +4,11 @@ use mathlib.Core.Path.{_≡_}
 use mathlib.Core.Bool.{true, false}
 use mathlib.Core.List.{List}
 use lib.ListN.{length}
-use lib.IntN.{ℤ, natAbs}
+use lib.IntN.{ℤ}
 use Rattle.words.specs.Num.{top}
 use Rattle.matrix_storage.specs.Bits.{Shaped}
 use Rattle.heap_moves.specs.declared.Who.{Who}
-use Rattle.heap.specs.Offer.{mostCands}
+use Rattle.heap_moves.specs.Cands.{mostCands}
 use Rattle.layer.specs.declared.Dims.{Dims}
 use Rattle.layer.specs.Layer.{Layer, layerOf, item, addReads, addFits}
 use Rattle.layer.specs.Delta.{delta, deltaReads, deltaFits}
@@ -37,7 +37,6 @@ pub record DeltaReady (d : Dims) (len row col : ℕ) (n : ℤ) (who : Who) (xs :
   pub words : length es ≡ 4 * d .size
   pub below : row < d .rows
   pub inside : col < d .cols
-  pub small : natAbs n ≤ top
   pub read : deltaReads d (delta row col n who true) (layerOf d xs ws es ns len false) ≡ true
   pub fit : deltaFits d (delta row col n who true) (layerOf d xs ws es ns len false) ≡ true
 

@@ -9,7 +9,7 @@ ghost use Prim.Native.Nat.{ℕ, _≤_};
 ghost use lib.ListN.{length};
 ghost use Rattle.words.specs.Num.{top};
 ghost use Rattle.heap.specs.Offer.{keptBy, lenBy};
-ghost use Rattle.layer.specs.Layer.{layerOf, item, addLayer, addReads, addFits};
+ghost use Rattle.layer.specs.Layer.{layerOf, item, addLayer, addAnswer, addReads, addFits};
 ghost use Rattle.layer.specs.Needs.{Housed, AddReady};
 
 // Whether all that an update reads of the layer is in range.
@@ -73,6 +73,7 @@ pub fn add(
     requires { ⌜ AddReady d len who weight (now counters) (now norms) (now entries) (now counts) ⌝ }
     ensures { λ r. ⌜ ((flag : Bool) → layerOf d (now (counters .exit)) (now (norms .exit)) (now (entries .exit)) (now (counts .exit)) (lenBy r len) (flag && keptBy r)
         ≡ addLayer d (item who weight) (layerOf d (now (counters .entry)) (now (norms .entry)) (now (entries .entry)) (now (counts .entry)) len flag)) ⌝ }
+    ensures { λ r. ⌜ ((flag : Bool) → r ≡ addAnswer d (item who weight) (layerOf d (now (counters .entry)) (now (norms .entry)) (now (entries .entry)) (now (counts .entry)) len flag)) ⌝ }
 {
     let rows = d.rows;
     let cols = d.cols;

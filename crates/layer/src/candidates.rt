@@ -10,7 +10,7 @@ ghost use mathlib.Core.Path.{_≡_};
 ghost use mathlib.Core.List.{_++_};
 ghost use Prim.Native.Nat.{ℕ, _+_, _*_, _≤_, _<_};
 ghost use lib.ListN.{length};
-ghost use Rattle.heap.specs.Offer.{mostCands};
+ghost use Rattle.heap_moves.specs.Cands.{mostCands};
 ghost use Rattle.layer.specs.Gather.{gatheredOf, mergeTable, offerOne, gather, whosOf, keysOf, firstAt, Counted, Seats, Entries, Sofar};
 
 // One more key, with its count.
@@ -116,7 +116,7 @@ pub fn merge_candidates(
     requires { ⌜ Entries (length (now other)) «other_len» ⌝ }
     ensures { λ r. ⌜ gatheredOf (now (entries .exit)) (now (counts .exit)) r ≡ mergeTable d (now (counters .entry)) (whosOf (now (entries .entry)) len ++ whosOf (now (other .entry)) «other_len») ⌝ }
 {
-    let mut copy = [0u64; 4096];
+    let mut copy = [0u64; 4 * heap_moves::MAX_HEAP_SIZE];
     copy_words(&*entries, &mut copy, 4 * len);
     zero_words(entries);
     zero_counts(counts);

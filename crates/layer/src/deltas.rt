@@ -5,16 +5,16 @@ use heap_moves::Who;
 ghost use mathlib.Core.Path.{_≡_};
 ghost use mathlib.Core.Bool.{Bool, true, _&&_};
 ghost use mathlib.Core.List.{List};
-ghost use Prim.Native.Nat.{ℕ, _+_, _*_, _≤_, _<_};
+ghost use Prim.Native.Nat.{ℕ, _+_, _*_, _<_};
 ghost use lib.ListN.{length};
-ghost use lib.IntN.{ℤ, natAbs};
-ghost use Rattle.words.specs.Num.{top, inRange};
+ghost use lib.IntN.{ℤ};
+ghost use Rattle.words.specs.Num.{inRange};
 ghost use Rattle.matrix_storage.specs.Bits.{Shaped};
 ghost use Rattle.heap_moves.specs.declared.Who.{Who};
 ghost use Rattle.countsketch_l2_norm.specs.Sketch.{cellAt};
 ghost use Rattle.heap.specs.Offer.{keptBy, lenBy};
 ghost use Rattle.layer.specs.Layer.{layerOf};
-ghost use Rattle.layer.specs.Delta.{delta, deltaLayer, deltaReads, deltaFits};
+ghost use Rattle.layer.specs.Delta.{delta, deltaLayer, deltaAnswer, deltaReads, deltaFits};
 ghost use Rattle.layer.specs.Needs.{Housed, DeltaReady};
 
 // Whether all that a delta reads of the layer is in range.
@@ -41,11 +41,11 @@ pub fn delta_reads(
     heap::counts_in_range(counts, len)
 }
 
-// Whether the counter stays within the range; it is in it.
+// Whether the counter, which is in range, stays so, whatever the count.
 pub fn delta_fits(counters: &[i64], d: Dims, row: usize, col: usize, count: i64) -> bool
     requires { ⌜ (row < d .rows) × (col < d .cols) ⌝ }
     requires { ⌜ Shaped (d .rows) (d .cols) ⌝ }
-    requires { ⌜ (length (now counters) ≡ d .rows * d .cols) × (natAbs count ≤ top) ⌝ }
+    requires { ⌜ length (now counters) ≡ d .rows * d .cols ⌝ }
     requires { ⌜ inRange (cellAt (now counters) (row * d .cols + col)) ≡ true ⌝ }
     ensures { λ r. ⌜ ((ws es : List ℕ) (ns : List ℤ) (len : ℕ) (flag every : Bool) (who : Who) → r ≡ deltaFits d (delta row col count who every) (layerOf d (now (counters .entry)) ws es ns len flag)) ⌝ }
 {
@@ -68,6 +68,7 @@ pub fn apply_delta(
     requires { ⌜ DeltaReady d len row col count who (now counters) (now norms) (now entries) (now counts) ⌝ }
     ensures { λ r. ⌜ ((flag every : Bool) → layerOf d (now (counters .exit)) (now (norms .exit)) (now (entries .exit)) (now (counts .exit)) (lenBy r len) (flag && (keptBy r && every))
         ≡ deltaLayer d (delta row col count who every) (layerOf d (now (counters .entry)) (now (norms .entry)) (now (entries .entry)) (now (counts .entry)) len flag)) ⌝ }
+    ensures { λ r. ⌜ ((flag every : Bool) → r ≡ deltaAnswer d (delta row col count who every) (layerOf d (now (counters .entry)) (now (norms .entry)) (now (entries .entry)) (now (counts .entry)) len flag)) ⌝ }
 {
     let rows = d.rows;
     let cols = d.cols;

@@ -1,12 +1,14 @@
 // Runs stored inputs through the leaves and prints what they answer: `stdout` holds the oracle's
 // answers. A line of `stdin` is an operation, the number of its words, and the words.
 use matrix_storage::Cell;
+use matrix_storage::MAX_ROWS;
 use matrix_storage::MaskBits;
 ghost use mathlib.Core.Path.{_≡_};
 ghost use mathlib.Core.Bool.{true};
 ghost use Prim.Native.Nat.{_≤_};
 ghost use lib.ListN.{length, take};
 ghost use Rattle.words.specs.Num.{allIn};
+ghost use Rattle.matrix_storage.specs.Bits.{maxRows};
 
 // 1: the mask bits of a number of columns.
 fn mask_bits(cols: usize) {
@@ -30,13 +32,13 @@ fn cell(high: u64, low: u64, row: usize, rows: usize, cols: usize) {
 }
 
 // Puts a value in among the first n, where it is in range: the number of values then.
-fn put(buf: &mut [i64; 20], n: usize, v: i64) -> usize
-    requires { ⌜ (n ≤ 20) × (length (now buf) ≡ 20) ⌝ }
+fn put(buf: &mut [i64; MAX_ROWS], n: usize, v: i64) -> usize
+    requires { ⌜ (n ≤ maxRows) × (length (now buf) ≡ maxRows) ⌝ }
     requires { ⌜ allIn (take n (now buf)) ≡ true ⌝ }
-    ensures { λ r. ⌜ (r ≤ 20) × (length (now (buf .exit)) ≡ 20) ⌝ }
+    ensures { λ r. ⌜ (r ≤ maxRows) × (length (now (buf .exit)) ≡ maxRows) ⌝ }
     ensures { λ r. ⌜ allIn (take r (now (buf .exit))) ≡ true ⌝ }
 {
-    if n == 20 {
+    if n == MAX_ROWS {
         return n;
     }
     if !words::in_range(v) {
@@ -48,7 +50,7 @@ fn put(buf: &mut [i64; 20], n: usize, v: i64) -> usize
 
 // 3: the median of some values, as a count and as a float.
 fn median(text: &[u8], many: usize) {
-    let mut buf = [0i64; 20];
+    let mut buf = [0i64; MAX_ROWS];
     let mut n = 0;
     let mut k = 0;
     while k < many {

@@ -1,10 +1,13 @@
 // Reads lines from standard input, in small chunks so that many lines lie across two, and prints how each was read.
 // `stdout` is written by oracle/lines.py, which has the grammar as a regular expression.
+use panel_lines::answer::SHOW_BARE;
 use panel_lines::answer::put_ok;
 use panel_lines::answer::put_refused;
 use panel_lines::answer::put_show;
+use panel_lines::line::LINE_WORDS;
 use panel_lines::line::Request;
 use panel_lines::line::read_line;
+use panel_lines::split::MOST_HELD;
 use panel_lines::split::take_line;
 use text::decimals::put_decimal;
 use text::hex::put_hex;
@@ -14,7 +17,12 @@ ghost use Prim.Native.Nat.{ℕ, _+_, _≤_};
 ghost use lib.Dec.{leb};
 ghost use mathlib.Core.Path.{_≡_};
 ghost use lib.ListN.{length, take};
-ghost use Rattle.panel_lines.specs.Split.{chunkHeld};
+ghost use Rattle.panel_lines.specs.Split.{mostHeld, chunkHeld};
+
+// How many flags are shown, and the bytes of that answer.
+const FLAGS: usize = 19;
+
+const SHOWN: usize = SHOW_BARE + 2 * FLAGS;
 
 // Whether k bytes can still be written from a place on.
 fn room(out: &[u8], at: usize, k: usize) -> bool
@@ -78,15 +86,15 @@ fn say_shape(out: &mut [u8], heap: u64, rows: u64, cols: u64, layers: u64) -> us
 
 // An answer to `(show)` with some numbers as bits, and the last bits of another as flags.
 fn say_show(out: &mut [u8], l1: u64, l2: u64, keys: u64, bits: u64) -> usize {
-    let mut flags = [false; 19];
+    let mut flags = [false; FLAGS];
     let mut i = 0;
     let mut left = bits;
-    while i < 19 {
+    while i < FLAGS {
         flags[i] = left % 2 == 1;
         left /= 2;
         i += 1;
     }
-    if !room(&*out, 0, 120) {
+    if !room(&*out, 0, SHOWN) {
         return 0;
     }
     let n = put_show(out, l1, l2, keys, &flags);
@@ -129,7 +137,7 @@ fn print(s: &[u8], k: usize) {
 // Says how a line was read.
 fn describe(line: &[u8]) {
     let mut out = [0u8; 1100];
-    let mut words = [0u64; 56];
+    let mut words = [0u64; LINE_WORDS];
     let q = read_line(line, &mut words);
     match q {
         Request::Shape(heap, rows, cols, layers) => {
@@ -161,9 +169,9 @@ fn reply(line: &[u8], k: usize) {
 
 // Takes the lines out of a chunk, describes those that end in it, and answers how many bytes of the next are held.
 fn take_chunk(chunk: &[u8], line: &mut [u8], held: usize) -> usize
-    requires { ⌜ held ≤ 1025 ⌝ }
-    requires { ⌜ 1025 ≤ length (now line) ⌝ }
-    ensures { λ r. ⌜ (r ≤ 1025) × (length (now (line .exit)) ≡ length (now (line .entry))) ⌝ }
+    requires { ⌜ held ≤ mostHeld ⌝ }
+    requires { ⌜ mostHeld ≤ length (now line) ⌝ }
+    ensures { λ r. ⌜ (r ≤ mostHeld) × (length (now (line .exit)) ≡ length (now (line .entry))) ⌝ }
     ensures { λ r. ⌜ take r (now (line .exit)) ≡ chunkHeld (take held (now (line .entry))) (now (chunk .entry)) ⌝ }
 {
     let mut at = 0;
@@ -183,7 +191,7 @@ fn take_chunk(chunk: &[u8], line: &mut [u8], held: usize) -> usize
 }
 
 fn main() {
-    let mut line = [0u8; 1025];
+    let mut line = [0u8; MOST_HELD];
     let mut chunk = [0u8; 97];
     let mut held = 0;
     let mut turns = u64::MAX;

@@ -13,7 +13,7 @@ use Rattle.univmon.specs.Calls.{answered, markLayerCall}
 -- g is h with layer l's flag cleared
 pub record Cleared (h : Header) (l : ℕ) (g : Header) : Type 0 where
   pub shape : g .shape ≡ h .shape
-  pub weight : g .weight ≡ h .weight
+  pub totals : g .totals ≡ h .totals
   pub mode : g .mode ≡ h .mode
   pub lens : g .lens ≡ h .lens
   pub flags : length (g .flags) ≡ length (h .flags)
@@ -33,7 +33,7 @@ accepted-mark h l e i =
       refl,
       record {
         shape = refl;
-        weight = refl;
+        totals = refl;
         mode = refl;
         lens = refl;
         flags = length-set (h .flags) l false;

@@ -8,8 +8,8 @@ use lib.Dec.{eqb}
 use lib.ListN.{length, take, drop, take-append-drop, length-drop}
 use lib.Seq.{take-all, take-add}
 use Rattle.words.proofs.Bools.{never}
-use Rattle.univmon.specs.Slices.{Lent}
-use Rattle.panel_lines.specs.Split.{push, chunkLines, chunkHeld, Stepped, stepOf, stepped}
+use Rattle.layout.specs.Slices.{Lent}
+use Rattle.panel_lines.specs.Split.{mostHeld, push, chunkLines, chunkHeld, Stepped, stepOf, stepped}
 use Rattle.panel_lines.proofs.Chunks.{lines-append, held-append, step-open}
 use Rattle.panel_step.specs.Panel.{longest, answerLine, answersOf, Found, found, put, behind}
 use Rattle.panel_step.proofs.Runs.{first-behind, none-behind, more-behind}
@@ -56,7 +56,7 @@ pub record Chunked (chunk line₀ : List ℕ) (held : ℕ) (r₀ : Lent) (out₀
   pub inside : at ≤ end
   pub within : end ≤ length chunk
   pub moved : min 1 (length chunk) ≤ end
-  pub few : n ≤ 1025
+  pub few : n ≤ mostHeld
   pub fits : len ≤ length out
   pub spare : at < end → (len + longest ≤ length out) × (end ≡ length chunk)
   pub long : length line ≡ length line₀
@@ -65,7 +65,7 @@ pub record Chunked (chunk line₀ : List ℕ) (held : ℕ) (r₀ : Lent) (out₀
   pub rest : take n line ≡ chunkHeld (take held line₀) (take at chunk)
   pub goes : (ms : List (List ℕ)) → behind len (answersOf r ms) out ≡ put (answersOf r₀ (chunkLines (take held line₀) (take at chunk) ++ ms)) out₀
 
-pub chunk-start : (chunk line : List ℕ) (held : ℕ) (r : Lent) (out : List ℕ) → held ≤ 1025 → longest ≤ length out → Chunked chunk line held r out line r out 0 (length chunk) held 0
+pub chunk-start : (chunk line : List ℕ) (held : ℕ) (r : Lent) (out : List ℕ) → held ≤ mostHeld → longest ≤ length out → Chunked chunk line held r out line r out 0 (length chunk) held 0
 unfolding chunkLines chunkHeld
 chunk-start chunk line held r out h l =
     record {
@@ -123,7 +123,7 @@ module _ (chunk line₀ : List ℕ) (held : ℕ) (r₀ : Lent) (out₀ line : Li
       }
 
   -- the chunk is used up, and k bytes are held of a line that goes on
-  pub chunk-open : (line′ : List ℕ) (k next : ℕ) → at < end → next ≤ length chunk → k ≤ 1025 → length line′ ≡ length line
+  pub chunk-open : (line′ : List ℕ) (k next : ℕ) → at < end → next ≤ length chunk → k ≤ mostHeld → length line′ ≡ length line
       → stepped (take k line′) next false ≡ stepOf (take n line) at (drop at chunk)
       → Chunked chunk line₀ held r₀ out₀ line′ r out next end k len
   chunk-open line′ k next a c d e f =
@@ -161,21 +161,21 @@ lends-append r (l ∷ ls) ms = lends-append (answerLine r l .lends) ls ms
 -- up to place `from` the chunk's lines are answered, and their answers written
 pub record Parted (chunk line₀ : List ℕ) (held : ℕ) (r₀ : Lent) (out₀ line : List ℕ) (r : Lent) (out : List ℕ) (from n : ℕ) : Type 0 where
   pub inside : from ≤ length chunk
-  pub few : n ≤ 1025
+  pub few : n ≤ mostHeld
   pub long : length line ≡ length line₀
   pub room : length out ≡ length out₀
   pub kept : Kept r₀ r
   pub rest : take n line ≡ chunkHeld (take held line₀) (take from chunk)
   pub left : r ≡ answersOf r₀ (chunkLines (take held line₀) (take from chunk)) .lends
 
-pub part-start : (chunk line : List ℕ) (held : ℕ) (r : Lent) (out : List ℕ) → held ≤ 1025 → Parted chunk line held r out line r out 0 held
+pub part-start : (chunk line : List ℕ) (held : ℕ) (r : Lent) (out : List ℕ) → held ≤ mostHeld → Parted chunk line held r out line r out 0 held
 unfolding chunkLines chunkHeld answersOf
 part-start chunk line held r out h =
     record { inside = omega arith; few = h; long = refl; room = refl; kept = record { counters = refl; norms = refl; entries = refl; counts = refl }; rest = refl; left = refl }
 
 module _ (chunk line₀ : List ℕ) (held : ℕ) (r₀ : Lent) (out₀ line : List ℕ) (r : Lent) (out : List ℕ) (from n : ℕ) (z : Parted chunk line₀ held r₀ out₀ line r out from n) where
   -- one part more
-  pub part-next : (line′ : List ℕ) (k next : ℕ) → next ≤ length (drop from chunk) → k ≤ 1025 → length line′ ≡ length line
+  pub part-next : (line′ : List ℕ) (k next : ℕ) → next ≤ length (drop from chunk) → k ≤ mostHeld → length line′ ≡ length line
       → take k line′ ≡ chunkHeld (take n line) (take next (drop from chunk))
       → (t : Lent) (m : ℕ) (p : List ℕ) → found t m p ≡ put (answersOf r (chunkLines (take n line) (take next (drop from chunk)))) out → length p ≡ length out → Kept r t
       → Parted chunk line₀ held r₀ out₀ line′ t p (from + next) k
@@ -208,7 +208,7 @@ module _ (chunk line₀ : List ℕ) (held : ℕ) (r₀ : Lent) (out₀ line : Li
 -- ---- between two chunks: no more than 1,025 bytes are held, and the slices keep their lengths
 
 pub record Between (chunk₀ line₀ : List ℕ) (r₀ : Lent) (out₀ chunk line : List ℕ) (r : Lent) (out : List ℕ) (held : ℕ) : Type 0 where
-  pub few : held ≤ 1025
+  pub few : held ≤ mostHeld
   pub chunks : length chunk ≡ length chunk₀
   pub lines : length line ≡ length line₀
   pub outs : length out ≡ length out₀

@@ -1,13 +1,18 @@
 // The program `panel`: reads lines from standard input and answers each with one.
 use header::Header;
+use header::Shape;
+use panel_lines::split::MOST_HELD;
 use panel_lines::split::take_line;
+use panel_step::LONGEST;
+use panel_step::MAX_CANDIDATES;
+use panel_step::MAX_COUNTERS;
 use panel_step::Told;
 use panel_step::answer_line;
 ghost use mathlib.Core.Path.{_≡_};
 ghost use Prim.Native.Nat.{ℕ, min, _+_, _≤_};
 ghost use lib.ListN.{length, take};
-ghost use Rattle.univmon.specs.Slices.{lent};
-ghost use Rattle.panel_lines.specs.Split.{chunkLines, chunkHeld};
+ghost use Rattle.layout.specs.Slices.{lent};
+ghost use Rattle.panel_lines.specs.Split.{mostHeld, chunkLines, chunkHeld};
 ghost use Rattle.panel_step.specs.Panel.{longest, answerLine, answersOf, found, put, behind};
 
 // The bytes that are read at once, and the most that are written at once. Larger ones save no time, and all that the program holds
@@ -15,9 +20,6 @@ ghost use Rattle.panel_step.specs.Panel.{longest, answerLine, answersOf, found,
 const CHUNK: usize = 16384;
 
 const ANSWERS: usize = 16384;
-
-// The longest answer, with its newline: `longest` of the definitions.
-const LONGEST: usize = 121;
 
 // What is known after a part of a chunk: the header, the bytes held of the line that goes on, the bytes of the answers, and how
 // much of the chunk was taken.
@@ -81,13 +83,13 @@ fn take_chunk(
     counts: &mut [i64],
     out: &mut [u8],
 ) -> Taken
-    requires { ⌜ held ≤ 1025 ⌝ }
-    requires { ⌜ 1025 ≤ length (now line) ⌝ }
+    requires { ⌜ held ≤ mostHeld ⌝ }
+    requires { ⌜ mostHeld ≤ length (now line) ⌝ }
     requires { ⌜ longest ≤ length (now out) ⌝ }
     ensures { λ r. ⌜ found (lent (r .header) (now (counters .exit)) (now (norms .exit)) (now (entries .exit)) (now (counts .exit))) (r .len) (now (out .exit))
         ≡ put (answersOf (lent header (now (counters .entry)) (now (norms .entry)) (now (entries .entry)) (now (counts .entry))) (chunkLines (take held (now (line .entry))) (take (r .next) (now (chunk .entry))))) (now (out .entry)) ⌝ }
     ensures { λ r. ⌜ take (r .held) (now (line .exit)) ≡ chunkHeld (take held (now (line .entry))) (take (r .next) (now (chunk .entry))) ⌝ }
-    ensures { λ r. ⌜ (r .held ≤ 1025) × (r .len ≤ length (now (out .entry))) ⌝ }
+    ensures { λ r. ⌜ (r .held ≤ mostHeld) × (r .len ≤ length (now (out .entry))) ⌝ }
     ensures { λ r. ⌜ (min 1 (length (now (chunk .entry))) ≤ r .next) × (r .next ≤ length (now (chunk .entry))) ⌝ }
 {
     let mut at = 0;
@@ -137,13 +139,13 @@ fn take_all(
     counts: &mut [i64],
     out: &mut [u8],
 ) -> Going
-    requires { ⌜ held ≤ 1025 ⌝ }
-    requires { ⌜ 1025 ≤ length (now line) ⌝ }
+    requires { ⌜ held ≤ mostHeld ⌝ }
+    requires { ⌜ mostHeld ≤ length (now line) ⌝ }
     requires { ⌜ longest ≤ length (now out) ⌝ }
     ensures { λ r. ⌜ lent (r .header) (now (counters .exit)) (now (norms .exit)) (now (entries .exit)) (now (counts .exit))
         ≡ answersOf (lent header (now (counters .entry)) (now (norms .entry)) (now (entries .entry)) (now (counts .entry))) (chunkLines (take held (now (line .entry))) (now (chunk .entry))) .lends ⌝ }
     ensures { λ r. ⌜ take (r .held) (now (line .exit)) ≡ chunkHeld (take held (now (line .entry))) (now (chunk .entry)) ⌝ }
-    ensures { λ r. ⌜ r .held ≤ 1025 ⌝ }
+    ensures { λ r. ⌜ r .held ≤ mostHeld ⌝ }
 {
     let mut from = 0;
     let mut n = held;
@@ -181,7 +183,7 @@ fn run(
     counts: &mut [i64],
     out: &mut [u8],
 )
-    requires { ⌜ 1025 ≤ length (now line) ⌝ }
+    requires { ⌜ mostHeld ≤ length (now line) ⌝ }
     requires { ⌜ longest ≤ length (now out) ⌝ }
 {
     let mut header = Header::zero();
@@ -224,14 +226,15 @@ fn run(
     }
 }
 
-// The slices have room for every shape that is accepted: 4,096 counters, 2 x 19 x 20 norm words, 512 candidates.
+// The slices have room for every shape that is accepted: counters and candidates as many as the panel takes, norms of every row of
+// every layer.
 fn main() {
     let mut chunk = [0u8; CHUNK];
-    let mut line = [0u8; 1025];
-    let mut counters = [0i64; 4096];
-    let mut norms = [0u64; 760];
-    let mut entries = [0u64; 2048];
-    let mut counts = [0i64; 512];
+    let mut line = [0u8; MOST_HELD];
+    let mut counters = [0i64; MAX_COUNTERS];
+    let mut norms = [0u64; 2 * Shape::MAX_LAYERS * Shape::MAX_ROWS];
+    let mut entries = [0u64; 4 * MAX_CANDIDATES];
+    let mut counts = [0i64; MAX_CANDIDATES];
     let mut out = [0u8; ANSWERS];
     run(
         &mut chunk,

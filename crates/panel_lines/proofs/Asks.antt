@@ -24,7 +24,7 @@ use Rattle.text.proofs.HexTexts.{hex-ok-reads, hex-reads, hex-past, hex-sound, 
 use Rattle.panel_lines.specs.declared.line.Tail.{Tail}
 use Rattle.panel_lines.specs.declared.line.Tail.the-variants as T
 use Rattle.panel_lines.specs.declared.line.Request.the-variants.{Shape, Add}
-use Rattle.panel_lines.specs.Line.{Reading, asked, unreadable, shapeWord, addWord, thenNum, thenInt, thenTail, tailAt, halves, shapeOf, addOf}
+use Rattle.panel_lines.specs.Line.{longestLine, Reading, asked, unreadable, shapeWord, addWord, thenNum, thenInt, thenTail, tailAt, halves, shapeOf, addOf}
 use Rattle.panel_lines.specs.Ask.{Ask, shape, add, Pair, pairsText, PairsIn, pairWords, askText, readingOf, Writes}
 use Rattle.panel_lines.proofs.Tails.{Tailed, tail-sound, tail-reads}
 use Rattle.panel_lines.proofs.Pairs.{pairs-reads, pairsFrom, pairs-sound}
@@ -118,7 +118,7 @@ test-seen : (s : List ℕ) (t : Bool) (r : Reading) → (t ≡ true → Seen s r
 test-seen s true r h = h refl
 test-seen s false r h = none refl
 
-shape-last : (s : List ℕ) → length s ≤ 1024 → isPrefix shapeWord s ≡ true → (h i r j c k l m : ℕ) → Field s 7 32 h i → Field s i 32 r j → Field s j 32 c k → Field s k 41 l m
+shape-last : (s : List ℕ) → length s ≤ longestLine → isPrefix shapeWord s ≡ true → (h i r j c k l m : ℕ) → Field s 7 32 h i → Field s i 32 r j → Field s j 32 c k → Field s k 41 l m
     → (t : Bool) → eqb m (length s) ≡ t → Seen s (cond t (asked (Shape h r c l)) unreadable)
 unfolding readingOf askText
 shape-last s n p h i r j c k l m fh fr fc fl false q = none refl
@@ -131,7 +131,7 @@ shape-last s n p h i r j c k l m fh fr fc fl true q =
       text = word-is shapeWord s p ∙ rw (fh .text, fr .text, fc .text, fl .text, z);
     }) refl
 
-pub shape-seen : (s : List ℕ) → length s ≤ 1024 → isPrefix shapeWord s ≡ true → Seen s (shapeOf s)
+pub shape-seen : (s : List ℕ) → length s ≤ longestLine → isPrefix shapeWord s ≡ true → Seen s (shapeOf s)
 unfolding shapeOf
 shape-seen s n p =
     num-seen s (fieldAt s 7 32) _ (λ h i eh.
@@ -149,7 +149,7 @@ tail-text s i n t =
     let e : drop (i + 36 * n) s ≡ 41 ∷ [] = rw z at (byte-at s (i + 36 * n) 40 (t .close)) in
     a .text ∙ ap (λ (y : List ℕ). pairsText (pairsFrom s i n) ++ y) e
 
-add-last : (s : List ℕ) → length s ≤ 1024 → isPrefix addWord s ≡ true → (k i : ℕ) (w : ℤ) (j n : ℕ) → Field s 5 32 k i → IntField s i 32 w j → hexOkAt s j ≡ true → Tailed s (j + 16) n
+add-last : (s : List ℕ) → length s ≤ longestLine → isPrefix addWord s ≡ true → (k i : ℕ) (w : ℤ) (j n : ℕ) → Field s 5 32 k i → IntField s i 32 w j → hexOkAt s j ≡ true → Tailed s (j + 16) n
     → Seen s (record { request = Add w (2 + 2 * n); words = k ∷ (hexAt s j ∷ halves s (j + 16) n) })
 unfolding readingOf askText
 add-last s m p k i w j n fk fw h t =
@@ -165,7 +165,7 @@ add-last s m p k i w j n fk fw h t =
       text = word-is addWord s p ∙ ap (λ (y : List ℕ). addWord ++ y) e1;
     }) (rw (a .many, a .words))
 
-pub add-seen : (s : List ℕ) → length s ≤ 1024 → isPrefix addWord s ≡ true → Seen s (addOf s)
+pub add-seen : (s : List ℕ) → length s ≤ longestLine → isPrefix addWord s ≡ true → Seen s (addOf s)
 unfolding addOf
 add-seen s m p =
     num-seen s (fieldAt s 5 32) _ (λ k i ek.

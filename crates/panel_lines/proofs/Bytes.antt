@@ -8,15 +8,15 @@ use lib.Seq.{drop-cons, take-suc-set, length-take-le}
 use native.Mathlib.Omega.{arith}
 use native.Mathlib.Numerals.{add-one}
 use borrow.Author.Tests.{eq-eqb, ne-eqb, lt-ltb, le-ltb}
-use Rattle.panel_lines.specs.Split.{push, stepOf, stepped}
+use Rattle.panel_lines.specs.Split.{mostHeld, push, stepOf, stepped}
 
-pub push-room : (l : List ℕ) (n b : ℕ) → n < 1025 → 1025 ≤ length l → take (n + 1) (set l n b) ≡ push (take n l) b
+pub push-room : (l : List ℕ) (n b : ℕ) → n < mostHeld → mostHeld ≤ length l → take (n + 1) (set l n b) ≡ push (take n l) b
 unfolding push
-push-room l n b h k = rw (length-take-le n l (omega arith), lt-ltb n 1025 h, add-one) (take-suc-set l n b (omega arith))
+push-room l n b h k = rw (length-take-le n l (omega arith), lt-ltb n mostHeld h, add-one) (take-suc-set l n b (omega arith))
 
-pub push-full : (l : List ℕ) (n b : ℕ) → 1025 ≤ n → n ≤ length l → take n l ≡ push (take n l) b
+pub push-full : (l : List ℕ) (n b : ℕ) → mostHeld ≤ n → n ≤ length l → take n l ≡ push (take n l) b
 unfolding push
-push-full l n b h k = rw (length-take-le n l k, le-ltb n 1025 h)
+push-full l n b h k = rw (length-take-le n l k, le-ltb n mostHeld h)
 
 pub step-more : (s h : List ℕ) (i : ℕ) → i < length s → (getD s i 0 ≡ 10 → ⊥) → stepOf h i (drop i s) ≡ stepOf (push h (getD s i 0)) (i + 1) (drop (i + 1) s)
 unfolding stepOf

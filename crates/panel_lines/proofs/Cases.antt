@@ -13,31 +13,31 @@ use Rattle.text.specs.Words.{isPrefix}
 use Rattle.text.specs.Decimals.{fieldAt}
 use Rattle.panel_lines.specs.declared.line.Request.{Request}
 use Rattle.panel_lines.specs.declared.line.Request.the-variants.{Shape, Show, Unreadable}
-use Rattle.panel_lines.specs.Line.{Reading, thenNum, asked, unreadable, shapeWord, addWord, showWord, shapeOf, addOf, readOf}
+use Rattle.panel_lines.specs.Line.{longestLine, Reading, thenNum, asked, unreadable, shapeWord, addWord, showWord, shapeOf, addOf, readOf}
 
-pub read-long : (s : List ℕ) → 1024 < length s → readOf s ≡ unreadable
+pub read-long : (s : List ℕ) → longestLine < length s → readOf s ≡ unreadable
 unfolding readOf
-read-long s l = rw (lt-ltb 1024 (length s) l)
+read-long s l = rw (lt-ltb longestLine (length s) l)
 
-pub read-shape : (s : List ℕ) → length s ≤ 1024 → isPrefix shapeWord s ≡ true → readOf s ≡ shapeOf s
+pub read-shape : (s : List ℕ) → length s ≤ longestLine → isPrefix shapeWord s ≡ true → readOf s ≡ shapeOf s
 unfolding readOf
-read-shape s l a = rw (le-ltb 1024 (length s) l, a)
+read-shape s l a = rw (le-ltb longestLine (length s) l, a)
 
-pub read-add : (s : List ℕ) → length s ≤ 1024 → isPrefix shapeWord s ≡ false → isPrefix addWord s ≡ true → readOf s ≡ addOf s
+pub read-add : (s : List ℕ) → length s ≤ longestLine → isPrefix shapeWord s ≡ false → isPrefix addWord s ≡ true → readOf s ≡ addOf s
 unfolding readOf
-read-add s l a b = rw (le-ltb 1024 (length s) l, a, b)
+read-add s l a b = rw (le-ltb longestLine (length s) l, a, b)
 
-pub read-other : (s : List ℕ) → length s ≤ 1024 → isPrefix shapeWord s ≡ false → isPrefix addWord s ≡ false → (length s ≡ 6 → ⊥) → readOf s ≡ unreadable
+pub read-other : (s : List ℕ) → length s ≤ longestLine → isPrefix shapeWord s ≡ false → isPrefix addWord s ≡ false → (length s ≡ 6 → ⊥) → readOf s ≡ unreadable
 unfolding readOf
-read-other s l a b n = rw (le-ltb 1024 (length s) l, a, b, ne-eqb (length s) 6 n)
+read-other s l a b n = rw (le-ltb longestLine (length s) l, a, b, ne-eqb (length s) 6 n)
 
-pub read-show : (s : List ℕ) → length s ≤ 1024 → isPrefix shapeWord s ≡ false → isPrefix addWord s ≡ false → length s ≡ 6 → isPrefix showWord s ≡ true → readOf s ≡ asked Show
+pub read-show : (s : List ℕ) → length s ≤ longestLine → isPrefix shapeWord s ≡ false → isPrefix addWord s ≡ false → length s ≡ 6 → isPrefix showWord s ≡ true → readOf s ≡ asked Show
 unfolding readOf
-read-show s l a b n d = rw (le-ltb 1024 (length s) l, a, b, eq-eqb (length s) 6 n, d)
+read-show s l a b n d = rw (le-ltb longestLine (length s) l, a, b, eq-eqb (length s) 6 n, d)
 
-pub read-none : (s : List ℕ) → length s ≤ 1024 → isPrefix shapeWord s ≡ false → isPrefix addWord s ≡ false → length s ≡ 6 → isPrefix showWord s ≡ false → readOf s ≡ unreadable
+pub read-none : (s : List ℕ) → length s ≤ longestLine → isPrefix shapeWord s ≡ false → isPrefix addWord s ≡ false → length s ≡ 6 → isPrefix showWord s ≡ false → readOf s ≡ unreadable
 unfolding readOf
-read-none s l a b n d = rw (le-ltb 1024 (length s) l, a, b, eq-eqb (length s) 6 n, d)
+read-none s l a b n d = rw (le-ltb longestLine (length s) l, a, b, eq-eqb (length s) 6 n, d)
 
 -- ---- what a call hands back: the request q, and the words ws′ in the place of ws
 

@@ -13,20 +13,20 @@ use borrow.Author.Tests.{le-ltb, ltb-true, ltb-false}
 use Rattle.words.proofs.Bools.{never}
 use Rattle.text.proofs.Spots.{here}
 use Rattle.panel_lines.specs.Line.{readOf}
-use Rattle.panel_lines.specs.Split.{endedLines, lastLine, someLast, lines, held, push, Stepped, stepped, stepOf, chunkLines, chunkHeld, runLines, runHeld, linesOfChunks, wholeOf}
+use Rattle.panel_lines.specs.Split.{endedLines, lastLine, someLast, lines, mostHeld, held, push, Stepped, stepped, stepOf, chunkLines, chunkHeld, runLines, runHeld, linesOfChunks, wholeOf}
 use Rattle.panel_lines.proofs.Cases.{read-long}
 
 -- ---- holding only 1,025 bytes changes no reading
 
 pub held-reads : (l : List ℕ) → readOf (held l) ≡ readOf l
-held-reads l = go (ltb 1025 (length l)) refl
+held-reads l = go (ltb mostHeld (length l)) refl
   where
-    go : (t : Bool) → ltb 1025 (length l) ≡ t → readOf (held l) ≡ readOf l
+    go : (t : Bool) → ltb mostHeld (length l) ≡ t → readOf (held l) ≡ readOf l
     go true e =
-        let m : 1025 < length l = ltb-true 1025 (length l) e in
-        let n : length (held l) ≡ 1025 = length-take-le 1025 l (omega arith) in
+        let m : mostHeld < length l = ltb-true mostHeld (length l) e in
+        let n : length (held l) ≡ mostHeld = length-take-le mostHeld l (omega arith) in
         read-long (held l) (omega arith) ∙ sym (read-long l (omega arith))
-    go false e = rw (take-all 1025 l (ltb-false 1025 (length l) e))
+    go false e = rw (take-all mostHeld l (ltb-false mostHeld (length l) e))
 
 -- ---- chunks one after another are one chunk
 
@@ -64,16 +64,16 @@ run-held (c ∷ cs) h = rw (held-append c (wholeOf cs) h) (run-held cs (chunkHel
 
 push-held : (h : List ℕ) (b : ℕ) → push (held h) b ≡ held (h ++ (b ∷ []))
 unfolding push
-push-held h b = go (ltb (length h) 1025) refl
+push-held h b = go (ltb (length h) mostHeld) refl
   where
-    go : (t : Bool) → ltb (length h) 1025 ≡ t → cond (ltb (length (held h)) 1025) (held h ++ (b ∷ [])) (held h) ≡ held (h ++ (b ∷ []))
+    go : (t : Bool) → ltb (length h) mostHeld ≡ t → cond (ltb (length (held h)) mostHeld) (held h ++ (b ∷ [])) (held h) ≡ held (h ++ (b ∷ []))
     go true e =
-        let l : length h < 1025 = ltb-true (length h) 1025 e in
-        let a : length (h ++ (b ∷ [])) ≤ 1025 = omega (arith, length-append h (b ∷ [])) in
-        rw (take-all 1025 h (omega arith), e, take-all 1025 (h ++ (b ∷ [])) a)
+        let l : length h < mostHeld = ltb-true (length h) mostHeld e in
+        let a : length (h ++ (b ∷ [])) ≤ mostHeld = omega (arith, length-append h (b ∷ [])) in
+        rw (take-all mostHeld h (omega arith), e, take-all mostHeld (h ++ (b ∷ [])) a)
     go false e =
-        let l : 1025 ≤ length h = ltb-false (length h) 1025 e in
-        rw (le-ltb (length (held h)) 1025 (omega (arith, length-take-le 1025 h l)), take-append-le 1025 h (b ∷ []) l)
+        let l : mostHeld ≤ length h = ltb-false (length h) mostHeld e in
+        rw (le-ltb (length (held h)) mostHeld (omega (arith, length-take-le mostHeld h l)), take-append-le mostHeld h (b ∷ []) l)
 
 held-lines : (bs h : List ℕ) → chunkLines (held h) bs ≡ map held (endedLines h bs)
 unfolding chunkLines endedLines

@@ -16,7 +16,7 @@ use Rattle.text.specs.Signs.{signed}
 use Rattle.text.specs.Hex.{hexDigits}
 use Rattle.text.proofs.Spots.{word-reads, word-is}
 use Rattle.panel_lines.specs.declared.line.Request.the-variants.{Unreadable}
-use Rattle.panel_lines.specs.Line.{Reading, unreadable, shapeWord, addWord, showWord, readOf}
+use Rattle.panel_lines.specs.Line.{longestLine, Reading, unreadable, shapeWord, addWord, showWord, readOf}
 use Rattle.panel_lines.specs.Ask.{Ask, shape, add, show, Pair, pairsText, pairWords, askText, InRange, readingOf, Writes, Readable}
 use Rattle.panel_lines.proofs.Cases.{read-long, read-shape, read-add, read-other, read-show, read-none}
 use Rattle.panel_lines.proofs.Asks.{Seen, none, some, shape-reads, add-reads, shape-seen, add-seen}
@@ -27,7 +27,7 @@ no-shape : (t : List ℕ) → isPrefix shapeWord (addWord ++ t) ≡ false
 unfolding isPrefix
 no-shape t = refl
 
-reads-back : (q : Ask) → InRange q → length (askText q) ≤ 1024 → readOf (askText q) ≡ readingOf q
+reads-back : (q : Ask) → InRange q → length (askText q) ≤ longestLine → readOf (askText q) ≡ readingOf q
 unfolding askText readingOf readOf isPrefix
 reads-back (shape h r c l) b k =
     let t = dec h ++ (32 ∷ (dec r ++ (32 ∷ (dec c ++ (32 ∷ (dec l ++ (41 ∷ []))))))) in
@@ -44,16 +44,16 @@ written-is-read q s w = rw (w .text) (reads-back q (w .range) (rw (w .text) at (
 
 seen : (s : List ℕ) → Seen s (readOf s)
 unfolding askText readingOf
-seen s = go (ltb 1024 (length s)) refl (isPrefix shapeWord s) refl (isPrefix addWord s) refl (eqb (length s) 6) refl (isPrefix showWord s) refl
+seen s = go (ltb longestLine (length s)) refl (isPrefix shapeWord s) refl (isPrefix addWord s) refl (eqb (length s) 6) refl (isPrefix showWord s) refl
   where
-    short : ltb 1024 (length s) ≡ false → length s ≤ 1024
-    short e = ltb-false 1024 (length s) e
+    short : ltb longestLine (length s) ≡ false → length s ≤ longestLine
+    short e = ltb-false longestLine (length s) e
 
     shown : length s ≡ 6 → isPrefix showWord s ≡ true → s ≡ showWord
     shown l e = let le : length s ≤ 6 = omega arith in let z : drop 6 s ≡ [] = drop-of-length-le s le in word-is showWord s e ∙ rw z
 
-    go : (a : Bool) → ltb 1024 (length s) ≡ a → (b : Bool) → isPrefix shapeWord s ≡ b → (c : Bool) → isPrefix addWord s ≡ c → (d : Bool) → eqb (length s) 6 ≡ d → (f : Bool) → isPrefix showWord s ≡ f → Seen s (readOf s)
-    go true ea b eb c ec d ed f ef = none (read-long s (ltb-true 1024 (length s) ea))
+    go : (a : Bool) → ltb longestLine (length s) ≡ a → (b : Bool) → isPrefix shapeWord s ≡ b → (c : Bool) → isPrefix addWord s ≡ c → (d : Bool) → eqb (length s) 6 ≡ d → (f : Bool) → isPrefix showWord s ≡ f → Seen s (readOf s)
+    go true ea b eb c ec d ed f ef = none (read-long s (ltb-true longestLine (length s) ea))
     go false ea true eb c ec d ed f ef = rw (read-shape s (short ea) eb) (shape-seen s (short ea) eb)
     go false ea false eb true ec d ed f ef = rw (read-add s (short ea) eb ec) (add-seen s (short ea) ec)
     go false ea false eb false ec false ed f ef = none (read-other s (short ea) eb ec (eqb-false (length s) 6 ed))

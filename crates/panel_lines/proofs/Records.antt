@@ -1,5 +1,5 @@
 -- What a caller of `read_line` lends on after an `add`: the first n words, n of `Request::Add`, are the record that the
--- line spells, and there are at most 56. Assumes nothing.
+-- line spells, and there are no more than a line has room for. Assumes nothing.
 use Prim.Native.Nat.{ℕ, suc, _+_, _*_, _≤_}
 use mathlib.Core.Path.{_≡_, refl, sym, ap, _∙_}
 use mathlib.Core.List.{List, [], _∷_, _++_}
@@ -12,7 +12,7 @@ use Rattle.text.specs.Signs.{signed}
 use Rattle.text.specs.Hex.{hexDigits}
 use Rattle.text.proofs.Puts.{hex-length}
 use Rattle.panel_lines.specs.declared.line.Request.the-variants.{Shape, Add, Show, Unreadable}
-use Rattle.panel_lines.specs.Line.{Reading, readOf}
+use Rattle.panel_lines.specs.Line.{longestLine, lineWords, Reading, readOf}
 use Rattle.panel_lines.specs.Ask.{Ask, shape, add, show, Pair, pairsText, pairWords, askText, readingOf, Writes, Readable}
 use Rattle.panel_lines.proofs.Readable.{read-is-written}
 
@@ -29,8 +29,8 @@ unfolding pairWords
 words-length [] = refl
 words-length (p ∷ ps) = omega (arith, words-length ps)
 
--- a short line has no room for more than 27 pairs
-few-pairs : (k : ℕ) (w : ℤ) (b : ℕ) (ps : List Pair) → length (askText (add k w b ps)) ≤ 1024 → length ps ≤ 27
+-- a short line has no room for more pairs
+few-pairs : (k : ℕ) (w : ℤ) (b : ℕ) (ps : List Pair) → length (askText (add k w b ps)) ≤ longestLine → 2 + 2 * length ps ≤ lineWords
 unfolding askText
 few-pairs k w b ps h =
     let t3 = pairsText ps ++ (41 ∷ []) in
@@ -40,7 +40,7 @@ few-pairs k w b ps h =
 
 record Recorded (s : List ℕ) (n : ℕ) : Type 0 where
   many : length (readOf s .words) ≡ n
-  few : n ≤ 56
+  few : n ≤ lineWords
 
 recorded : (s : List ℕ) (w : ℤ) (n : ℕ) → readOf s .request ≡ Add w n → Recorded s n
 unfolding readingOf
@@ -65,10 +65,10 @@ recorded s w n e = go (found .0) (found .1 .0) (found .1 .1)
 pub add-words : (s : List ℕ) (w : ℤ) (n : ℕ) → readOf s .request ≡ Add w n → length (readOf s .words) ≡ n
 add-words s w n e = recorded s w n e .many
 
-pub add-few : (s : List ℕ) (w : ℤ) (n : ℕ) → readOf s .request ≡ Add w n → n ≤ 56
+pub add-few : (s : List ℕ) (w : ℤ) (n : ℕ) → readOf s .request ≡ Add w n → n ≤ lineWords
 add-few s w n e = recorded s w n e .few
 
-pub record-is : (s ws : List ℕ) (w : ℤ) (n : ℕ) → 56 ≤ length ws → readOf s .request ≡ Add w n → take n (sets ws 0 (readOf s .words)) ≡ readOf s .words
+pub record-is : (s ws : List ℕ) (w : ℤ) (n : ℕ) → lineWords ≤ length ws → readOf s .request ≡ Add w n → take n (sets ws 0 (readOf s .words)) ≡ readOf s .words
 record-is s ws w n h e =
     let r = recorded s w n e in
     let l : 0 + length (readOf s .words) ≤ length ws = omega (arith, r .many, r .few) in

@@ -1,7 +1,7 @@
 -- The answers' texts.
 use mathlib.Core.List.{List, [], _∷_, _++_}
 use mathlib.Core.Bool.{Bool}
-use Prim.Native.Nat.{ℕ}
+use Prim.Native.Nat.{ℕ, _+_, _*_}
 use Rattle.text.specs.Words.{bytesOf, flagDigit}
 use Rattle.text.specs.Decimals.{dec}
 use Rattle.text.specs.Hex.{hexDigits}
@@ -17,6 +17,10 @@ refusedText n = bytesOf "(refused " ++ (dec n ++ bytesOf ")")
 unfoldable pub flagsText : List Bool → List ℕ
 flagsText [] = []
 flagsText (f ∷ fs) = 32 ∷ (flagDigit f ∷ flagsText fs)
+
+-- the bytes of what `show` gives of so many flags
+abbrev pub showBytes : ℕ → ℕ
+showBytes n = 82 + 2 * n
 
 -- "Show gives L1, L2 and cardinality as f64 bits, then each layer's flag"
 unfoldable pub showText : ℕ → ℕ → ℕ → List Bool → List ℕ

@@ -9,7 +9,7 @@ use Rattle.text.specs.Decimals.{dec, Word}
 use Rattle.text.specs.Signs.{signed, SignedWord}
 use Rattle.text.specs.Hex.{hexDigits}
 use Rattle.panel_lines.specs.declared.line.Request.the-variants.{Shape, Add, Show, Unreadable}
-use Rattle.panel_lines.specs.Line.{Reading, asked, readOf}
+use Rattle.panel_lines.specs.Line.{longestLine, Reading, asked, readOf}
 
 -- "pairs of halves (high, low)"
 pub record Pair : Type 0 where
@@ -53,10 +53,10 @@ readingOf (shape h r c l) = asked (Shape h r c l)
 readingOf (add k w b ps) = record { request = Add w (2 + 2 * length ps); words = k ∷ (b ∷ pairWords ps) }
 readingOf show = asked Show
 
--- the line s is the writing of q, whose numbers are in range, in at most 1,024 bytes
+-- the line s is the writing of q, whose numbers are in range, in at most as many bytes as are read
 pub record Writes (q : Ask) (s : List ℕ) : Type 0 where
   pub range : InRange q
-  pub short : length s ≤ 1024
+  pub short : length s ≤ longestLine
   pub text : s ≡ askText q
 
 abbrev pub Readable : List ℕ → Type 0

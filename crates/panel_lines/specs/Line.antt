@@ -19,6 +19,14 @@ use Rattle.panel_lines.specs.declared.line.Tail.the-variants as T
 use Rattle.panel_lines.specs.declared.line.Request.{Request}
 use Rattle.panel_lines.specs.declared.line.Request.the-variants.{Shape, Add, Show, Unreadable}
 
+-- "A line above 1,024 bytes, its newline not counted, is unreadable."
+abbrev pub longestLine : ℕ
+longestLine = 1024
+
+-- the most words that such a line spells: two, and two for each pair of 36 bytes; an `add` without its pairs has 24 bytes at least (law `add-few`)
+abbrev pub lineWords : ℕ
+lineWords = 2 + 2 * ((longestLine - 24) / 36)
+
 -- what a line asks, and the words of an `add`: "a record is key, bottom hash (..), then high and low half"
 pub record Reading : Type 0 where
   pub request : Request
@@ -101,11 +109,11 @@ addOf s =
     (thenTail (tailAt s (j + 16)) (λ n.
     record { request = Add weight (2 + 2 * n); words = key ∷ (hexAt s j ∷ halves s (j + 16) n) }))))
 
--- ---- a line: "A line above 1,024 bytes, its newline not counted, is unreadable."
+-- ---- a line
 
 unfoldable pub readOf : List ℕ → Reading
 readOf s =
-    cond (ltb 1024 (length s)) unreadable
+    cond (ltb longestLine (length s)) unreadable
     (cond (isPrefix shapeWord s) (shapeOf s)
     (cond (isPrefix addWord s) (addOf s)
     (cond (not (eqb (length s) 6)) unreadable

@@ -1,9 +1,10 @@
 -- Input and its lines: a byte 10 ends a line. proofs/Chunks.antt shows that chunks make up the same lines as the whole.
 use mathlib.Core.List.{List, [], _∷_, _++_}
 use mathlib.Core.Bool.{Bool, true, false, cond}
-use Prim.Native.Nat.{ℕ, suc}
+use Prim.Native.Nat.{ℕ, suc, _+_}
 use lib.Dec.{eqb, ltb}
 use lib.ListN.{length, take}
+use Rattle.panel_lines.specs.Line.{longestLine}
 
 -- ---- the whole input
 
@@ -28,12 +29,15 @@ lines bs = endedLines [] bs ++ someLast (lastLine [] bs)
 -- ---- chunk by chunk
 
 -- what is held of a line: one byte more than a readable line may have
+abbrev pub mostHeld : ℕ
+mostHeld = longestLine + 1
+
 abbrev pub held : List ℕ → List ℕ
-held l = take 1025 l
+held l = take mostHeld l
 
 -- one more byte
 unfoldable pub push : List ℕ → ℕ → List ℕ
-push h b = cond (ltb (length h) 1025) (h ++ (b ∷ [])) h
+push h b = cond (ltb (length h) mostHeld) (h ++ (b ∷ [])) h
 
 -- the bytes of the line that are held, the place in the chunk, and whether the line ended
 pub record Stepped : Type 0 where

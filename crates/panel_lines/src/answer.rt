@@ -9,7 +9,10 @@ ghost use Prim.Native.Nat.{ℕ, _+_, _*_, _≤_};
 ghost use lib.ListN.{length};
 ghost use lib.Seq.{sets};
 ghost use Rattle.text.specs.Hex.{hexDigits};
-ghost use Rattle.panel_lines.specs.Answers.{okText, refusedText, flagsText, showText};
+ghost use Rattle.panel_lines.specs.Answers.{okText, refusedText, flagsText, showBytes, showText};
+
+// The bytes of `(show ..)` without its flags; a flag has two.
+pub const SHOW_BARE: usize = 82;
 
 // `(ok)`
 pub fn put_ok(out: &mut [u8]) -> usize
@@ -61,10 +64,10 @@ fn put_item(out: &mut [u8], at: usize, word: &[u8], n: u64) -> usize
 
 // `(show (l1 H) (l2 H) (keys H) (flags F ..))`: three floats as their bits, and a flag for each layer.
 pub fn put_show(out: &mut [u8], l1: u64, l2: u64, keys: u64, flags: &[bool]) -> usize
-    requires { ⌜ 82 + 2 * length (now flags) ≤ length (now out) ⌝ }
+    requires { ⌜ showBytes (length (now flags)) ≤ length (now out) ⌝ }
     ensures { λ r. ⌜ r ≡ length (showText l1 l2 keys (now (flags .entry))) ⌝ }
     ensures { λ _. ⌜ now (out .exit) ≡ sets (now (out .entry)) 0 (showText l1 l2 keys (now (flags .entry))) ⌝ }
-    ensures { λ r. ⌜ r ≡ 82 + 2 * length (now (flags .entry)) ⌝ }
+    ensures { λ r. ⌜ r ≡ showBytes (length (now (flags .entry))) ⌝ }
 {
     let a = put_item(out, 0, b"(show (l1 ", l1);
     let b = put_item(out, a, b") (l2 ", l2);

@@ -11,7 +11,14 @@ ghost use mathlib.Core.Bool.{Bool};
 ghost use Prim.Native.Nat.{ℕ, _+_, _*_, _≤_};
 ghost use lib.ListN.{length};
 ghost use lib.Seq.{sets};
-ghost use Rattle.panel_lines.specs.Line.{pairOkAt, allPairs, tailAt, halves, shapeOf, addOf, readOf};
+ghost use Rattle.panel_lines.specs.Line.{longestLine, lineWords, pairOkAt, allPairs, tailAt, halves, shapeOf, addOf, readOf};
+
+// The bytes of the longest line that is read, its newline not counted.
+pub const LONGEST_LINE: usize = 1024;
+
+// The most words that such a line spells: key, bottom hash, and two for each pair. A pair has 36 bytes, and
+// an `add` without its pairs has 24 at least.
+pub const LINE_WORDS: usize = 2 + 2 * ((LONGEST_LINE - 24) / 36);
 
 // How many pairs stand at the end of an `add`.
 pub enum Tail {
@@ -53,7 +60,7 @@ fn pair_ok(s: &[u8], at: usize) -> bool
 // Whether n pairs stand from a place on.
 fn all_pairs(s: &[u8], at: usize, n: usize) -> bool
     requires { ⌜ at + 36 * n ≤ length (now s) ⌝ }
-    requires { ⌜ length (now s) ≤ 1024 ⌝ }
+    requires { ⌜ length (now s) ≤ longestLine ⌝ }
     ensures { λ r. ⌜ r ≡ allPairs (now (s .entry)) at n ⌝ }
 {
     let mut k = 0;
@@ -69,7 +76,7 @@ fn all_pairs(s: &[u8], at: usize, n: usize) -> bool
 // The pairs from a place on, and the bracket that ends the line. A pair has 36 bytes, so that
 // the length of what is left tells how many there have to be.
 fn read_tail(s: &[u8], at: usize) -> Tail
-    requires { ⌜ length (now s) ≤ 1024 ⌝ }
+    requires { ⌜ length (now s) ≤ longestLine ⌝ }
     ensures { λ r. ⌜ r ≡ tailAt (now (s .entry)) at ⌝ }
 {
     if s.len() <= at {
@@ -92,7 +99,7 @@ fn read_tail(s: &[u8], at: usize) -> Tail
 // Puts the halves of n pairs into the words, after key and bottom hash.
 fn fill(s: &[u8], at: usize, n: usize, words: &mut [u64])
     requires { ⌜ at + 36 * n ≤ length (now s) ⌝ }
-    requires { ⌜ length (now s) ≤ 1024 ⌝ }
+    requires { ⌜ length (now s) ≤ longestLine ⌝ }
     requires { ⌜ 2 + 2 * n ≤ length (now words) ⌝ }
     ensures { λ _. ⌜ now (words .exit) ≡ sets (now (words .entry)) 2 (halves (now (s .entry)) at n) ⌝ }
 {
@@ -133,8 +140,8 @@ fn shape_line(s: &[u8]) -> Request
 
 // A line that begins with `(add `. The words are changed only after the whole line is known to be right.
 fn add_line(s: &[u8], words: &mut [u64]) -> Request
-    requires { ⌜ length (now s) ≤ 1024 ⌝ }
-    requires { ⌜ 56 ≤ length (now words) ⌝ }
+    requires { ⌜ length (now s) ≤ longestLine ⌝ }
+    requires { ⌜ lineWords ≤ length (now words) ⌝ }
     ensures { λ r. ⌜ r ≡ addOf (now (s .entry)) .request ⌝ }
     ensures { λ _. ⌜ now (words .exit) ≡ sets (now (words .entry)) 0 (addOf (now (s .entry)) .words) ⌝ }
 {
@@ -160,13 +167,13 @@ fn add_line(s: &[u8], words: &mut [u64]) -> Request
 }
 
 // What a line asks, and for an `add` its words at the start of `words`: key, bottom hash, halves.
-// 56 words are enough: no line of 1,024 bytes holds more than 27 pairs.
+// `LINE_WORDS` words are enough.
 pub fn read_line(s: &[u8], words: &mut [u64]) -> Request
-    requires { ⌜ 56 ≤ length (now words) ⌝ }
+    requires { ⌜ lineWords ≤ length (now words) ⌝ }
     ensures { λ r. ⌜ r ≡ readOf (now (s .entry)) .request ⌝ }
     ensures { λ _. ⌜ now (words .exit) ≡ sets (now (words .entry)) 0 (readOf (now (s .entry)) .words) ⌝ }
 {
-    if 1024 < s.len() {
+    if LONGEST_LINE < s.len() {
         return Request::Unreadable;
     }
     if has_word(s, 0, b"(shape ") {

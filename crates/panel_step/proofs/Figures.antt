@@ -24,14 +24,14 @@ use Rattle.header.specs.Shape.{shapeRefusal, bottomFrom, bottomOf}
 use Rattle.layer.specs.Merge.{whos}
 use Rattle.layer.specs.Layer.{addSketch, addLayer, addReads, addFits}
 use Rattle.univmon.specs.Calls.{updateCall}
-use Rattle.univmon.specs.Slices.{Lent, lent, lengthsOk, view, flat, freshLent}
-use Rattle.univmon.specs.State.{rowsAt, colsAt, cellOff, normOff, candOff, layerAt, putLayer, overLayers, allLayers, sizesOk}
-use Rattle.univmon.specs.Updates.{updateTests, updated, update}
+use Rattle.layout.specs.Slices.{Lent, lent, lengthsOk, view, flat, freshLent}
+use Rattle.layout.specs.State.{rowsAt, colsAt, cellOff, normOff, candOff, layerAt, putLayer, overLayers, allLayers}
+use Rattle.univmon.specs.Updates.{updateTests, updated}
 use Rattle.sums.specs.Layers.{gSum, standardSum}
 use Rattle.sums.specs.Terms.{gOf, factor, counted, addTerm, sumOver}
 use Rattle.estimates.specs.Calls.{l1Call, l2Call, sumCall, panelCall}
 use Rattle.estimates.specs.Norms.{l2OfState}
-use Rattle.estimates.specs.Sums.{ownAt, gSumOf, whosRead, layerReads, sumRefusal}
+use Rattle.estimates.specs.Sums.{ownAt, gSumOf, whosRead, layerReads}
 use Rattle.text.specs.Decimals.{decIn, dec, isDigit, numFrom, decFrom, stopped, fieldAt}
 use Rattle.text.specs.Hex.{hexGlyph, hexDigits, isHex, nibbleOf, hexOk, hexFrom}
 use Rattle.text.specs.Signs.{negated, plain, intAt}
@@ -59,5 +59,5 @@ pub sample : T (answered
     ∷ ("(add 7 5 0000000000000000 (8000000000000000 0000000000000006) (0000000000000000 0000000000000000))"
     ∷ ("(show)" ∷ [])))
     "(ok)\n(ok)\n(show (l1 4014000000000000) (l2 4014000000000000) (keys 3FF0000000000000) (flags 1 1))\n")
-unfolding answered empty same answersOf answerLine answerTo shapeCall addCall panelText showLine replyText roomy panelRefusal shapeRefusal showText flagsText flagDigit hexDigits hexGlyph readOf shapeOf addOf tailAt allPairs pairOkAt halves fieldAt stopped decFrom numFrom isDigit intAt plain hexOk hexFrom isHex nibbleOf isPrefix inRange capped allIn normRead rootAt rootBits root log2In log2 maskBits hashOf column insertBy sortBy middleF median estimates estimateOf cellsIn l2Squared l2Of normsIn sumBelow normsOf addCell addRows rowsRead rowsFit candsOf find seat offer beginOf lensFrom headerOk bottomFrom bottomOf addSketch addLayer addReads addFits updateCall lengthsOk view flat freshLent cellOff normOff candOff layerAt putLayer overLayers allLayers sizesOk updateTests updated update gSum standardSum gOf counted addTerm sumOver l1Call l2Call sumCall panelCall l2OfState ownAt gSumOf whosRead layerReads sumRefusal whos toBits ofInt ofBits add sub mul div rowsAt colsAt freshHeader signed wordsOf entriesOf up middle le factor
+unfolding answered empty same answersOf answerLine answerTo shapeCall addCall panelText showLine replyText roomy panelRefusal shapeRefusal showText flagsText flagDigit hexDigits hexGlyph readOf shapeOf addOf tailAt allPairs pairOkAt halves fieldAt stopped decFrom numFrom isDigit intAt plain hexOk hexFrom isHex nibbleOf isPrefix inRange capped allIn normRead rootAt rootBits root log2In log2 maskBits hashOf column insertBy sortBy middleF median estimates estimateOf cellsIn l2Squared l2Of normsIn sumBelow normsOf addCell addRows rowsRead rowsFit candsOf find seat offer beginOf lensFrom headerOk bottomFrom bottomOf addSketch addLayer addReads addFits updateCall lengthsOk view flat freshLent cellOff normOff candOff layerAt putLayer overLayers allLayers updateTests updated gSum standardSum gOf counted addTerm sumOver l1Call l2Call sumCall panelCall l2OfState ownAt gSumOf whosRead layerReads whos toBits ofInt ofBits add sub mul div rowsAt colsAt freshHeader signed wordsOf entriesOf up middle le factor
 sample = tt

@@ -11,17 +11,18 @@ use lib.Ieee.{binary64, toBits}
 use Rattle.text.proofs.Puts.{joined}
 use Rattle.header.specs.declared.Shape.{Shape}
 use Rattle.header.specs.declared.Header.{Header}
-use Rattle.univmon.specs.Slices.{Lent}
-use Rattle.univmon.specs.Calls.{Left, left}
+use Rattle.layout.specs.Slices.{Lent}
+use Rattle.layout.specs.Outcomes.{Left, left}
 use Rattle.estimates.specs.declared.PanelAnswer.{PanelAnswer}
 use Rattle.estimates.specs.Calls.{panelCall}
 use Rattle.panel_lines.specs.declared.line.Request.{Request}
 use Rattle.panel_lines.specs.declared.line.Request.the-variants as ask
 use Rattle.panel_lines.specs.Line.{readOf}
 use Rattle.panel_lines.specs.Answers.{okText, refusedText, showText}
-use Rattle.panel_step.specs.declared.extent.Extent.{Extent}
+use Rattle.layout.specs.declared.Extent.{Extent}
+use Rattle.layout.specs.Spans.{extentOf}
 use Rattle.panel_step.proofs.Fronts.{partsIn}
-use Rattle.panel_step.specs.Panel.{extentOf, refusalIn, shapeCall, addCall, panelText, showLine, Answer, answer, replyText, replied, answerTo, answerLine, Found, found, put, longest, answerWithin}
+use Rattle.panel_step.specs.Panel.{refusalIn, shapeCall, addCall, panelText, showLine, Answer, answer, replyText, replied, answerTo, answerLine, Found, found, put, longest, answerWithin}
 
 -- a text and a newline behind it
 pub ended : (l o p : List ℕ) (i j : ℕ) (a : List ℕ) → o ≡ sets l 0 a → i ≡ length a → p ≡ sets o i (10 ∷ []) → j ≡ i + 1 → (j ≡ length (a ++ (10 ∷ []))) × (p ≡ sets l 0 (a ++ (10 ∷ [])))

@@ -7,15 +7,13 @@ use native.Mathlib.Nat.{le-refl}
 use borrow.Author.Tests.{eqb-true, eqb-false, leb-true, ltb-false, le-leb}
 use lib.Dec.{eqb, ltb, leb}
 use Rattle.header.specs.declared.Shape.{Shape}
-use Rattle.header.specs.Shape.{shapeRefusal}
+use Rattle.matrix_storage.specs.Bits.{maxRows}
+use Rattle.header.specs.Shape.{maxLayers, shapeRefusal}
 use Rattle.header.proofs.Refusals.{accepted-of}
-use Rattle.univmon.specs.Slices.{cellsIn, normsIn, candsIn}
-use Rattle.univmon.proofs.Offsets.{norm-off, cand-off, cells-are, rows-few}
-use Rattle.panel_step.specs.Panel.{extentOf, maxCounters, maxCandidates, roomy, panelRefusal, paperRefusal}
-
--- the extent as the code works it out
-pub extent-is : (sh : Shape) → record { cells = sh .layers * sh .rows * sh .cols; norms = 2 * (sh .layers * sh .rows); words = 4 * (sh .layers * sh .«heap_size»); seats = sh .layers * sh .«heap_size» } ≡ extentOf sh
-extent-is sh = rw (cells-are sh (sh .layers), norm-off sh (sh .layers), cand-off sh (sh .layers))
+use Rattle.layout.specs.Slices.{cellsIn, normsIn, candsIn}
+use Rattle.layout.specs.Spans.{extentOf}
+use Rattle.layout.proofs.Offsets.{norms-bound}
+use Rattle.panel_step.specs.Panel.{maxCounters, maxCandidates, roomy, panelRefusal, paperRefusal}
 
 -- a shape that the panel takes in slices of these lengths
 pub record Fit (sh : Shape) (xs ws es ns : ℕ) : Type 0 where
@@ -56,7 +54,7 @@ fit-of sh xs ws es ns e =
 roomy-own : (sh : Shape) → shapeRefusal sh ≡ 0 → cellsIn sh ≤ maxCounters → candsIn sh ≤ maxCandidates → roomy (extentOf sh) 4096 760 2048 512 ≡ true
 unfolding roomy
 roomy-own sh e c d =
-    let n : normsIn sh ≤ 380 = omega (arith, norm-off sh (sh .layers), rows-few sh (accepted-of sh e) (sh .layers) (le-refl _)) in
+    let n : normsIn sh ≤ maxLayers * maxRows = norms-bound sh (accepted-of sh e) (sh .layers) (le-refl _) in
     rw (le-leb (cellsIn sh) 4096 c, le-leb (2 * normsIn sh) 760 (omega arith), le-leb (4 * candsIn sh) 2048 (omega arith), le-leb (candsIn sh) 512 d)
 
 pub own-refusal : (sh : Shape) → panelRefusal sh 4096 760 2048 512 ≡ paperRefusal sh

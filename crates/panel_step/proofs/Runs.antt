@@ -8,7 +8,7 @@ use borrow.Author.Tests.{le-ltb}
 use lib.ListN.{length, take, drop, length-append, length-drop, drop-of-length-le}
 use lib.Seq.{sets, sets-eq, drop-drop, take-all}
 use Rattle.text.proofs.Puts.{sets-append}
-use Rattle.univmon.specs.Slices.{Lent}
+use Rattle.layout.specs.Slices.{Lent}
 use Rattle.panel_lines.specs.Line.{Reading}
 use Rattle.panel_lines.specs.Split.{held, someLast, chunkLines, chunkHeld, runLines, runHeld, linesOfChunks, lines, wholeOf}
 use Rattle.panel_lines.proofs.Chunks.{held-reads, chunks-make-lines}

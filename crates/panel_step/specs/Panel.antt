@@ -1,6 +1,6 @@
 -- The program `panel`: what each line is answered, and what it leaves of the state. To be held beside the paper's paragraph
 -- "The program `panel` reads lines and answers each line with one".
-use Prim.Native.Nat.{ℕ, _+_, _*_}
+use Prim.Native.Nat.{ℕ, _+_}
 use mathlib.Core.Bool.{Bool, cond, not, _&&_}
 use mathlib.Core.List.{List, [], _∷_, _++_}
 use lib.ListN.{length, take, drop}
@@ -10,24 +10,22 @@ use lib.Dec.{eqb, ltb, leb}
 use lib.Ieee.{binary64, toBits}
 use Rattle.header.specs.declared.Shape.{Shape}
 use Rattle.header.specs.declared.Header.{Header}
-use Rattle.header.specs.Shape.{shapeRefusal}
+use Rattle.header.specs.Shape.{maxLayers, shapeRefusal}
 use Rattle.univmon.specs.declared.Kind.the-variants as kind
-use Rattle.univmon.specs.Slices.{Lent, lent, cellsIn, normsIn, candsIn, freshLent}
-use Rattle.univmon.specs.Calls.{Outcome, Left, left, leftBy, updateCall}
+use Rattle.layout.specs.declared.Extent.{Extent}
+use Rattle.layout.specs.Slices.{Lent, lent, cellsIn, candsIn, freshLent}
+use Rattle.layout.specs.Spans.{extentOf}
+use Rattle.layout.specs.Outcomes.{Outcome, Left, left, leftBy}
+use Rattle.univmon.specs.Calls.{updateCall}
 use Rattle.estimates.specs.declared.PanelAnswer.{PanelAnswer}
 use Rattle.estimates.specs.Calls.{panelCall}
 use Rattle.panel_lines.specs.declared.line.Request.{Request}
 use Rattle.panel_lines.specs.declared.line.Request.the-variants as ask
 use Rattle.panel_lines.specs.Line.{readOf}
 use Rattle.panel_lines.specs.Split.{someLast, chunkLines, chunkHeld}
-use Rattle.panel_lines.specs.Answers.{okText, refusedText, showText}
-use Rattle.panel_step.specs.declared.extent.Extent.{Extent}
+use Rattle.panel_lines.specs.Answers.{okText, refusedText, showBytes, showText}
 
 -- ---- the state: a header, all zero before the first shape, and four slices, of which a shape uses the front
-
--- how much of each slice a shape uses
-abbrev pub extentOf : Shape → Extent
-extentOf sh = record { cells = cellsIn sh; norms = 2 * normsIn sh; words = 4 * candsIn sh; seats = candsIn sh }
 
 -- the header with the front parts that its shape uses
 abbrev pub inUse : Lent → Lent
@@ -154,9 +152,9 @@ put a o = found (a .lends) (length (a .text)) (sets o 0 (a .text))
 abbrev pub behind : ℕ → Answer → List ℕ → Found
 behind at a o = found (a .lends) (at + length (a .text)) (sets o at (a .text))
 
--- `(show ..)` of 19 layers, and a newline
+-- `(show ..)` of the most layers, and a newline
 abbrev pub longest : ℕ
-longest = 121
+longest = showBytes maxLayers + 1
 
 -- nothing is done where the longest answer has no room
 unfoldable pub answerWithin : ℕ → Lent → List ℕ → Answer

@@ -1,18 +1,21 @@
 // The three requests on the panel's state: a header, and slices of which its shape uses the front.
-use crate::extent::extent_of;
 use crate::extent::panel_refusal;
 use header::Answered;
 use header::Header;
 use header::Shape;
+use layout::extent_of;
 use panel_lines::answer::put_refused;
 use panel_lines::answer::put_show;
 ghost use mathlib.Core.Path.{_≡_};
 ghost use Prim.Native.Nat.{ℕ, _≤_};
 ghost use lib.ListN.{length};
 ghost use lib.Seq.{sets};
-ghost use Rattle.univmon.specs.Slices.{lent};
-ghost use Rattle.univmon.specs.Calls.{left, answered};
+ghost use Rattle.header.specs.Shape.{maxLayers};
+ghost use Rattle.layout.specs.Slices.{lent};
+ghost use Rattle.layout.specs.Outcomes.{left};
+ghost use Rattle.univmon.specs.Calls.{answered};
 ghost use Rattle.estimates.specs.Calls.{panelCall};
+ghost use Rattle.panel_lines.specs.Answers.{showBytes};
 ghost use Rattle.panel_step.specs.Panel.{shapeCall, addCall, showLine, panelText};
 
 // 13 before a shape.
@@ -114,12 +117,12 @@ fn show_parts(
     counts: &[i64],
     out: &mut [u8],
 ) -> usize
-    requires { ⌜ header .shape .layers ≤ 19 ⌝ }
-    requires { ⌜ 120 ≤ length (now out) ⌝ }
+    requires { ⌜ header .shape .layers ≤ maxLayers ⌝ }
+    requires { ⌜ showBytes maxLayers ≤ length (now out) ⌝ }
     ensures { λ r. ⌜ r ≡ length (panelText header (panelCall (lent header (now (counters .entry)) (now (norms .entry)) (now (entries .entry)) (now (counts .entry))))) ⌝ }
     ensures { λ _. ⌜ now (out .exit)
         ≡ sets (now (out .entry)) 0 (panelText header (panelCall (lent header (now (counters .entry)) (now (norms .entry)) (now (entries .entry)) (now (counts .entry))))) ⌝ }
-    ensures { λ r. ⌜ r ≤ 120 ⌝ }
+    ensures { λ r. ⌜ r ≤ showBytes maxLayers ⌝ }
 {
     let a = estimates::panel_answer(header, counters, norms, entries, counts);
     if a.refusal != 0 {
@@ -142,10 +145,10 @@ pub fn show(
     counts: &[i64],
     out: &mut [u8],
 ) -> usize
-    requires { ⌜ 120 ≤ length (now out) ⌝ }
+    requires { ⌜ showBytes maxLayers ≤ length (now out) ⌝ }
     ensures { λ r. ⌜ r ≡ length (showLine (lent header (now (counters .entry)) (now (norms .entry)) (now (entries .entry)) (now (counts .entry)))) ⌝ }
     ensures { λ _. ⌜ now (out .exit) ≡ sets (now (out .entry)) 0 (showLine (lent header (now (counters .entry)) (now (norms .entry)) (now (entries .entry)) (now (counts .entry)))) ⌝ }
-    ensures { λ r. ⌜ r ≤ 120 ⌝ }
+    ensures { λ r. ⌜ r ≤ showBytes maxLayers ⌝ }
 {
     let shape = header.shape;
     if panel_refusal(

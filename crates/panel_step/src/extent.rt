@@ -1,37 +1,16 @@
-// How much of the panel's slices a shape uses, and whether the panel takes it.
+// Whether the panel takes a shape: its slices have room for what the shape uses.
 use header::Shape;
+use layout::Extent;
+use layout::extent_of;
 ghost use mathlib.Core.Path.{_≡_};
 ghost use mathlib.Core.Bool.{Bool};
 ghost use Prim.Native.Nat.{ℕ};
-ghost use Rattle.header.specs.Accepted.{Accepted};
-ghost use Rattle.panel_step.specs.Panel.{extentOf, roomy, panelRefusal};
+ghost use Rattle.panel_step.specs.Panel.{roomy, panelRefusal};
 
 // The greatest numbers of counters and of candidates, over all layers.
-const MAX_COUNTERS: usize = 4096;
+pub const MAX_COUNTERS: usize = 4096;
 
-const MAX_CANDIDATES: usize = 512;
-
-// Counters, norm words, entry words and counts of a shape.
-pub struct Extent {
-    pub cells: usize,
-    pub norms: usize,
-    pub words: usize,
-    pub seats: usize,
-}
-
-pub fn extent_of(shape: Shape) -> Extent
-    requires { ⌜ Accepted shape ⌝ }
-    ensures { λ r. ⌜ r ≡ extentOf shape ⌝ }
-{
-    let rows = shape.layers * shape.rows;
-    let seats = shape.layers * shape.heap_size;
-    Extent {
-        cells: rows * shape.cols,
-        norms: 2 * rows,
-        words: 4 * seats,
-        seats,
-    }
-}
+pub const MAX_CANDIDATES: usize = 512;
 
 // Whether slices of these lengths have room.
 fn has_room(e: Extent, counters: usize, norms: usize, entries: usize, counts: usize) -> bool

@@ -5,6 +5,9 @@ mod calls;
 mod extent;
 mod step;
 
+pub use extent::MAX_CANDIDATES;
+pub use extent::MAX_COUNTERS;
+pub use step::LONGEST;
 pub use step::answer_line;
 
 // The header after a line, and how many bytes its answer has.

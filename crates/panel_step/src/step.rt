@@ -5,8 +5,10 @@ use crate::calls::show;
 use crate::calls::start;
 use header::Header;
 use header::Shape;
+use panel_lines::answer::SHOW_BARE;
 use panel_lines::answer::put_ok;
 use panel_lines::answer::put_refused;
+use panel_lines::line::LINE_WORDS;
 use panel_lines::line::Request;
 use panel_lines::line::read_line;
 use text::word::put_word;
@@ -15,20 +17,20 @@ ghost use mathlib.Core.List.{[], _∷_, _++_};
 ghost use Prim.Native.Nat.{ℕ, _≤_};
 ghost use lib.ListN.{length};
 ghost use lib.Seq.{sets};
-ghost use Rattle.univmon.specs.Slices.{lent};
-ghost use Rattle.panel_step.specs.Panel.{shapeCall, addCall, showLine, replyText, replied, answer, found, put, answerWithin};
+ghost use Rattle.layout.specs.Slices.{lent};
+ghost use Rattle.panel_step.specs.Panel.{shapeCall, addCall, showLine, replyText, replied, answer, found, put, longest, answerWithin};
 
-// The longest answer, with its newline: `(show ..)` of 19 layers.
-const LONGEST: usize = 121;
+// The longest answer, with its newline: `(show ..)` of the most layers.
+pub const LONGEST: usize = SHOW_BARE + 2 * Shape::MAX_LAYERS + 1;
 
 const UNREADABLE: u64 = 13;
 
 // `(ok)` for 0, `(refused N)` for N, and a newline.
 fn put_reply(out: &mut [u8], refusal: u64) -> usize
-    requires { ⌜ 121 ≤ length (now out) ⌝ }
+    requires { ⌜ longest ≤ length (now out) ⌝ }
     ensures { λ r. ⌜ r ≡ length (replyText refusal ++ (10 ∷ [])) ⌝ }
     ensures { λ _. ⌜ now (out .exit) ≡ sets (now (out .entry)) 0 (replyText refusal ++ (10 ∷ [])) ⌝ }
-    ensures { λ r. ⌜ r ≤ 121 ⌝ }
+    ensures { λ r. ⌜ r ≤ longest ⌝ }
 {
     if refusal == 0 {
         let a = put_ok(out);
@@ -47,10 +49,10 @@ fn answer_shape(
     shape: Shape,
     out: &mut [u8],
 ) -> Told
-    requires { ⌜ 121 ≤ length (now out) ⌝ }
+    requires { ⌜ longest ≤ length (now out) ⌝ }
     ensures { λ r. ⌜ found (lent (r .header) (now (counters .exit)) (now (norms .exit)) (now (entries .exit)) (now (counts .exit))) (r .len) (now (out .exit))
         ≡ put (replied (shapeCall (lent header (now (counters .entry)) (now (norms .entry)) (now (entries .entry)) (now (counts .entry))) shape)) (now (out .entry)) ⌝ }
-    ensures { λ r. ⌜ r .len ≤ 121 ⌝ }
+    ensures { λ r. ⌜ r .len ≤ longest ⌝ }
 {
     let a = start(header, counters, norms, entries, counts, shape);
     let len = put_reply(out, a.refusal);
@@ -68,10 +70,10 @@ fn answer_add(
     weight: i64,
     out: &mut [u8],
 ) -> Told
-    requires { ⌜ 121 ≤ length (now out) ⌝ }
+    requires { ⌜ longest ≤ length (now out) ⌝ }
     ensures { λ r. ⌜ found (lent (r .header) (now (counters .exit)) (now (norms .exit)) (now (entries .exit)) (now (counts .exit))) (r .len) (now (out .exit))
         ≡ put (replied (addCall (lent header (now (counters .entry)) (now (norms .entry)) (now (entries .entry)) (now (counts .entry))) (now (words .entry)) weight)) (now (out .entry)) ⌝ }
-    ensures { λ r. ⌜ r .len ≤ 121 ⌝ }
+    ensures { λ r. ⌜ r .len ≤ longest ⌝ }
 {
     let a = add(header, counters, norms, entries, counts, words, weight);
     let len = put_reply(out, a.refusal);
@@ -87,10 +89,10 @@ fn answer_show(
     counts: &[i64],
     out: &mut [u8],
 ) -> Told
-    requires { ⌜ 121 ≤ length (now out) ⌝ }
+    requires { ⌜ longest ≤ length (now out) ⌝ }
     ensures { λ r. ⌜ found (lent (r .header) (now (counters .entry)) (now (norms .entry)) (now (entries .entry)) (now (counts .entry))) (r .len) (now (out .exit))
         ≡ put (answer (lent header (now (counters .entry)) (now (norms .entry)) (now (entries .entry)) (now (counts .entry))) (showLine (lent header (now (counters .entry)) (now (norms .entry)) (now (entries .entry)) (now (counts .entry))))) (now (out .entry)) ⌝ }
-    ensures { λ r. ⌜ r .len ≤ 121 ⌝ }
+    ensures { λ r. ⌜ r .len ≤ longest ⌝ }
 {
     let k = show(header, counters, norms, entries, counts, out);
     let len = put_word(out, k, b"\n");
@@ -109,12 +111,12 @@ pub fn answer_line(
 ) -> Told
     ensures { λ r. ⌜ found (lent (r .header) (now (counters .exit)) (now (norms .exit)) (now (entries .exit)) (now (counts .exit))) (r .len) (now (out .exit))
         ≡ put (answerWithin (length (now (out .entry))) (lent header (now (counters .entry)) (now (norms .entry)) (now (entries .entry)) (now (counts .entry))) (now (line .entry))) (now (out .entry)) ⌝ }
-    ensures { λ r. ⌜ r .len ≤ 121 ⌝ }
+    ensures { λ r. ⌜ r .len ≤ longest ⌝ }
 {
     if out.len() < LONGEST {
         return Told { header, len: 0 };
     }
-    let mut words = [0u64; 56];
+    let mut words = [0u64; LINE_WORDS];
     let q = read_line(line, &mut words);
     match q {
         Request::Shape(heap_size, rows, cols, layers) => {

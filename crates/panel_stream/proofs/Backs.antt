@@ -1,6 +1,6 @@
 -- What a call left, put back into the slices, is in use there, and the slices are as long as before. Assumes nothing.
 use mathlib.Core.Path.{_≡_, _∙_}
-use Prim.Native.Nat.{ℕ, _+_, _-_, _*_, _≤_}
+use Prim.Native.Nat.{ℕ, _*_, _≤_}
 use native.Mathlib.Omega.{arith}
 use mathlib.Core.Bool.{Bool, true, _&&_}
 use mathlib.Core.List.{List, _++_}
@@ -10,9 +10,10 @@ use lib.Dec.{eqb}
 use borrow.Author.Tests.{eqb-true}
 use Rattle.words.proofs.Bools.{and-left, and-right}
 use Rattle.header.specs.declared.Shape.{Shape}
-use Rattle.univmon.specs.Slices.{Lent, cellsIn, normsIn, candsIn, lengthsOk, lentOk}
-use Rattle.panel_step.specs.declared.extent.Extent.{Extent}
-use Rattle.panel_step.specs.Panel.{extentOf, inUse, putBack, panelRefusal, refusalIn}
+use Rattle.layout.specs.Slices.{Lent, cellsIn, normsIn, candsIn, lengthsOk, lentOk}
+use Rattle.layout.specs.declared.Extent.{Extent}
+use Rattle.layout.specs.Spans.{extentOf}
+use Rattle.panel_step.specs.Panel.{inUse, putBack, panelRefusal, refusalIn}
 use Rattle.panel_step.proofs.Rooms.{Fit, fit-of}
 
 -- slices of just a shape's lengths

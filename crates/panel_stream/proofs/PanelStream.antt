@@ -16,8 +16,9 @@ use Rattle.header.specs.declared.Mode.the-variants as mode
 use Rattle.header.specs.Shape.{shapeRefusal}
 use Rattle.header.specs.Header.{zeroHeader}
 use Rattle.univmon.specs.declared.Kind.the-variants as kind
-use Rattle.univmon.specs.Slices.{Lent, lentOk, flat, freshLent}
-use Rattle.univmon.specs.Calls.{Outcome, Left, left, leftBy, updateCall}
+use Rattle.layout.specs.Slices.{Lent, lentOk, flat, freshLent}
+use Rattle.layout.specs.Outcomes.{Outcome, Left, left, leftBy}
+use Rattle.univmon.specs.Calls.{updateCall}
 use Rattle.shared_streams.specs.Books.{Update}
 use Rattle.shared_streams.specs.Relays.{updateBy}
 use Rattle.shared_streams.specs.Ledger.{feedNumber, Answers}
@@ -30,7 +31,8 @@ use Rattle.panel_lines.specs.declared.line.Request.the-variants as ask
 use Rattle.panel_lines.specs.Line.{readOf}
 use Rattle.panel_lines.specs.Answers.{refusedText}
 use Rattle.panel_lines.specs.Split.{lines, wholeOf}
-use Rattle.panel_step.specs.Panel.{extentOf, inUse, putBack, panelRefusal, paperRefusal, refusalIn, shapeCall, started, backBy, addCall, panelText, showLine, Answer, answerTo, answerLine, answersOf, runOf}
+use Rattle.layout.specs.Spans.{extentOf}
+use Rattle.panel_step.specs.Panel.{inUse, putBack, panelRefusal, paperRefusal, refusalIn, shapeCall, started, backBy, addCall, panelText, showLine, Answer, answerTo, answerLine, answersOf, runOf}
 use Rattle.panel_step.proofs.Rooms.{fit-of, own-refusal}
 use Rattle.panel_step.proofs.Runs.{run-whole}
 use Rattle.panel_stream.specs.PanelStream.{Log, shapeBy, blank, addNumber, logShaped, logAdded, logAfter, logOf, relayIn, Shown, Told, Theorem, Own, Corollary}

@@ -16,8 +16,8 @@ use Rattle.header.specs.declared.Mode.the-variants as mode
 use Rattle.header.specs.Shape.{shapeRefusal}
 use Rattle.header.specs.Accepted.{Accepted}
 use Rattle.header.proofs.Refusals.{accepted-of}
-use Rattle.univmon.specs.State.{State, rowsAt, colsAt, dimsAt, layerAt}
-use Rattle.univmon.specs.Slices.{Lent, normsIn, view}
+use Rattle.layout.specs.State.{State, rowsAt, colsAt, dimsAt, layerAt}
+use Rattle.layout.specs.Slices.{Lent, normsIn, view}
 use Rattle.estimates.specs.Norms.{l2OfState}
 use Rattle.estimates.specs.Sums.{layerReads, whosRead}
 use Rattle.estimates.specs.declared.Answer.{Answer}

@@ -4,7 +4,7 @@
 -- The definitions that it needs, beside those of this page: `answersOf`, `shapeCall`, `addCall`, `showLine`, `inUse`, `refusalIn`, `paperRefusal`, `runOf` (panel_step),
 -- which the program's contracts cite; books, `feedNumber` and `Claimed` (shared_streams); `panelCall` (estimates).
 -- The proofs stand in proofs/PanelStream.antt, under the names `panel-stream` and `of-any-input`.
-use Prim.Native.Nat.{ℕ, zero, suc, _≤_}
+use Prim.Native.Nat.{ℕ, zero, suc, _*_, _≤_}
 use mathlib.Core.Path.{_≡_}
 use mathlib.Core.Bool.{Bool, true, false, cond}
 use mathlib.Core.List.{List, [], _∷_, _++_}
@@ -12,12 +12,14 @@ use lib.ListN.{length}
 use lib.IntN.{ℤ, pos}
 use lib.Dec.{eqb}
 use lib.Ieee.{Float, binary64, toBits, ofInt}
+use Rattle.matrix_storage.specs.Bits.{maxRows}
 use Rattle.countsketch_l2_norm.specs.L2.{l2Of}
 use Rattle.header.specs.declared.Shape.{Shape}
+use Rattle.header.specs.Shape.{maxLayers}
 use Rattle.header.specs.Header.{zeroHeader}
 use Rattle.univmon.specs.declared.Kind.the-variants as kind
-use Rattle.univmon.specs.State.{rowsAt}
-use Rattle.univmon.specs.Slices.{Lent}
+use Rattle.layout.specs.State.{rowsAt}
+use Rattle.layout.specs.Slices.{Lent}
 use Rattle.estimates.specs.Calls.{panelCall}
 use Rattle.shared_streams.specs.Books.{Book, bookKeys, normBy, flagBy, weightOf, distinct, OneRecord}
 use Rattle.shared_streams.specs.Relays.{Relay, updateBy}
@@ -28,7 +30,7 @@ use Rattle.panel_lines.specs.declared.line.Request.the-variants as ask
 use Rattle.panel_lines.specs.Line.{readOf}
 use Rattle.panel_lines.specs.Answers.{refusedText, showText}
 use Rattle.panel_lines.specs.Split.{lines, wholeOf}
-use Rattle.panel_step.specs.Panel.{inUse, refusalIn, paperRefusal, shapeCall, addCall, showLine, answersOf, runOf}
+use Rattle.panel_step.specs.Panel.{maxCounters, maxCandidates, inUse, refusalIn, paperRefusal, shapeCall, addCall, showLine, answersOf, runOf}
 
 -- ---- what lines say: the shape that was last accepted, if one was, and the book since then
 
@@ -121,10 +123,10 @@ Theorem = (r : Lent) → r .head ≡ zeroHeader → (ls : List (List ℕ)) → T
 -- the program's own slices: "Above 4,096 counters or 512 candidates over all layers it answers 4." is all that they add
 pub record Own (r : Lent) : Type 0 where
   pub head : r .head ≡ zeroHeader
-  pub counters : length (r .counters) ≡ 4096
-  pub norms : length (r .norms) ≡ 760
-  pub entries : length (r .entries) ≡ 2048
-  pub counts : length (r .counts) ≡ 512
+  pub counters : length (r .counters) ≡ maxCounters
+  pub norms : length (r .norms) ≡ 2 * maxLayers * maxRows
+  pub entries : length (r .entries) ≡ 4 * maxCandidates
+  pub counts : length (r .counts) ≡ maxCandidates
 
 -- of any input, in whatever chunks it is read
 abbrev pub Corollary : Type 0

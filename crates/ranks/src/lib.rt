@@ -9,10 +9,13 @@ mod order;
 mod parts;
 mod step;
 
+pub use marks::SPOTS;
 pub use marks::mark_first;
 pub use order::absorb_one;
 pub use parts::rank;
 pub use step::close;
+pub use step::cut;
+pub use step::sum_level;
 use sums::G;
 
 // What is asked: g, whether every key counts, and the heap size.

@@ -1,12 +1,17 @@
 // What changes nothing: answers, the state check, and whether two relays hold the same.
 use crate::Call;
 use crate::digest::say;
+use crate::heads::LENS;
 use crate::heads::header_of;
 use crate::shelf::CELLS;
 use crate::shelf::COUNTERS;
 use crate::shelf::COUNTS;
 use crate::shelf::ENTRIES;
 use crate::shelf::ENTRY_WORDS;
+use crate::shelf::LENT_COUNTERS;
+use crate::shelf::LENT_COUNTS;
+use crate::shelf::LENT_ENTRIES;
+use crate::shelf::LENT_NORMS;
 use crate::shelf::NORM_WORDS;
 use crate::shelf::NORMS;
 use crate::shelf::SEATS;
@@ -66,10 +71,10 @@ fn answers(h: Header, counters: &[i64], norms: &[u64], entries: &[u64], counts: 
 
 // 11 prints the answers of the relay at work. Any other operation asks whether it passes the state check.
 pub fn ask(op: u64, shelf: &[u64]) -> bool {
-    let c = lent(shelf, 0, 44, CELLS);
-    let w = lent(shelf, 0, 45, NORM_WORDS);
-    let e = lent(shelf, 0, 46, ENTRY_WORDS);
-    let k = lent(shelf, 0, 47, SEATS);
+    let c = lent(shelf, 0, LENT_COUNTERS, CELLS);
+    let w = lent(shelf, 0, LENT_NORMS, NORM_WORDS);
+    let e = lent(shelf, 0, LENT_ENTRIES, ENTRY_WORDS);
+    let k = lent(shelf, 0, LENT_COUNTS, SEATS);
     let mut counters = [0i64; CELLS];
     let mut norms = [0u64; NORM_WORDS];
     let mut entries = [0u64; ENTRY_WORDS];
@@ -104,16 +109,26 @@ fn alike(shelf: &[u64], a: usize, b: usize, n: usize) -> bool {
 
 // 12: whether both relays agree in shape, weight, mode, flags, counters and norms.
 pub fn same(shelf: &[u64]) -> bool {
-    if !alike(shelf, 0, SECOND, 25) {
+    if !alike(shelf, 0, SECOND, LENS) {
         return false;
     }
-    if !alike(shelf, 44, SECOND + 44, 2) {
+    if !alike(shelf, LENT_COUNTERS, SECOND + LENT_COUNTERS, 2) {
         return false;
     }
-    if !alike(shelf, COUNTERS, SECOND_COUNTERS, get(shelf, 0, 44) as usize) {
+    if !alike(
+        shelf,
+        COUNTERS,
+        SECOND_COUNTERS,
+        get(shelf, 0, LENT_COUNTERS) as usize,
+    ) {
         return false;
     }
-    alike(shelf, NORMS, SECOND_NORMS, get(shelf, 0, 45) as usize)
+    alike(
+        shelf,
+        NORMS,
+        SECOND_NORMS,
+        get(shelf, 0, LENT_NORMS) as usize,
+    )
 }
 
 // 16: the refusal of a shape.

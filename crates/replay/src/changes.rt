@@ -4,6 +4,7 @@ use crate::Call;
 use crate::asked::ask;
 use crate::digest::say;
 use crate::digest::whole;
+use crate::heads::HEAD_WORDS;
 use crate::heads::header_of;
 use crate::heads::words_of;
 use crate::shelf::CELLS;
@@ -11,8 +12,14 @@ use crate::shelf::COUNTERS;
 use crate::shelf::COUNTS;
 use crate::shelf::ENTRIES;
 use crate::shelf::ENTRY_WORDS;
+use crate::shelf::KEPT_RECORDS;
+use crate::shelf::LENT_COUNTERS;
+use crate::shelf::LENT_COUNTS;
+use crate::shelf::LENT_ENTRIES;
+use crate::shelf::LENT_NORMS;
 use crate::shelf::NORM_WORDS;
 use crate::shelf::NORMS;
+use crate::shelf::RECORD_WORDS;
 use crate::shelf::RECORDS;
 use crate::shelf::SEATS;
 use crate::shelf::SECOND;
@@ -27,7 +34,10 @@ use crate::shelf::put_signed;
 use crate::shelf::take_signed;
 use header::Answered;
 use header::Header;
-use univmon::Fidelity;
+use univmon_delta::Fidelity;
+
+// A call's record may have more words than any shape asks for.
+const LONGEST: usize = 2 * RECORD_WORDS;
 
 fn fidelity(n: u64) -> Fidelity {
     if n == 0 {
@@ -47,7 +57,7 @@ fn count_of(n: u64) -> i32 {
 
 // Where the record of a place starts.
 pub fn record_at(a: u64) -> usize {
-    (a % 256) as usize * 40 + RECORDS
+    (a % KEPT_RECORDS) as usize * RECORD_WORDS + RECORDS
 }
 
 // 2, 3: a standard and a terminal update. 4: a delta. The record is that of a place, as many words of it as
@@ -61,12 +71,12 @@ fn recorded(
     counts: &mut [i64],
     shelf: &[u64],
 ) -> Answered {
-    let mut record = [0u64; 80];
-    copy(shelf, record_at(call.a), &mut record, 0, 80);
-    let n = lent(shelf, WORDS, 1, 80);
+    let mut record = [0u64; LONGEST];
+    copy(shelf, record_at(call.a), &mut record, 0, LONGEST);
+    let n = lent(shelf, WORDS, 1, LONGEST);
     let words = &record[..n];
     if call.op == 4 {
-        return univmon::apply_delta(
+        return univmon_delta::apply_delta(
             h,
             counters,
             norms,
@@ -104,10 +114,10 @@ fn merge(
     counts: &mut [i64],
     shelf: &[u64],
 ) -> Answered {
-    let c = lent(shelf, SECOND, 44, CELLS);
-    let w = lent(shelf, SECOND, 45, NORM_WORDS);
-    let e = lent(shelf, SECOND, 46, ENTRY_WORDS);
-    let k = lent(shelf, SECOND, 47, SEATS);
+    let c = lent(shelf, SECOND, LENT_COUNTERS, CELLS);
+    let w = lent(shelf, SECOND, LENT_NORMS, NORM_WORDS);
+    let e = lent(shelf, SECOND, LENT_ENTRIES, ENTRY_WORDS);
+    let k = lent(shelf, SECOND, LENT_COUNTS, SEATS);
     let mut other_counters = [0i64; CELLS];
     let mut other_norms = [0u64; NORM_WORDS];
     let mut other_entries = [0u64; ENTRY_WORDS];
@@ -168,10 +178,10 @@ fn on_lent(
 
 // Runs a call on the relay at work: its slices are taken off the shelf, lent, and put back.
 pub fn run(call: Call, shelf: &mut [u64]) {
-    let c = lent(&*shelf, 0, 44, CELLS);
-    let w = lent(&*shelf, 0, 45, NORM_WORDS);
-    let e = lent(&*shelf, 0, 46, ENTRY_WORDS);
-    let k = lent(&*shelf, 0, 47, SEATS);
+    let c = lent(&*shelf, 0, LENT_COUNTERS, CELLS);
+    let w = lent(&*shelf, 0, LENT_NORMS, NORM_WORDS);
+    let e = lent(&*shelf, 0, LENT_ENTRIES, ENTRY_WORDS);
+    let k = lent(&*shelf, 0, LENT_COUNTS, SEATS);
     let mut counters = [0i64; CELLS];
     let mut norms = [0u64; NORM_WORDS];
     let mut entries = [0u64; ENTRY_WORDS];
@@ -189,6 +199,6 @@ pub fn run(call: Call, shelf: &mut [u64]) {
     copy(&entries, 0, shelf, ENTRIES, e);
     put_signed(&counts, shelf, COUNTS, k);
     let words = words_of(out.header);
-    copy(&words, 0, shelf, 0, 44);
+    copy(&words, 0, shelf, 0, HEAD_WORDS);
     say(out.refusal, ask(call.op, &*shelf), whole(&*shelf));
 }

@@ -1,8 +1,13 @@
 // A whole state as one number, and what a call that changes it says.
+use crate::heads::HEAD_WORDS;
 use crate::heads::bit_of;
 use crate::shelf::COUNTERS;
 use crate::shelf::COUNTS;
 use crate::shelf::ENTRIES;
+use crate::shelf::LENT_COUNTERS;
+use crate::shelf::LENT_COUNTS;
+use crate::shelf::LENT_ENTRIES;
+use crate::shelf::LENT_NORMS;
 use crate::shelf::NORMS;
 use crate::shelf::get;
 
@@ -18,11 +23,11 @@ fn of_words(start: u64, shelf: &[u64], at: usize, n: usize) -> u64 {
 
 // Header, counters, norms, entries and counts of the relay at work, as they are lent.
 pub fn whole(shelf: &[u64]) -> u64 {
-    let a = of_words(0, shelf, 0, 44);
-    let b = of_words(a, shelf, COUNTERS, get(shelf, 0, 44) as usize);
-    let c = of_words(b, shelf, NORMS, get(shelf, 0, 45) as usize);
-    let d = of_words(c, shelf, ENTRIES, get(shelf, 0, 46) as usize);
-    of_words(d, shelf, COUNTS, get(shelf, 0, 47) as usize)
+    let a = of_words(0, shelf, 0, HEAD_WORDS);
+    let b = of_words(a, shelf, COUNTERS, get(shelf, 0, LENT_COUNTERS) as usize);
+    let c = of_words(b, shelf, NORMS, get(shelf, 0, LENT_NORMS) as usize);
+    let d = of_words(c, shelf, ENTRIES, get(shelf, 0, LENT_ENTRIES) as usize);
+    of_words(d, shelf, COUNTS, get(shelf, 0, LENT_COUNTS) as usize)
 }
 
 // A refusal's number in the top byte, 1 below it where the state passes the check, and a digest.

@@ -1,9 +1,20 @@
-// Headers as 44 words: shape, weight, mode, 19 flags, 19 lengths.
+// Headers as words: the shape's four, weight, mode, a flag for each layer, a length for each layer.
 use crate::shelf::get;
 use header::Header;
 use header::Mode;
 use header::Shape;
+use header::Totals;
 ghost use Prim.Native.Nat.{_<_};
+
+const WEIGHT: usize = 4;
+
+const MODE: usize = WEIGHT + 1;
+
+const FLAGS: usize = MODE + 1;
+
+pub const LENS: usize = FLAGS + Shape::MAX_LAYERS;
+
+pub const HEAD_WORDS: usize = LENS + Shape::MAX_LAYERS;
 
 fn mode_of(n: u64) -> Mode {
     if n == 1 {
@@ -33,21 +44,21 @@ pub fn bit_of(b: bool) -> u64
 }
 
 // The words of a header.
-pub fn words_of(h: Header) -> [u64; 44] {
+pub fn words_of(h: Header) -> [u64; HEAD_WORDS] {
     let lens = h.lens;
     let flags = h.flags;
     let mode = h.mode;
-    let mut words = [0u64; 44];
+    let mut words = [0u64; HEAD_WORDS];
     words[0] = h.shape.heap_size as u64;
     words[1] = h.shape.rows as u64;
     words[2] = h.shape.cols as u64;
     words[3] = h.shape.layers as u64;
-    words[4] = h.weight;
-    words[5] = number_of(mode);
+    words[WEIGHT] = h.totals.weight;
+    words[MODE] = number_of(mode);
     let mut l = 0;
-    while l < 19 {
-        words[l + 6] = bit_of(flags[l]);
-        words[l + 25] = lens[l] as u64;
+    while l < Shape::MAX_LAYERS {
+        words[l + FLAGS] = bit_of(flags[l]);
+        words[l + LENS] = lens[l] as u64;
         l += 1;
     }
     words
@@ -55,12 +66,12 @@ pub fn words_of(h: Header) -> [u64; 44] {
 
 // The header whose words stand from one on; a mode that is no mode is unset.
 pub fn header_of(xs: &[u64], at: usize) -> Header {
-    let mut lens = [0usize; 19];
-    let mut flags = [false; 19];
+    let mut lens = [0usize; Shape::MAX_LAYERS];
+    let mut flags = [false; Shape::MAX_LAYERS];
     let mut l = 0;
-    while l < 19 {
-        flags[l] = get(xs, at, l + 6) != 0;
-        lens[l] = get(xs, at, l + 25) as usize;
+    while l < Shape::MAX_LAYERS {
+        flags[l] = get(xs, at, l + FLAGS) != 0;
+        lens[l] = get(xs, at, l + LENS) as usize;
         l += 1;
     }
     let shape = Shape {
@@ -71,9 +82,11 @@ pub fn header_of(xs: &[u64], at: usize) -> Header {
     };
     Header {
         shape,
-        weight: get(xs, at, 4),
+        totals: Totals {
+            weight: get(xs, at, WEIGHT),
+        },
         lens,
         flags,
-        mode: mode_of(get(xs, at, 5)),
+        mode: mode_of(get(xs, at, MODE)),
     }
 }

@@ -9,11 +9,13 @@ mod shelf;
 
 use crate::changes::record_at;
 use crate::shelf::ALL;
+use crate::shelf::CALL_WORDS;
 use crate::shelf::COUNTERS;
 use crate::shelf::COUNTS;
 use crate::shelf::ENTRIES;
 use crate::shelf::NORMS;
 use crate::shelf::PLACE;
+use crate::shelf::PLACES;
 use crate::shelf::SECOND;
 use crate::shelf::WORDS;
 use crate::shelf::get;
@@ -34,10 +36,10 @@ pub struct Call {
 
 // Reads a line, puts its words on the shelf, and answers its operation.
 fn read(shelf: &mut [u64]) -> u64 {
-    let mut text = [0u8; 816];
+    let mut text = [0u8; 17 * CALL_WORDS];
     let line = vectors::next(&mut text);
     let mut k = 0;
-    while k < 48 {
+    while k < CALL_WORDS {
         set(shelf, WORDS, k, vectors::word(&text, k));
         k += 1;
     }
@@ -70,7 +72,7 @@ fn slice_at(n: u64) -> usize {
 
 // Where the n-th place starts.
 fn place_at(n: u64) -> usize {
-    (n % 8) as usize * PLACE
+    (n % PLACES) as usize * PLACE
 }
 
 // One operation. 10: a word of the relay at work is set by hand. 12: whether it holds what the second one holds.

@@ -1,19 +1,30 @@
 // The shelf: all that the program holds, as words of one slice, since each slice that a function passes on
 // makes its proof longer. It has eight places for a relay: in the first stands the one at work, in the last
 // the second one, which a merge reads. Behind them are the records, and the words of the call.
+use crate::heads::HEAD_WORDS;
+use header::Shape;
 ghost use Prim.Native.Nat.{_≤_};
 
-// The greatest state that is run: counters, counts, norm words and entry words.
+// The greatest state that is run: counters, counts, norm words, two for each row of each layer, and entry words,
+// four for each count.
 pub const CELLS: usize = 12288;
 
 pub const SEATS: usize = 2048;
 
-pub const NORM_WORDS: usize = 760;
+pub const NORM_WORDS: usize = 2 * Shape::MAX_LAYERS * Shape::MAX_ROWS;
 
-pub const ENTRY_WORDS: usize = 8192;
+pub const ENTRY_WORDS: usize = 4 * SEATS;
 
-// A place has the header's 44 words, how much of each slice is lent, and the slices.
-pub const COUNTERS: usize = 48;
+// A place has the header's words, how much of each slice is lent, and the slices.
+pub const LENT_COUNTERS: usize = HEAD_WORDS;
+
+pub const LENT_NORMS: usize = LENT_COUNTERS + 1;
+
+pub const LENT_ENTRIES: usize = LENT_NORMS + 1;
+
+pub const LENT_COUNTS: usize = LENT_ENTRIES + 1;
+
+pub const COUNTERS: usize = LENT_COUNTS + 1;
 
 pub const COUNTS: usize = COUNTERS + CELLS;
 
@@ -23,7 +34,9 @@ pub const ENTRIES: usize = NORMS + NORM_WORDS;
 
 pub const PLACE: usize = ENTRIES + ENTRY_WORDS;
 
-pub const SECOND: usize = 7 * PLACE;
+pub const PLACES: u64 = 8;
+
+pub const SECOND: usize = (PLACES as usize - 1) * PLACE;
 
 pub const SECOND_COUNTERS: usize = SECOND + COUNTERS;
 
@@ -33,12 +46,19 @@ pub const SECOND_NORMS: usize = SECOND + NORMS;
 
 pub const SECOND_ENTRIES: usize = SECOND + ENTRIES;
 
-// 256 records of 40 words, and the 48 words of a call.
-pub const RECORDS: usize = 8 * PLACE;
+// Records: key, bottom hash, and two words for each layer.
+pub const RECORDS: usize = PLACES as usize * PLACE;
 
-pub const WORDS: usize = RECORDS + 10240;
+pub const RECORD_WORDS: usize = 2 + 2 * Shape::MAX_LAYERS;
 
-pub const ALL: usize = WORDS + 48;
+pub const KEPT_RECORDS: u64 = 256;
+
+// The words of a call.
+pub const WORDS: usize = RECORDS + KEPT_RECORDS as usize * RECORD_WORDS;
+
+pub const CALL_WORDS: usize = 48;
+
+pub const ALL: usize = WORDS + CALL_WORDS;
 
 // The i-th word from one on; behind the end there are zeros.
 pub fn get(xs: &[u64], at: usize, i: usize) -> u64 {

@@ -1,114 +1,78 @@
 -- What a call on relays that are as their books say is answered with: the number that the books say. Assumes nothing.
-use mathlib.Core.Path.{_≡_, refl, ap₂, _∙_, sym, subst}
+use mathlib.Core.Path.{_≡_, refl, ap, ap₂, _∙_, sym, subst}
 use Prim.Native.Nat.{ℕ, _+_}
-use native.Mathlib.Omega.{arith}
-use mathlib.Core.Bool.{Bool, true, false, cond, not}
-use mathlib.Core.List.{List}
+use mathlib.Core.Bool.{Bool, true, false, not}
+use mathlib.Core.List.{List, [], _∷_, _++_}
 use lib.ListN.{length}
-use lib.IntN.{ℤ, pos, negsuc, natAbs}
-use lib.Signed.{nonNeg}
+use lib.IntN.{ℤ, pos, negsuc}
 use lib.Dec.{eqb, leb}
-use borrow.Author.Tests.{eqb-true, leb-true}
+use borrow.Author.Tests.{eqb-true, eqb-false, leb-true, not-false}
 use Rattle.words.specs.Num.{top}
+use Rattle.words.specs.Tests.{number, numbered}
 use Rattle.words.proofs.Bools.{never}
+use Rattle.words.proofs.Tests.{Off, off-number, number-rest, number-alone}
 use Rattle.header.specs.declared.Shape.{Shape}
 use Rattle.header.specs.declared.Mode.{Mode}
-use Rattle.header.specs.Shape.{shapeRefusal}
-use Rattle.header.specs.Header.{clash}
+use Rattle.header.specs.Shape.{shapeRefusal, sameShape}
+use Rattle.header.specs.Totals.{totalsTests}
+use Rattle.header.specs.Header.{scalarsOf, clash, beginTests}
 use Rattle.univmon.specs.declared.Kind.{Kind}
-use Rattle.univmon.specs.State.{State}
-use Rattle.univmon.specs.Judged.{Out, refused, done, unsound}
-use Rattle.univmon.specs.Updates.{recordLength, modeOf, updateTests, updated, update}
-use Rattle.univmon.specs.Slices.{Lent, view}
-use Rattle.univmon.specs.Calls.{outcomeOf, updateCall}
-use Rattle.univmon_merge.specs.Merges.{sameShape, mergeTests, merged, merge}
-use Rattle.univmon_merge.specs.Calls.{mergeCall}
+use Rattle.layout.specs.Records.{recordLength}
+use Rattle.layout.specs.Slices.{Lent, view, flat}
+use Rattle.layout.specs.Outcomes.{Outcome, judge, lentTests}
+use Rattle.layout.proofs.Judged.{passed, refused}
+use Rattle.univmon.specs.Updates.{modeOf, sentTests, updateTests, updated}
+use Rattle.univmon.specs.Calls.{updateCall}
+use Rattle.univmon_merge.specs.Merges.{pairTests, mergeTests, merged, mergeCall}
 use Rattle.shared_streams.specs.Books.{Book, bookMode}
-use Rattle.shared_streams.specs.Ledger.{feedNumber, joinNumber, Answers}
+use Rattle.shared_streams.specs.Ledger.{feedTests, feedNumber, joinTests, joinNumber, Answers}
 use Rattle.shared_streams.proofs.Relays.{RelayBy}
-use Rattle.shared_streams.proofs.Refusals.{sound, sound-by, same-shape, update-accepted, merge-accepted}
-use Rattle.shared_streams.proofs.Calls.{LentBy, lent-view, lent-lengths}
+use Rattle.shared_streams.proofs.Calls.{LentBy, lent-view, lent-off, update-sent, merge-paired, shapes-same}
 
--- of a call on a state
-abbrev Says : Out → ℕ → Type 0
-Says (refused m) n = (m ≡ n) × (n ≡ 0 → ⊥)
-Says (done s) n = n ≡ 0
+-- a call by its tests, where no test has the number 0
+judge-answers : (ts : List (Bool × ℕ)) (t : Lent) (n : ℕ) → numbered ts ≡ true → number ts ≡ n → Answers (judge ts t) n
+judge-answers ts t n h e = go (eqb (number ts) 0) refl
+  where
+    go : (b : Bool) → eqb (number ts) 0 ≡ b → Answers (judge ts t) n
+    go true q = subst (λ (o : Outcome). Answers o n) (sym (passed ts t (off-number ts h (eqb-true (number ts) 0 q)))) (sym e ∙ eqb-true (number ts) 0 q)
+    go false q = subst (λ (o : Outcome). Answers o n) (sym (refused ts t (eqb-false (number ts) 0 q))) (e, λ z. eqb-false (number ts) 0 q (e ∙ z))
 
-said : (o : Out) (n : ℕ) → Says o n → Answers (outcomeOf o) n
-said (refused m) n p = p
-said (done s) n p = p
-
-says-done : (o : Out) (s : State) → o ≡ done s → Says o 0
-says-done o s e = subst (λ (z : Out). Says z 0) (sym e) refl
+-- the first tests and the last are off, or those between refuse
+between : (us ts vs : List (Bool × ℕ)) → numbered ts ≡ true → Off us → (Off ts → Off vs) → number (us ++ (ts ++ vs)) ≡ number ts
+between us ts vs h o f = number-rest us (ts ++ vs) o ∙ number-alone ts vs h f
 
 -- ---- an update
 
--- the numbers in their order
-abbrev feedBy : Bool → Bool → Bool → Bool → ℕ
-feedBy long good mixed light = cond (not long) 12 (cond (not good) 5 (cond mixed 6 (cond (not light) 7 0)))
-
-module _ (k : Kind) (s : State) (b : Book) (words : List ℕ) (v : shapeRefusal (s .head .shape) ≡ 0) (r : RelayBy (s .head .shape) b s) where
-  taken : (w : ℤ) → length words ≡ recordLength (s .head .shape .layers) → nonNeg w ≡ true → clash (s .head .mode) (modeOf k) ≡ false
-      → leb (s .head .weight + natAbs w) top ≡ true → Says (update k s words w) 0
-  taken (pos m) long q clear light =
-      says-done (update k s words (pos m)) (updated k s words (pos m)) (update-accepted k s b words m v r long clear (leb-true (s .head .weight + m) top light))
-  taken (negsuc m) long q clear light = absurd (never q)
-
-  state-feeds : (w : ℤ)
-      → Says (update k s words w) (feedBy (eqb (length words) (recordLength (s .head .shape .layers))) (nonNeg w) (clash (s .head .mode) (modeOf k)) (leb (s .head .weight + natAbs w) top))
-  unfolding update updateTests
-  state-feeds w =
-      go (eqb (length words) (recordLength (s .head .shape .layers))) refl (nonNeg w) refl (clash (s .head .mode) (modeOf k)) refl (leb (s .head .weight + natAbs w) top) refl
-    where
-      go : (a : Bool) → eqb (length words) (recordLength (s .head .shape .layers)) ≡ a → (d : Bool) → nonNeg w ≡ d → (m : Bool) → clash (s .head .mode) (modeOf k) ≡ m
-          → (f : Bool) → leb (s .head .weight + natAbs w) top ≡ f → Says (update k s words w) (feedBy a d m f)
-      go false pa d pd m pm f pf = rw (sound s b v r, pa) (refl, λ z. omega (arith, z))
-      go true pa false pd m pm f pf = rw (sound s b v r, pa, pd) (refl, λ z. omega (arith, z))
-      go true pa true pd true pm f pf = rw (sound s b v r, pa, pd, pm) (refl, λ z. omega (arith, z))
-      go true pa true pd false pm false pf = rw (sound s b v r, pa, pd, pm, pf) (refl, λ z. omega (arith, z))
-      go true pa true pd false pm true pf = taken w (eqb-true (length words) (recordLength (s .head .shape .layers)) pa) pd pm pf
-
 pub feed-answers : (sh : Shape) → shapeRefusal sh ≡ 0 → (b : Book) (r : Lent) → LentBy sh b r → (k : Kind) (words : List ℕ) (w : ℤ)
     → Answers (updateCall k r words w) (feedNumber sh b k words w)
-unfolding updateCall feedNumber
-feed-answers sh v b r x k words w = rw (lent-lengths sh b r x) (said (update k (view r) words w) (feedNumber sh b k words w) on)
+unfolding updateCall updateTests feedNumber view
+feed-answers sh v b r x k words w =
+    judge-answers (updateTests k r words w) (flat (updated k (view r) words w)) (feedNumber sh b k words w) refl
+    (between (lentTests r) front (sentTests k (view r) words w) refl (lent-off sh v b r x) (sent w) ∙ by-book)
   where
     by : RelayBy sh b (view r)
     by = lent-view sh b r x
 
-    number : Mode → ℕ → ℕ
-    number m n = feedBy (eqb (length words) (recordLength (sh .layers))) (nonNeg w) (clash m (modeOf k)) (leb (n + natAbs w) top)
+    -- between the lengths and the layers
+    front : List (Bool × ℕ)
+    front = (not (eqb (length words) (recordLength (r .head .shape .layers))), 12) ∷ beginTests (scalarsOf (r .head)) w (modeOf k)
 
-    on : Says (update k (view r) words w) (feedNumber sh b k words w)
-    on =
-        subst (λ (n : ℕ). Says (update k (view r) words w) n) (ap₂ number (by .mode) (by .weight))
-        (subst (λ (z : Shape). shapeRefusal z ≡ 0 → RelayBy z b (view r) → Says (update k (view r) words w) (feedBy (eqb (length words) (recordLength (z .layers))) (nonNeg w) (clash (view r .head .mode) (modeOf k)) (leb (view r .head .weight + natAbs w) top)))
-        (by .shape) (λ g p. state-feeds k (view r) b words g p w) v by)
+    sent : (z : ℤ) → Off ((not (eqb (length words) (recordLength (r .head .shape .layers))), 12) ∷ beginTests (scalarsOf (r .head)) z (modeOf k)) → Off (sentTests k (view r) words z)
+    sent (pos m) o = update-sent sh v k b r words m x (leb-true (r .head .totals .weight + m) top (not-false (leb (r .head .totals .weight + m) top) (o .1 .1 .1 .0)))
+    sent (negsuc m) o = absurd (never (sym (o .1 .0)))
+
+    by-book : number ((not (eqb (length words) (recordLength (r .head .shape .layers))), 12) ∷ beginTests (scalarsOf (r .head)) w (modeOf k)) ≡ number (feedTests sh b k words w)
+    by-book =
+        ap (λ (z : Shape). number ((not (eqb (length words) (recordLength (z .layers))), 12) ∷ beginTests (record { shape = z; totals = r .head .totals; mode = r .head .mode }) w (modeOf k))) (by .shape)
+        ∙ ap₂ (λ (m : Mode) (n : ℕ). number ((not (eqb (length words) (recordLength (sh .layers))), 12) ∷ beginTests (record { shape = sh; totals = record { weight = n }; mode = m }) w (modeOf k))) (by .mode) (by .weight)
 
 -- ---- a merge
 
-abbrev joinBy : Bool → Bool → ℕ
-joinBy mixed light = cond mixed 6 (cond (not light) 7 0)
-
-module _ (s t : State) (a b : Book) (v : shapeRefusal (s .head .shape) ≡ 0) (p : RelayBy (s .head .shape) a s) (q : RelayBy (s .head .shape) b t) where
-  state-joins : Says (merge s t) (joinBy (clash (s .head .mode) (t .head .mode)) (leb (s .head .weight + t .head .weight) top))
-  unfolding merge mergeTests
-  state-joins = go (clash (s .head .mode) (t .head .mode)) refl (leb (s .head .weight + t .head .weight) top) refl
-    where
-      other : unsound t ≡ false
-      other = sound-by (s .head .shape) t b v q
-
-      shapes : sameShape (s .head .shape) (t .head .shape) ≡ true
-      shapes = same-shape (s .head .shape) (t .head .shape) (q .shape)
-
-      go : (m : Bool) → clash (s .head .mode) (t .head .mode) ≡ m → (f : Bool) → leb (s .head .weight + t .head .weight) top ≡ f → Says (merge s t) (joinBy m f)
-      go true pm f pf = rw (sound s a v p, other, shapes, pm) (refl, λ z. omega (arith, z))
-      go false pm false pf = rw (sound s a v p, other, shapes, pm, pf) (refl, λ z. omega (arith, z))
-      go false pm true pf = says-done (merge s t) (merged s t) (merge-accepted s t a b v p q pm (leb-true (s .head .weight + t .head .weight) top pf))
-
 pub join-answers : (sh : Shape) → shapeRefusal sh ≡ 0 → (a b : Book) (r t : Lent) → LentBy sh a r → LentBy sh b t → Answers (mergeCall r t) (joinNumber a b)
-unfolding mergeCall joinNumber
-join-answers sh v a b r t x y = rw (lent-lengths sh a r x, lent-lengths sh b t y) (said (merge (view r) (view t)) (joinNumber a b) on)
+unfolding mergeCall mergeTests joinNumber view
+join-answers sh v a b r t x y =
+    judge-answers (mergeTests r t) (flat (merged (view r) (view t))) (joinNumber a b) refl
+    (between (lentTests r ++ (lentTests t ++ ((not (sameShape (r .head .shape) (t .head .shape)), 10) ∷ []))) heads (pairTests (r .head .shape .layers) (view r) (view t)) refl first paired ∙ by-books)
   where
     by : RelayBy sh a (view r)
     by = lent-view sh a r x
@@ -116,10 +80,19 @@ join-answers sh v a b r t x y = rw (lent-lengths sh a r x, lent-lengths sh b t y
     to : RelayBy sh b (view t)
     to = lent-view sh b t y
 
-    on : Says (merge (view r) (view t)) (joinNumber a b)
-    on =
-        subst (λ (n : ℕ). Says (merge (view r) (view t)) n)
-        (ap₂ (λ (m n : Mode). joinBy (clash m n) (leb (view r .head .weight + view t .head .weight) top)) (by .mode) (to .mode)
-        ∙ ap₂ (λ (m n : ℕ). joinBy (clash (bookMode a) (bookMode b)) (leb (m + n) top)) (by .weight) (to .weight))
-        (subst (λ (z : Shape). shapeRefusal z ≡ 0 → RelayBy z a (view r) → RelayBy z b (view t) → Says (merge (view r) (view t)) (joinBy (clash (view r .head .mode) (view t .head .mode)) (leb (view r .head .weight + view t .head .weight) top)))
-        (by .shape) (state-joins (view r) (view t) a b) v by to)
+    heads : List (Bool × ℕ)
+    heads = (clash (r .head .mode) (t .head .mode), 6) ∷ totalsTests (r .head .totals) (t .head .totals)
+
+    first : Off (lentTests r ++ (lentTests t ++ ((not (sameShape (r .head .shape) (t .head .shape)), 10) ∷ [])))
+    first =
+        let p = lent-off sh v a r x in
+        let q = lent-off sh v b t y in
+        (p .0, (p .1 .0, (q .0, (q .1 .0, (ap not (shapes-same sh a b r t x y), tt)))))
+
+    paired : Off ((clash (r .head .mode) (t .head .mode), 6) ∷ totalsTests (r .head .totals) (t .head .totals)) → Off (pairTests (r .head .shape .layers) (view r) (view t))
+    paired o = merge-paired sh v a b r t x y (leb-true (r .head .totals .weight + t .head .totals .weight) top (not-false (leb (r .head .totals .weight + t .head .totals .weight) top) (o .1 .0)))
+
+    by-books : number ((clash (r .head .mode) (t .head .mode), 6) ∷ totalsTests (r .head .totals) (t .head .totals)) ≡ number (joinTests a b)
+    by-books =
+        ap₂ (λ (m n : Mode). number ((clash m n, 6) ∷ totalsTests (r .head .totals) (t .head .totals))) (by .mode) (to .mode)
+        ∙ ap₂ (λ (m n : ℕ). number ((clash (bookMode a) (bookMode b), 6) ∷ totalsTests (record { weight = m }) (record { weight = n }))) (by .weight) (to .weight)

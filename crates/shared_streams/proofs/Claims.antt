@@ -2,47 +2,48 @@
 use mathlib.Core.Path.{_≡_, refl, sym, ap, _∙_, subst}
 use Prim.Native.Nat.{ℕ, suc, _-_, _≤_, min}
 use native.Mathlib.Omega.{arith}
-use mathlib.Core.Bool.{Bool, true, cond, and-false, _&&_}
+use mathlib.Core.Bool.{Bool, true, false, cond, not, and-false, _&&_}
 use mathlib.Core.List.{List, []}
 use lib.ListN.{length}
 use lib.IntN.{ℤ, pos}
 use lib.Dec.{eqb}
 use lib.Ieee.{binary64, ofInt}
-use borrow.Author.Tests.{le-leb, eq-eqb, not-false}
+use borrow.Author.Tests.{le-leb, eq-eqb}
 use Rattle.header.specs.declared.Shape.{Shape}
 use Rattle.header.specs.declared.Mode.{Mode}
 use Rattle.header.specs.declared.Mode.the-variants as mode
-use Rattle.words.proofs.Bools.{and-left}
+use Rattle.words.proofs.Tests.{Off, number-off}
 use Rattle.float64.proofs.Ints.{int-value}
 use Rattle.header.specs.Shape.{maxLayers, shapeRefusal, bottomOf}
-use Rattle.header.specs.Header.{headerOk}
 use Rattle.header.specs.Accepted.{Accepted}
 use Rattle.header.proofs.Refusals.{accepted-of}
 use Rattle.univmon.specs.declared.Kind.{Kind}
 use Rattle.univmon.specs.declared.Kind.the-variants as kind
-use Rattle.univmon.specs.State.{State, sizesOk}
+use Rattle.layout.specs.State.{State}
 use Rattle.univmon.specs.Updates.{modeOf}
-use Rattle.univmon.specs.Slices.{Lent, lentOk, view, flat, freshLent}
-use Rattle.univmon.specs.Calls.{Outcome, updateCall, lentUpdateCall}
-use Rattle.univmon.specs.Needs.{Headed}
+use Rattle.layout.specs.Slices.{Lent, view, flat, freshLent}
+use Rattle.layout.specs.Outcomes.{Outcome, lentTests}
+use Rattle.univmon.specs.Calls.{updateCall, lentUpdateCall}
+use Rattle.layout.specs.Needs.{Headed}
 use Rattle.sums.specs.Terminal.{terminalSum, heavy}
 use Rattle.sums.specs.Layers.{standardSum}
 use Rattle.sums.specs.declared.G.the-variants as g
-use Rattle.estimates.specs.Sums.{strataOf, sumBy, gSumOf, cardinalityOf, sumRefusal}
+use Rattle.estimates.specs.Sums.{strataOf, sumBy, headerAlone, gSumOf, cardinalityOf, sumReads}
 use Rattle.estimates.specs.declared.Answer.{Answer}
-use Rattle.estimates.specs.Calls.{answer, sumCall, cardinalityCall}
+use Rattle.estimates.specs.Calls.{answer, sumTests, sumCall, cardinalityCall}
 use Rattle.shared_streams.specs.Books.{Book, bookKeys, keysSent, times, distinct, OneRecord, Reordered, Holds, bookMode}
 use Rattle.shared_streams.specs.Relays.{Relay, takes}
 use Rattle.shared_streams.specs.SharedStreams.{Formed, SameValues, Alone, Claimed}
 use Rattle.shared_streams.proofs.Keys.{distinct-same}
 use Rattle.shared_streams.proofs.BookLaws.{Fitting, no-weight, OfMode}
 use Rattle.shared_streams.proofs.Relays.{RelayBy}
-use Rattle.shared_streams.proofs.Refusals.{sound-by, sum-accepted}
+use Rattle.shared_streams.proofs.Refusals.{ranged-by, sums-read}
 use Rattle.shared_streams.proofs.Reorders.{reordered-all, reordered-weight}
-use Rattle.shared_streams.proofs.Values.{flat-lengths, holds-by}
+use Rattle.layout.proofs.Flatten.{flat-lengths}
+use Rattle.shared_streams.proofs.Values.{holds-by}
 use Rattle.shared_streams.proofs.Same.{holds-reordered, same-values}
-use Rattle.shared_streams.proofs.Calls.{LentBy, lent-view, lent-lengths, lent-fresh}
-use Rattle.shared_streams.proofs.States.{Sized}
+use Rattle.shared_streams.proofs.Calls.{LentBy, lent-view, lent-off, lent-fresh}
+use Rattle.layout.proofs.Replaced.{Sized}
 use Rattle.shared_streams.proofs.Takes.{takes-all}
 use Rattle.shared_streams.proofs.Acceptance.{feed-answers}
 use Rattle.shared_streams.proofs.Sent.{Hashed, hashed, botBy, sent-times}
@@ -67,7 +68,7 @@ kind-unset kind.Terminal e = cc
 counts : (sh : Shape) → shapeRefusal sh ≡ 0 → (b : Book) (s : State) → RelayBy sh b s → OneRecord b → distinct (bookKeys b) ≤ sh .«heap_size»
     → cardinalityOf s ≡ ofInt binary64 (pos (distinct (bookKeys b)))
 unfolding gSumOf standardSum terminalSum
-counts sh w b s r one few = rw (and-false (eqb (s .head .weight) 0)) (go (s .head .mode) refl)
+counts sh w b s r one few = rw (and-false (eqb (s .head .totals .weight) 0)) (go (s .head .mode) refl)
   where
     v : Accepted sh
     v = accepted-of sh w
@@ -103,10 +104,21 @@ counts sh w b s r one few = rw (and-false (eqb (s .head .weight) 0)) (go (s .hea
     go mode.Standard e = own (kinds kind.Standard mode.Standard e (λ k. same-kind k kind.Standard))
     go mode.Terminal e = terminal-counts sh v h b s r (kinds kind.Terminal mode.Terminal e (λ k. same-kind k kind.Terminal)) c few (heavy (strataOf s)) (s .head .shape .layers - 1) last
 
--- the call, where nothing refuses it
-card-call : (r : Lent) → lentOk r ≡ true → sumRefusal (view r) true ≡ 0 → cardinalityCall r ≡ answer 0 (cardinalityOf (view r))
-unfolding sumCall
-card-call r z e = rw (z, e)
+-- the call: nothing refuses it
+card-call : (sh : Shape) → shapeRefusal sh ≡ 0 → (b : Book) (r : Lent) → LentBy sh b r → cardinalityCall r ≡ answer 0 (cardinalityOf (view r))
+unfolding sumCall view
+card-call sh v b r x = rw (number-off (sumTests r true) (off .0, (off .1 .0, (none (headerAlone (view r) true), tt))))
+  where
+    off : Off (lentTests r)
+    off = lent-off sh v b r x
+
+    reads : sumReads (view r) ≡ true
+    reads =
+        subst (λ (z : Shape). shapeRefusal z ≡ 0 → RelayBy z b (view r) → sumReads (view r) ≡ true) (lent-view sh b r x .shape) (sums-read (view r) b) v (lent-view sh b r x)
+
+    none : (c : Bool) → not c && not (sumReads (view r)) ≡ false
+    none true = refl
+    none false = rw reads
 
 -- ---- the header's form, and lengths and flags lent beside it
 
@@ -118,7 +130,7 @@ unfolding flat
 formed-by sh v b s r =
     record {
       shape = r .shape;
-      ranged = and-left (headerOk (s .head)) (sizesOk s) (not-false (headerOk (s .head) && sizesOk s) (sound-by sh s b v r));
+      ranged = ranged-by sh s b v r;
       lengths = flat-lengths s (r .sized);
       headed = headed-by s (r .sized);
       pastLens = r .pastLens;
@@ -126,8 +138,8 @@ formed-by sh v b s r =
     }
 
 lent-same : (k : Kind) (r : Lent) (words : List ℕ) (w : ℤ) → Headed (r .head) → lentUpdateCall k r words w ≡ updateCall k r words w
-unfolding lentUpdateCall
-lent-same k r words w h = rw (eq-eqb (length (r .head .lens)) maxLayers (h .lens), eq-eqb (length (r .head .flags)) maxLayers (h .flags))
+unfolding lentUpdateCall updateCall
+lent-same k r words w h = rw (eq-eqb (length (r .head .lens)) maxLayers (h .lens), eq-eqb (length (r .head .flags)) maxLayers (h .flags)) refl
 
 -- ---- a fresh relay that takes the book in any order
 
@@ -170,8 +182,5 @@ module _ (sh : Shape) (v : shapeRefusal sh ≡ 0) (r : Relay) (x : LentBy sh (r 
       by : RelayBy sh (r .book) (view (r .lends))
       by = lent-view sh (r .book) (r .lends) x
 
-      accepted : sumRefusal (view (r .lends)) true ≡ 0
-      accepted = subst (λ (z : Shape). shapeRefusal z ≡ 0 → RelayBy z (r .book) (view (r .lends)) → sumRefusal (view (r .lends)) true ≡ 0) (by .shape) (sum-accepted (view (r .lends)) (r .book)) v by
-
       call : cardinalityCall (r .lends) ≡ answer 0 (cardinalityOf (view (r .lends)))
-      call = card-call (r .lends) (lent-lengths sh (r .book) (r .lends) x) accepted
+      call = card-call sh v (r .book) (r .lends) x

@@ -4,19 +4,21 @@ use Prim.Native.Nat.{ℕ, zero, suc}
 use mathlib.Core.Bool.{Bool, true, false, cond}
 use mathlib.Core.List.{List, [], _∷_, _++_, map}
 use lib.ListN.{set, replicate, List·getD-map}
-use lib.IntN.{ℤ}
 use lib.Dec.{eqb}
 use borrow.Author.Tests.{eq-eqb, ne-eqb}
 use Rattle.words.proofs.Lists.{All}
 use Rattle.header.specs.declared.Shape.{Shape}
 use Rattle.header.specs.Shape.{shapeRefusal}
-use Rattle.univmon.specs.declared.Kind.{Kind}
-use Rattle.univmon.specs.Calls.{Outcome, updateCall}
-use Rattle.univmon_merge.specs.Calls.{mergeCall}
+use Rattle.layout.specs.Outcomes.{Outcome}
+use Rattle.univmon_merge.specs.Merges.{mergeCall}
 use Rattle.shared_streams.specs.Books.{Update, Book}
-use Rattle.shared_streams.specs.Relays.{Relay, freshRelay, start, relayAt, Call, feed, join, retirements, names, updateBy, fed, joinedTo, called, step, run, ifAccepted, updateOf, accepted}
-use Rattle.shared_streams.specs.Ledger.{feedNumber, joinNumber, Answers, Account, opened, accountOf, accountAt, entered, united, booked, gone, bookStep, ledger, books, entryOf, entries}
-use Rattle.shared_streams.proofs.Runs.{Every, live-lt, pair, step-good, start-good}
+use Rattle.shared_streams.specs.Feeds.{freshRelay, start, relayAt, feed, join, retirements, joinable, names, fed, joinedTo, called, ifAccepted}
+use Rattle.shared_streams.specs.Feeds as feeds
+use Rattle.shared_streams.specs.Relays.{Feed, updating, Relay, Call, step, run, accepted}
+use Rattle.shared_streams.specs.Ledger.{answeredWith, joinNumber, Answers, Account, opened, accountOf, accountAt, entered, united, booked, gone, bookStep, ledger, books, acceptedOne, acceptedAll}
+use Rattle.shared_streams.proofs.FeedRuns.{live-lt, pair, step-good, start-good}
+use Rattle.shared_streams.proofs.Runs.{kept-by, Every}
+use Rattle.shared_streams.proofs.Calls.{LentBy}
 use Rattle.shared_streams.proofs.Acceptance.{feed-answers, join-answers}
 
 -- ---- lists
@@ -61,13 +63,13 @@ module _ (sh : Shape) (v : shapeRefusal sh ≡ 0) where
   entry-of e (Outcome.no m) n p = rw (ne-eqb n 0 (p .1)) refl
   entry-of e (Outcome.yes t) n p = rw (eq-eqb n 0 p) refl
 
-  feeds : (rs : List Relay) → Every Any sh rs → (k : Kind) (i : ℕ) (words : List ℕ) (w : ℤ) → names (retirements rs) (feed k i words w) ≡ true
-      → Answers (updateCall k (relayAt sh rs i .lends) words w) (feedNumber sh (accountAt (map accountOf rs) i .book) k words w)
-  feeds rs h k i words w q =
-      subst (λ (a : Account). Answers (updateCall k (relayAt sh rs i .lends) words w) (feedNumber sh (a .book) k words w)) (sym (account-at rs i))
-      (feed-answers sh v (relayAt sh rs i .book) (relayAt sh rs i .lends) (h i (live-lt rs i q) .lent) k words w)
+  feeds-by : (rs : List Relay) → Every Any sh rs → (i : ℕ) (f : Feed) → names (retirements rs) (feed i f) ≡ true
+      → Answers (updating .act f (relayAt sh rs i .lends)) (answeredWith sh (accountAt (map accountOf rs) i .book) f)
+  feeds-by rs h i f q =
+      subst (λ (a : Account). Answers (updating .act f (relayAt sh rs i .lends)) (answeredWith sh (a .book) f)) (sym (account-at rs i))
+      (feed-answers sh v (relayAt sh rs i .book) (relayAt sh rs i .lends) (h i (live-lt rs i q) .lent) (f .kind) (f .words) (f .weight))
 
-  joins : (rs : List Relay) → Every Any sh rs → (i j : ℕ) → names (retirements rs) (join i j) ≡ true
+  joins : (rs : List Relay) → Every Any sh rs → (i j : ℕ) → joinable (retirements rs) i j ≡ true
       → Answers (mergeCall (relayAt sh rs i .lends) (relayAt sh rs j .lends)) (joinNumber (accountAt (map accountOf rs) i .book) (accountAt (map accountOf rs) j .book))
   joins rs h i j q =
       subst (λ (n : ℕ). Answers (mergeCall (relayAt sh rs i .lends) (relayAt sh rs j .lends)) n)
@@ -75,23 +77,23 @@ module _ (sh : Shape) (v : shapeRefusal sh ≡ 0) where
       (join-answers sh v (relayAt sh rs i .book) (relayAt sh rs j .book) (relayAt sh rs i .lends) (relayAt sh rs j .lends)
       (h i (live-lt rs i (pair rs i j q .first)) .lent) (h j (live-lt rs j (pair rs i j q .second)) .lent))
 
-  called-accounts : (rs : List Relay) → Every Any sh rs → (c : Call) → names (retirements rs) c ≡ true → map accountOf (called sh rs c) ≡ booked sh (map accountOf rs) c
+  called-accounts : (rs : List Relay) → Every Any sh rs → (c : Call) → names (retirements rs) c ≡ true → map accountOf (called updating sh rs c) ≡ booked sh (map accountOf rs) c
   unfolding called booked
-  called-accounts rs h (feed k i words w) q =
+  called-accounts rs h (feed i f) q =
       let r : Relay = relayAt sh rs i in
-      let e : Update = updateBy k words w in
-      let n : ℕ = feedNumber sh (accountAt (map accountOf rs) i .book) k words w in
-      map-set accountOf rs i (fed r e (updateCall k (r .lends) words w))
-      ∙ ap (λ (a : Account). set (map accountOf rs) i a) (fed-account r e (updateCall k (r .lends) words w) n (feeds rs h k i words w q) ∙ ap (λ (a : Account). entered n a e) (sym (account-at rs i)))
+      let e : Update = updating .enter f in
+      let n : ℕ = answeredWith sh (accountAt (map accountOf rs) i .book) f in
+      map-set accountOf rs i (fed r e (updating .act f (r .lends)))
+      ∙ ap (λ (a : Account). set (map accountOf rs) i a) (fed-account r e (updating .act f (r .lends)) n (feeds-by rs h i f q) ∙ ap (λ (a : Account). entered n a e) (sym (account-at rs i)))
   called-accounts rs h (join i j) q =
       let n : ℕ = joinNumber (accountAt (map accountOf rs) i .book) (accountAt (map accountOf rs) j .book) in
       joined-accounts rs i j (relayAt sh rs i) (relayAt sh rs j) (mergeCall (relayAt sh rs i .lends) (relayAt sh rs j .lends)) n (joins rs h i j q)
       ∙ ap₂ (united n (map accountOf rs) i j) (sym (account-at rs i)) (sym (account-at rs j))
 
-  called-entry : (rs : List Relay) → Every Any sh rs → (c : Call) → names (retirements rs) c ≡ true → updateOf sh rs c ≡ entryOf sh (map accountOf rs) c
-  called-entry rs h (feed k i words w) q =
-      entry-of (updateBy k words w) (updateCall k (relayAt sh rs i .lends) words w) (feedNumber sh (accountAt (map accountOf rs) i .book) k words w) (feeds rs h k i words w q)
-  called-entry rs h (join i j) q = refl
+  called-accepted : (rs : List Relay) → Every Any sh rs → (c : Call) → names (retirements rs) c ≡ true → feeds.entered updating sh rs c ≡ acceptedOne sh (map accountOf rs) c
+  called-accepted rs h (feed i f) q =
+      entry-of (updating .enter f) (updating .act f (relayAt sh rs i .lends)) (answeredWith sh (accountAt (map accountOf rs) i .book) f) (feeds-by rs h i f q)
+  called-accepted rs h (join i j) q = refl
 
   -- whether the call may be listed or not
   listed-alike : {A : Type 0} (rs : List Relay) (c : Call) (x y d e : A) → (names (retirements rs) c ≡ true → x ≡ y) → d ≡ e
@@ -103,33 +105,33 @@ module _ (sh : Shape) (v : shapeRefusal sh ≡ 0) where
       go false z = q
 
   step-accounts : (rs : List Relay) → Every Any sh rs → (c : Call) → map accountOf (step sh rs c) ≡ bookStep sh (map accountOf rs) c
-  step-accounts rs h c = inside (names (retirements rs) c) ∙ listed-alike rs c (map accountOf (called sh rs c)) (booked sh (map accountOf rs) c) (map accountOf rs) (map accountOf rs) (called-accounts rs h c) refl
+  step-accounts rs h c = inside (names (retirements rs) c) ∙ listed-alike rs c (map accountOf (called updating sh rs c)) (booked sh (map accountOf rs) c) (map accountOf rs) (map accountOf rs) (called-accounts rs h c) refl
     where
-      inside : (b : Bool) → map accountOf (cond b (called sh rs c) rs) ≡ cond b (map accountOf (called sh rs c)) (map accountOf rs)
+      inside : (b : Bool) → map accountOf (cond b (called updating sh rs c) rs) ≡ cond b (map accountOf (called updating sh rs c)) (map accountOf rs)
       inside true = refl
       inside false = refl
 
   -- ---- a list
 
   pub run-accounts : (cs : List Call) (rs : List Relay) → Every Any sh rs → map accountOf (run sh rs cs) ≡ ledger sh (map accountOf rs) cs
-  unfolding run ledger
+  unfolding feeds.run ledger
   run-accounts [] rs h = refl
   run-accounts (c ∷ cs) rs h =
-      run-accounts cs (step sh rs c) (step-good Any sh v rs c (any (cond (names (retirements rs) c) (updateOf sh rs c) [])) h)
+      run-accounts cs (step sh rs c) (step-good updating sh (LentBy sh) (kept-by sh v) Any rs c (any (cond (names (retirements rs) c) (feeds.entered updating sh rs c) [])) h)
       ∙ ap (λ (xs : List Account). ledger sh xs cs) (step-accounts rs h c)
 
-  pub run-entries : (cs : List Call) (rs : List Relay) → Every Any sh rs → accepted sh rs cs ≡ entries sh (map accountOf rs) cs
-  unfolding accepted entries
-  run-entries [] rs h = refl
-  run-entries (c ∷ cs) rs h =
-      ap₂ (λ (a b : Book). a ++ b) (listed-alike rs c (updateOf sh rs c) (entryOf sh (map accountOf rs) c) [] [] (called-entry rs h c) refl)
-      (run-entries cs (step sh rs c) (step-good Any sh v rs c (any (cond (names (retirements rs) c) (updateOf sh rs c) [])) h)
-      ∙ ap (λ (xs : List Account). entries sh xs cs) (step-accounts rs h c))
+  pub run-accepted : (cs : List Call) (rs : List Relay) → Every Any sh rs → accepted sh rs cs ≡ acceptedAll sh (map accountOf rs) cs
+  unfolding feeds.accepted acceptedAll
+  run-accepted [] rs h = refl
+  run-accepted (c ∷ cs) rs h =
+      ap₂ (λ (a b : Book). a ++ b) (listed-alike rs c (feeds.entered updating sh rs c) (acceptedOne sh (map accountOf rs) c) [] [] (called-accepted rs h c) refl)
+      (run-accepted cs (step sh rs c) (step-good updating sh (LentBy sh) (kept-by sh v) Any rs c (any (cond (names (retirements rs) c) (feeds.entered updating sh rs c) [])) h)
+      ∙ ap (λ (xs : List Account). acceptedAll sh xs cs) (step-accounts rs h c))
 
   -- ---- from the start
 
   pub start-accounts : (n : ℕ) (cs : List Call) → map accountOf (run sh (start sh n) cs) ≡ books sh n cs
-  start-accounts n cs = run-accounts cs (start sh n) (start-good Any sh v n) ∙ ap (λ (xs : List Account). ledger sh xs cs) (map-replicate accountOf n (freshRelay sh))
+  start-accounts n cs = run-accounts cs (start sh n) (start-good updating sh (LentBy sh) (kept-by sh v) Any n) ∙ ap (λ (xs : List Account). ledger sh xs cs) (map-replicate accountOf n (freshRelay sh))
 
-  pub start-entries : (n : ℕ) (cs : List Call) → accepted sh (start sh n) cs ≡ entries sh (replicate n opened) cs
-  start-entries n cs = run-entries cs (start sh n) (start-good Any sh v n) ∙ ap (λ (xs : List Account). entries sh xs cs) (map-replicate accountOf n (freshRelay sh))
+  pub start-accepted : (n : ℕ) (cs : List Call) → accepted sh (start sh n) cs ≡ acceptedAll sh (replicate n opened) cs
+  start-accepted n cs = run-accepted cs (start sh n) (start-good updating sh (LentBy sh) (kept-by sh v) Any n) ∙ ap (λ (xs : List Account). acceptedAll sh xs cs) (map-replicate accountOf n (freshRelay sh))

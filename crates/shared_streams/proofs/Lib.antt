@@ -4,7 +4,6 @@ pub mod MergedTables
 pub mod Counters
 pub mod Ranges
 pub mod Layers
-pub mod States
 pub mod BookLaws
 pub mod Relays
 pub mod Fresh
@@ -14,6 +13,7 @@ pub mod Values
 pub mod Same
 pub mod Calls
 pub mod Takes
+pub mod FeedRuns
 pub mod Runs
 pub mod Acceptance
 pub mod Ledgers

@@ -12,16 +12,19 @@ use Rattle.words.specs.Num.{top}
 use Rattle.words.proofs.Lists.{all-at}
 use Rattle.header.specs.declared.Shape.{Shape}
 use Rattle.header.specs.Shape.{shapeRefusal}
-use Rattle.univmon.specs.Slices.{Lent}
-use Rattle.univmon.specs.Calls.{Outcome, updateCall}
-use Rattle.univmon_merge.specs.Calls.{mergeCall}
+use Rattle.layout.specs.Slices.{Lent}
+use Rattle.layout.specs.Outcomes.{Outcome}
+use Rattle.univmon_merge.specs.Merges.{mergeCall}
 use Rattle.shared_streams.specs.Books.{Update, Book, Among, OneMode, weightOf}
-use Rattle.shared_streams.specs.Relays.{Relay, freshRelay, Call, feed, join, start, relayAt, retirements, names, updateBy, fed, joinedBy, retire, joinedTo, called, step, run, ifAccepted, updateOf, accepted}
+use Rattle.shared_streams.specs.Feeds.{freshRelay, feed, join, start, relayAt, retirements, joinable, names, fed, joinedBy, retire, joinedTo, called, ifAccepted, entered}
+use Rattle.shared_streams.specs.Feeds as feeds
+use Rattle.shared_streams.specs.Relays.{updating, Relay, Call, step, run, accepted}
 use Rattle.shared_streams.specs.Ledger.{joinNumber, Answers}
 use Rattle.shared_streams.specs.SharedStreams.{Premises}
 use Rattle.shared_streams.proofs.BookLaws.{books-clear, weight-append, cons-weight, no-weight}
 use Rattle.shared_streams.proofs.Acceptance.{join-answers}
-use Rattle.shared_streams.proofs.Runs.{Good, Pair, live-lt, live-not, pair, run-by, run-length}
+use Rattle.shared_streams.proofs.FeedRuns.{Pair, live-lt, live-not, pair, run-length}
+use Rattle.shared_streams.proofs.Runs.{Good, run-by}
 
 -- ---- the weight of the relays that are not retired
 
@@ -65,17 +68,17 @@ two-total rs i j d h k f =
 -- ---- it grows by what is accepted
 
 module _ (sh : Shape) where
-  call-total : (rs : List Relay) (c : Call) → names (retirements rs) c ≡ true → total (called sh rs c) ≡ total rs + weightOf (updateOf sh rs c)
+  call-total : (rs : List Relay) (c : Call) → names (retirements rs) c ≡ true → total (called updating sh rs c) ≡ total rs + weightOf (entered updating sh rs c)
   unfolding called
-  call-total rs (feed k i words w) n = go (updateCall k (relayAt sh rs i .lends) words w)
+  call-total rs (feed i f) n = go (updating .act f (relayAt sh rs i .lends))
     where
       r : Relay
       r = relayAt sh rs i
 
       e : Update
-      e = updateBy k words w
+      e = updating .enter f
 
-      go : (o : Outcome) → total (set rs i (fed (relayAt sh rs i) (updateBy k words w) o)) ≡ total rs + weightOf (ifAccepted (updateBy k words w) o)
+      go : (o : Outcome) → total (set rs i (fed (relayAt sh rs i) (updating .enter f) o)) ≡ total rs + weightOf (ifAccepted (updating .enter f) o)
       go (Outcome.no m) = omega (arith, no-weight, set-total rs i r (freshRelay sh) (live-lt rs i n))
       go (Outcome.yes t) =
           let s : Relay = record { lends = t; book = r .book ++ (e ∷ []); retired = r .retired } in
@@ -108,18 +111,18 @@ module _ (sh : Shape) where
             ap own (getD-set-other rs j i (retire b) (freshRelay sh) (two .differ)),
           )
 
-  step-total : (rs : List Relay) (c : Call) → total (step sh rs c) ≡ total rs + weightOf (cond (names (retirements rs) c) (updateOf sh rs c) [])
+  step-total : (rs : List Relay) (c : Call) → total (step sh rs c) ≡ total rs + weightOf (cond (names (retirements rs) c) (entered updating sh rs c) [])
   step-total rs c = go (names (retirements rs) c) refl
     where
-      go : (b : Bool) → names (retirements rs) c ≡ b → total (cond b (called sh rs c) rs) ≡ total rs + weightOf (cond b (updateOf sh rs c) [])
+      go : (b : Bool) → names (retirements rs) c ≡ b → total (cond b (called updating sh rs c) rs) ≡ total rs + weightOf (cond b (entered updating sh rs c) [])
       go true q = call-total rs c q
       go false q = omega (arith, no-weight)
 
   run-total : (cs : List Call) (rs : List Relay) → total (run sh rs cs) ≡ total rs + weightOf (accepted sh rs cs)
-  unfolding run accepted
+  unfolding feeds.run feeds.accepted
   run-total [] rs = omega (arith, no-weight)
   run-total (c ∷ cs) rs =
-      omega (arith, run-total cs (step sh rs c), step-total rs c, weight-append (cond (names (retirements rs) c) (updateOf sh rs c) []) (accepted sh (step sh rs c) cs))
+      omega (arith, run-total cs (step sh rs c), step-total rs c, weight-append (cond (names (retirements rs) c) (entered updating sh rs c) []) (accepted sh (step sh rs c) cs))
 
   start-total : (n : ℕ) → total (start sh n) ≡ 0
   unfolding total own weightOf
@@ -134,7 +137,7 @@ accepts (Outcome.no m) p = absurd (p .1 refl)
 accepts (Outcome.yes t) p = (t, refl)
 
 module _ (sh : Shape) (v : shapeRefusal sh ≡ 0) (n : ℕ) (calls : List Call) (p : Premises (accepted sh (start sh n) calls)) (i j : ℕ)
-    (e : names (retirements (run sh (start sh n) calls)) (join i j) ≡ true) where
+    (e : joinable (retirements (run sh (start sh n) calls)) i j ≡ true) where
   abbrev rs : List Relay
   rs = run sh (start sh n) calls
 
@@ -145,7 +148,7 @@ module _ (sh : Shape) (v : shapeRefusal sh ≡ 0) (n : ℕ) (calls : List Call) 
   two = pair rs i j e
 
   good : (m : ℕ) → m < length (run sh (start sh n) calls) → Good (λ z. Among z (accepted sh (start sh n) calls)) sh (relayAt sh (run sh (start sh n) calls) m)
-  good m h = run-by sh v n calls m (subst (λ (z : ℕ). m < z) (run-length sh calls (start sh n) ∙ length-replicate n (freshRelay sh)) h)
+  good m h = run-by sh v n calls m (subst (λ (z : ℕ). m < z) (run-length updating sh calls (start sh n) ∙ length-replicate n (freshRelay sh)) h)
 
   x : Good (λ z. Among z (accepted sh (start sh n) calls)) sh (relayAt sh (run sh (start sh n) calls) i)
   x = good i (live-lt rs i (two .first))

@@ -1,39 +1,51 @@
 -- The books of a list of calls from the list alone: no header and no slice is asked.
 -- "Each relay has a book, its stream, made from the calls' arguments and from whether each was accepted."
-use Prim.Native.Nat.{ℕ, _+_}
+use Prim.Native.Nat.{ℕ}
 use mathlib.Core.Path.{_≡_}
 use mathlib.Core.Bool.{Bool, true, false, cond, not}
 use mathlib.Core.List.{List, [], _∷_, _++_, map}
 use lib.ListN.{length, getD, set, replicate}
-use lib.IntN.{ℤ, natAbs}
-use lib.Signed.{nonNeg}
-use lib.Dec.{eqb, leb}
-use Rattle.words.specs.Num.{top}
+use lib.IntN.{ℤ}
+use lib.Dec.{eqb}
+use Rattle.words.specs.Tests.{number}
 use Rattle.header.specs.declared.Shape.{Shape}
-use Rattle.header.specs.Header.{clash}
+use Rattle.header.specs.declared.Totals.{Totals}
+use Rattle.header.specs.declared.Scalars.{Scalars}
+use Rattle.header.specs.Totals.{totalsTests}
+use Rattle.header.specs.Header.{clash, beginTests}
 use Rattle.univmon.specs.declared.Kind.{Kind}
-use Rattle.univmon.specs.Updates.{recordLength, modeOf}
-use Rattle.univmon.specs.Calls.{Outcome}
+use Rattle.layout.specs.Records.{recordLength}
+use Rattle.univmon.specs.Updates.{modeOf}
+use Rattle.layout.specs.Outcomes.{Outcome}
 use Rattle.shared_streams.specs.Books.{Update, Book, weightOf, bookMode}
-use Rattle.shared_streams.specs.Relays.{Relay, Call, feed, join, names, updateBy}
+use Rattle.shared_streams.specs.Feeds.{feed, join, names}
+use Rattle.shared_streams.specs.Relays.{Feed, updating, Relay, Call}
 
 -- ---- what a call is answered with, by books and arguments: the number of its refusal, 0 where "no refusal of these papers applies"
 
--- an update: 12 "record length wrong", 5 "negative weight", 6 "mode mixed in update", 7 "weight would pass 2^52", in the order of "Other calls"
-unfoldable pub feedNumber : Shape → Book → Kind → List ℕ → ℤ → ℕ
-feedNumber sh b k words w =
-    cond (not (eqb (length words) (recordLength (sh .layers)))) 12
-    (cond (not (nonNeg w)) 5
-    (cond (clash (bookMode b) (modeOf k)) 6
-    (cond (not (leb (weightOf b + natAbs w) top)) 7
-    0)))
+-- what a header with that book holds beside its layers
+abbrev pub totalsOf : Book → Totals
+totalsOf b = record { weight = weightOf b }
 
--- a merge of a second relay into a first, both of one shape: 6 and 7
+abbrev pub scalarsBy : Shape → Book → Scalars
+scalarsBy sh b = record { shape = sh; totals = totalsOf b; mode = bookMode b }
+
+-- an update: 12 "record length wrong", then 5 "negative weight", 6 "mode mixed in update", 7 "weight would pass 2^52", as a header judges them
+abbrev pub feedTests : Shape → Book → Kind → List ℕ → ℤ → List (Bool × ℕ)
+feedTests sh b k words w = (not (eqb (length words) (recordLength (sh .layers))), 12) ∷ beginTests (scalarsBy sh b) w (modeOf k)
+
+unfoldable pub feedNumber : Shape → Book → Kind → List ℕ → ℤ → ℕ
+feedNumber sh b k words w = number (feedTests sh b k words w)
+
+abbrev pub answeredWith : Shape → Book → Feed → ℕ
+answeredWith sh b f = feedNumber sh b (f .kind) (f .words) (f .weight)
+
+-- a merge of a second relay into a first, both of one shape: 6 "mode mixed in .. merge" and 7
+abbrev pub joinTests : Book → Book → List (Bool × ℕ)
+joinTests a b = (clash (bookMode a) (bookMode b), 6) ∷ totalsTests (totalsOf a) (totalsOf b)
+
 unfoldable pub joinNumber : Book → Book → ℕ
-joinNumber a b =
-    cond (clash (bookMode a) (bookMode b)) 6
-    (cond (not (leb (weightOf a + weightOf b) top)) 7
-    0)
+joinNumber a b = number (joinTests a b)
 
 -- a call with that outcome is refused with n, which is not 0; or it is accepted, and n is 0
 abbrev pub Answers : Outcome → ℕ → Type 0
@@ -68,7 +80,7 @@ united n xs i j a b =
     cond (eqb n 0) (set (set xs j (record { book = b .book; retired = true })) i (record { book = a .book ++ b .book; retired = a .retired })) xs
 
 unfoldable pub booked : Shape → List Account → Call → List Account
-booked sh xs (feed k i words w) = set xs i (entered (feedNumber sh (accountAt xs i .book) k words w) (accountAt xs i) (updateBy k words w))
+booked sh xs (feed i f) = set xs i (entered (answeredWith sh (accountAt xs i .book) f) (accountAt xs i) (updating .enter f))
 booked sh xs (join i j) = united (joinNumber (accountAt xs i .book) (accountAt xs j .book)) xs i j (accountAt xs i) (accountAt xs j)
 
 -- who is retired
@@ -89,10 +101,10 @@ books sh n calls = ledger sh (replicate n opened) calls
 
 -- ---- "all accepted updates of the list"
 
-abbrev pub entryOf : Shape → List Account → Call → Book
-entryOf sh xs (feed k i words w) = cond (eqb (feedNumber sh (accountAt xs i .book) k words w) 0) (updateBy k words w ∷ []) []
-entryOf sh xs (join i j) = []
+abbrev pub acceptedOne : Shape → List Account → Call → Book
+acceptedOne sh xs (feed i f) = cond (eqb (answeredWith sh (accountAt xs i .book) f) 0) (updating .enter f ∷ []) []
+acceptedOne sh xs (join i j) = []
 
-unfoldable pub entries : Shape → List Account → List Call → Book
-entries sh xs [] = []
-entries sh xs (c ∷ cs) = cond (names (gone xs) c) (entryOf sh xs c) [] ++ entries sh (bookStep sh xs c) cs
+unfoldable pub acceptedAll : Shape → List Account → List Call → Book
+acceptedAll sh xs [] = []
+acceptedAll sh xs (c ∷ cs) = cond (names (gone xs) c) (acceptedOne sh xs c) [] ++ acceptedAll sh (bookStep sh xs c) cs

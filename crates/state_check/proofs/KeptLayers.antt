@@ -28,9 +28,9 @@ use Rattle.layer.specs.Layer.{Layer, Item, hashBy, countOf, offerTo, addSketch,
 use Rattle.layer.specs.Delta.{Delta, placeBy, deltaLayer, deltaFits}
 use Rattle.layer.specs.Merge.{bothWhos, offerAll, mergeLayer, mergeFits}
 use Rattle.words.proofs.Lists.{getD-all}
-use Rattle.shared_streams.proofs.Tables.{InR, offer-each}
-use Rattle.shared_streams.proofs.Ranges.{count-in}
 use Rattle.state_check.proofs.Whole.{Whole}
+use Rattle.heap.proofs.Entries.{InR, offer-each}
+use Rattle.countsketch_l2_norm.proofs.Bounds.{count-in}
 
 -- ---- counters
 

@@ -29,11 +29,11 @@ use Rattle.heap.specs.Sound.{Sound}
 use Rattle.layer.specs.declared.Dims.{Dims}
 use Rattle.layer.specs.Layer.{Layer}
 use Rattle.layer.specs.Needs.{Fits}
-use Rattle.shared_streams.proofs.Tables.{InR}
 use Rattle.state_check.specs.Check.{rowOk, rowsOk, isNone, seatedOk, seatOk, seatsOk, layerOk}
 use Rattle.state_check.proofs.RowSums.{all-of, rows-step, rows-none}
 use Rattle.state_check.proofs.Seatings.{seats-step, seats-none}
 use Rattle.state_check.proofs.Passed.{passed-at, passed-all}
+use Rattle.heap.proofs.Entries.{InR}
 
 -- counters in range, norms that are their rows' sums, candidates in heap order with zeros behind them, counts in range
 pub record Whole (d : Dims) (y : Layer) : Type 0 where

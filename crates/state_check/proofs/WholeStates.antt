@@ -6,7 +6,7 @@ use native.Mathlib.Omega.{arith}
 use native.Mathlib.Decide.{decLt}
 use mathlib.Core.List.{List}
 use lib.ListN.{length, getD}
-use lib.Dec.{eqb, leb}
+use lib.Dec.{eqb}
 use borrow.Author.Tests.{eq-eqb, eqb-true, lt-ltb, le-ltb, le-leb, not-true}
 use Rattle.words.specs.Num.{top}
 use Rattle.words.proofs.Bools.{and-left, and-right, both}
@@ -16,23 +16,24 @@ use Rattle.header.specs.declared.Shape.{Shape}
 use Rattle.header.specs.declared.Header.{Header}
 use Rattle.header.specs.declared.Mode.{Mode}
 use Rattle.header.specs.Shape.{maxLayers, shapeRefusal}
+use Rattle.header.specs.declared.Totals.{Totals}
+use Rattle.header.specs.Totals.{totalsOk}
 use Rattle.header.specs.Header as head
-use Rattle.header.specs.Header.{headerOk, lensFrom, withMode, withWeight, withFlags}
+use Rattle.header.specs.Header.{headerOk, lensFrom, withMode, withTotals, withFlags}
 use Rattle.header.specs.Accepted.{Accepted}
 use Rattle.header.proofs.Ranges.{ranged-of}
 use Rattle.header.proofs.Refusals.{accepted-of}
 use Rattle.header.proofs.Steps.{lens-step, lens-none}
 use Rattle.layer.specs.Layer.{Layer}
-use Rattle.univmon.specs.State.{State, dimsAt, layerAt, putLayer, overLayers, allLayers, withHead}
-use Rattle.univmon.specs.Slices.{Lent, lentOk, view, flat}
-use Rattle.univmon.specs.Needs.{Standing}
-use Rattle.univmon.proofs.States as univmon
-use Rattle.univmon.proofs.Lengths.{standing-of}
-use Rattle.univmon.proofs.Sending.{long-view}
-use Rattle.univmon.proofs.Judging.{layers-step, layers-none}
-use Rattle.shared_streams.proofs.States.{Sized, Over, over}
-use Rattle.shared_streams.proofs.Values.{view-flat, flat-lengths}
-use Rattle.shared_streams.proofs.Relays.{wide}
+use Rattle.layout.specs.State.{State, dimsAt, layerAt, putLayer, overLayers, allLayers, withHead}
+use Rattle.layout.specs.Slices.{Lent, lentOk, view, flat}
+use Rattle.layout.specs.Needs.{Standing}
+use Rattle.layout.proofs.States as univmon
+use Rattle.layout.proofs.Lengths.{standing-of, long-view}
+use Rattle.layout.proofs.States.{layers-step, layers-none}
+use Rattle.layout.proofs.Replaced.{Sized, Over, over}
+use Rattle.layout.proofs.Flatten.{view-flat, flat-lengths}
+use Rattle.layout.proofs.Offsets.{shaped-at}
 use Rattle.state_check.specs.Check.{layerOk, layersOk, stateOk}
 use Rattle.state_check.specs.Reached.{Arrays}
 use Rattle.state_check.proofs.Passed.{passed-at, passed-all}
@@ -61,7 +62,7 @@ module _ (r : Lent) (e : stateOk r ≡ true) where
   unfolding view layerAt
   whole-at l h =
       let f = univmon.at-fits (view r) (long-view r ok-standing) l h in
-      whole-of (dimsAt (r .head .shape) l) (layerAt (view r) l) (wide (r .head .shape) (ok-standing .accepted) l)
+      whole-of (dimsAt (r .head .shape) l) (layerAt (view r) l) (shaped-at (r .head .shape) (ok-standing .accepted) l .some)
       (record { cells = f .cells; norms = f .norms; cands = f .cands }) (ok-standing .lens l h)
       (passed-at (λ k i. allLayers (λ m y. layerOk (dimsAt (r .head .shape) m) y) k i (view r)) (λ i. layerOk (dimsAt (r .head .shape) i) (layerAt (view r) i))
       (layers-step (λ m y. layerOk (dimsAt (r .head .shape) m) y) (view r)) (r .head .shape .layers) 0 l (omega arith) (omega arith) ok-layers)
@@ -71,7 +72,7 @@ module _ (r : Lent) (e : stateOk r ≡ true) where
 pub record WholeState (s : State) : Type 0 where
   pub sized : Sized s
   pub shape : shapeRefusal (s .head .shape) ≡ 0
-  pub light : s .head .weight ≤ top
+  pub light : s .head .totals .weight ≤ top
   pub pastLens : (l : ℕ) → s .head .shape .layers ≤ l → getD (s .head .lens) l 0 ≡ 0
   pub pastFlags : (l : ℕ) → s .head .shape .layers ≤ l → getD (s .head .flags) l false ≡ false
   pub layers : (l : ℕ) → l < s .head .shape .layers → Whole (dimsAt (s .head .shape) l) (layerAt s l)
@@ -102,8 +103,8 @@ module _ (h : Header) (a : Arrays h) (e : headerOk h ≡ true) where
   unfolding headerOk
   shape-good =
       eqb-true (shapeRefusal (h .shape)) 0
-      (and-left (eqb (shapeRefusal (h .shape)) 0) (leb (h .weight) top)
-      (and-left (eqb (shapeRefusal (h .shape)) 0 && leb (h .weight) top) (lensFrom (h .shape .layers) (h .shape .«heap_size») (h .lens) (h .flags) maxLayers 0) e))
+      (and-left (eqb (shapeRefusal (h .shape)) 0) (totalsOk (h .totals))
+      (and-left (eqb (shapeRefusal (h .shape)) 0 && totalsOk (h .totals)) (lensFrom (h .shape .layers) (h .shape .«heap_size») (h .lens) (h .flags) maxLayers 0) e))
 
 pub state-whole : (r : Lent) → Arrays (r .head) → stateOk r ≡ true → WholeState (view r)
 unfolding view
@@ -126,7 +127,7 @@ module _ (s : State) (w : WholeState s) where
   head-pass : headerOk (s .head) ≡ true
   unfolding headerOk layerAt
   head-pass =
-      both (both (eq-eqb (shapeRefusal (s .head .shape)) 0 (w .shape)) (le-leb (s .head .weight) top (w .light)))
+      both (both (eq-eqb (shapeRefusal (s .head .shape)) 0 (w .shape)) (le-leb (s .head .totals .weight) top (w .light)))
       (passed-all (lensFrom (s .head .shape .layers) (s .head .shape .«heap_size») (s .head .lens) (s .head .flags))
       (λ l. head.layerOk l (s .head .shape .layers) (s .head .shape .«heap_size») (getD (s .head .lens) l 0) (getD (s .head .flags) l false))
       (lens-step (s .head .shape .layers) (s .head .shape .«heap_size») (s .head .lens) (s .head .flags)) (lens-none (s .head .shape .layers) (s .head .shape .«heap_size») (s .head .lens) (s .head .flags)) maxLayers 0
@@ -160,7 +161,7 @@ over-whole f k l s w room g =
     record {
       sized = o .sized;
       shape = ap shapeRefusal (o .shape) ∙ w .shape;
-      light = omega (arith, o .weight, w .light);
+      light = subst (λ (z : Totals). z .weight ≤ top) (sym (o .totals)) (w .light);
       pastLens = λ m h. o .pastLens m (here m h) ∙ w .pastLens m (here m h);
       pastFlags = λ m h. o .pastFlags m (here m h) ∙ w .pastFlags m (here m h);
       layers = subst (λ (sh : Shape). (m : ℕ) → m < sh .layers → Whole (dimsAt sh m) (layerAt t m)) (sym (o .shape)) (λ m h. at m h (decLt m l) (decLt m (l + k)));
@@ -190,11 +191,11 @@ put-whole s l y w h n =
     (λ m p q x. let e : l ≡ m = omega arith in
     subst (λ (i : ℕ). Whole (dimsAt (s .head .shape) i) y) e n)
 
--- ---- another weight and mode, other flags
+-- ---- other totals and another mode, other flags
 
-pub head-whole : (s : State) (n : ℕ) (m : Mode) → WholeState s → n ≤ top → WholeState (withHead s (withMode (withWeight (s .head) n) m))
+pub head-whole : (s : State) (t : Totals) (m : Mode) → WholeState s → t .weight ≤ top → WholeState (withHead s (withMode (withTotals (s .head) t) m))
 unfolding layerAt
-head-whole s n m w h =
+head-whole s t m w h =
     record {
       sized = record { counters = w .sized .counters; norms = w .sized .norms; cands = w .sized .cands; flags = w .sized .flags; lens = w .sized .lens; few = w .sized .few };
       shape = w .shape;

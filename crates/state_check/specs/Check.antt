@@ -15,8 +15,8 @@ use Rattle.heap.specs.Offer.{Table}
 use Rattle.layer.specs.declared.Dims.{Dims}
 use Rattle.layer.specs.Layer.{Layer}
 use Rattle.header.specs.Header.{headerOk}
-use Rattle.univmon.specs.State.{State, shapeOf, dimsAt, allLayers}
-use Rattle.univmon.specs.Slices.{Lent, lentOk, view}
+use Rattle.layout.specs.State.{State, shapeOf, dimsAt, allLayers}
+use Rattle.layout.specs.Slices.{Lent, lentOk, view}
 
 -- ---- counters and norms: "Counters and counts lie within ±2^52", "A norm is its row's sum of capped squares."
 

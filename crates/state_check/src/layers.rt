@@ -5,9 +5,9 @@ ghost use Prim.Native.Nat.{ℕ, _*_, _<_};
 ghost use lib.ListN.{length};
 ghost use Rattle.layer.specs.Layer.{layerOf};
 ghost use Rattle.layer.specs.Needs.{Housed};
-ghost use Rattle.univmon.specs.State.{dimsAt, layerAt};
-ghost use Rattle.univmon.specs.Slices.{lent, view};
-ghost use Rattle.univmon.specs.Needs.{Standing};
+ghost use Rattle.layout.specs.State.{dimsAt, layerAt};
+ghost use Rattle.layout.specs.Slices.{lent, view};
+ghost use Rattle.layout.specs.Needs.{Standing};
 ghost use Rattle.state_check.specs.Check.{layerOk, layersOk, stateOk};
 use crate::candidates::seats_ok;
 use crate::rows::rows_ok;
@@ -50,21 +50,12 @@ fn layer_at(
 {
     let shape = header.shape;
     let lens = header.lens;
-    let dims = univmon::sizes::dims(shape, l);
-    let s = univmon::sizes::span_of(shape, l);
-    let a = s.cells;
-    let b = s.cells_end;
-    let c = s.norms;
-    let d = s.norms_end;
-    let e = s.words;
-    let f = s.words_end;
-    let g = s.seats;
-    let h = s.seats_end;
+    let dims = layout::dims(shape, l);
     layer_ok(
-        &counters[a..b],
-        &norms[c..d],
-        &entries[e..f],
-        &counts[g..h],
+        layout::cells_at(shape, l, counters),
+        layout::norms_at(shape, l, norms),
+        layout::words_at(shape, l, entries),
+        layout::seats_at(shape, l, counts),
         dims,
         lens[l],
     )
@@ -108,7 +99,7 @@ pub fn check_state(
         return false;
     }
     let shape = header.shape;
-    if !univmon::sizes::lengths_match(
+    if !layout::lengths_match(
         shape,
         counters.len(),
         norms.len(),

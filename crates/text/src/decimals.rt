@@ -35,7 +35,7 @@ fn number(s: &[u8], at: usize) -> Num
             return Num::At(v, i);
         }
         let d = wide(b) - 48;
-        if (18446744073709551615 - d) / 10 < v {
+        if (u64::MAX - d) / 10 < v {
             return Num::Bad;
         }
         v = v * 10 + d;

@@ -1,24 +1,15 @@
 -- The tests of the touched layers. Assumes nothing.
 use mathlib.Core.Path.{_≡_, refl, sym, ap, _∙_}
-use mathlib.Core.Bool.{Bool, true, false, cond, not, _&&_}
+use mathlib.Core.Bool.{Bool, true, false, _&&_}
 use mathlib.Core.List.{List}
 use Prim.Native.Nat.{ℕ, zero, suc, _+_, _<_}
 use native.Mathlib.Omega.{arith}
-use Rattle.words.proofs.Bools.{and-cross}
+use Rattle.words.specs.Tests.{number}
+use Rattle.words.proofs.Bools.{and-left, and-right, and-cross}
 use Rattle.header.specs.declared.Shape.{Shape}
-use Rattle.layer.specs.Layer.{Layer}
-use Rattle.univmon.specs.State.{State, layerAt, allLayers}
-use Rattle.univmon.specs.Slices.{Lent}
-use Rattle.univmon.specs.Needs.{JudgeReady, readsAt, fitsAt, readyAt, judgedAt}
-
--- a scan over layers
-pub layers-step : (p : ℕ → Layer → Bool) (s : State) (k l : ℕ) → allLayers p (suc k) l s ≡ p l (layerAt s l) && allLayers p k (suc l) s
-unfolding allLayers
-layers-step p s k l = refl
-
-pub layers-none : (p : ℕ → Layer → Bool) (s : State) (l : ℕ) → allLayers p 0 l s ≡ true
-unfolding allLayers
-layers-none p s l = refl
+use Rattle.layout.specs.State.{State, layerAt, allLayers}
+use Rattle.layout.specs.Slices.{Lent}
+use Rattle.univmon.specs.Needs.{JudgeReady, readsAt, fitsAt, readyAt, layersTests}
 
 -- one layer of many
 pub judge-one : (r : Lent) (words : List ℕ) (w many first l : ℕ) → JudgeReady r words w many first → l < many + first → JudgeReady r words w 1 l
@@ -37,23 +28,17 @@ both-tests sh words w (suc k) l s =
     ∙ and-cross (readsAt sh words w l (layerAt s l)) (fitsAt sh words w l (layerAt s l)) (allLayers (readsAt sh words w) k (suc l) s) (allLayers (fitsAt sh words w) k (suc l) s)
 
 module _ (sh : Shape) (words : List ℕ) (w many first : ℕ) (s : State) where
-  pub judged-ready : allLayers (readyAt sh words w) many first s ≡ true → 0 ≡ judgedAt sh words w many first s
-  unfolding judgedAt
-  judged-ready e = go (allLayers (readsAt sh words w) many first s) (allLayers (fitsAt sh words w) many first s) (sym (both-tests sh words w many first s) ∙ e)
-    where
-      go : (a b : Bool) → a && b ≡ true → _≡_ {A = ℕ} 0 (cond (not a) 9 (cond (not b) 11 0))
-      go true true e = refl
-      go true false e = cc
-      go false b e = cc
+  abbrev reads : Bool
+  reads = allLayers (readsAt sh words w) many first s
 
-  pub judged-unfit : allLayers (readyAt sh words w) many first s ≡ false → allLayers (readsAt sh words w) many first s ≡ true → 11 ≡ judgedAt sh words w many first s
-  unfolding judgedAt
-  judged-unfit e r = go (allLayers (fitsAt sh words w) many first s) (ap (λ (a : Bool). a && allLayers (fitsAt sh words w) many first s) (sym r) ∙ sym (both-tests sh words w many first s) ∙ e)
-    where
-      go : (b : Bool) → true && b ≡ false → _≡_ {A = ℕ} 11 (cond (not (allLayers (readsAt sh words w) many first s)) 9 (cond (not b) 11 0))
-      go true e = cc
-      go false e = rw r
+  abbrev fits : Bool
+  fits = allLayers (fitsAt sh words w) many first s
 
-  pub judged-unread : allLayers (readsAt sh words w) many first s ≡ false → 9 ≡ judgedAt sh words w many first s
-  unfolding judgedAt
+  pub judged-ready : allLayers (readyAt sh words w) many first s ≡ true → 0 ≡ number (layersTests sh words w many first s)
+  judged-ready e = let b = sym (both-tests sh words w many first s) ∙ e in rw (and-left reads fits b, and-right reads fits b)
+
+  pub judged-unfit : allLayers (readyAt sh words w) many first s ≡ false → reads ≡ true → 11 ≡ number (layersTests sh words w many first s)
+  judged-unfit e r = let f : fits ≡ false = ap (λ (a : Bool). a && fits) (sym r) ∙ sym (both-tests sh words w many first s) ∙ e in rw (r, f)
+
+  pub judged-unread : reads ≡ false → 9 ≡ number (layersTests sh words w many first s)
   judged-unread r = rw r

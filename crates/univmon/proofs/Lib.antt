@@ -1,11 +1,5 @@
-pub mod Offsets
-pub mod Lengths
-pub mod States
-pub mod Views
-pub mod Sends
-pub mod Sending
 pub mod Judging
-pub mod Flatten
+pub mod Sending
+pub mod Sends
 pub mod Updating
-pub mod Arrivals
-pub mod Refusing
+pub mod Touched

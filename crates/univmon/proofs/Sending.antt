@@ -11,18 +11,13 @@ use Rattle.header.specs.declared.Shape.{Shape}
 use Rattle.layer.specs.Layer.{Layer, item, addLayer}
 use Rattle.layer.specs.Needs.{Fits}
 use Rattle.layer.proofs.Steps.{add-lengths}
-use Rattle.countsketch_l2_norm.proofs.Norms.{length-norms}
-use Rattle.heap_moves.proofs.Views.{length-cands}
-use Rattle.univmon.specs.State.{State, dimsAt, layerAt, putLayer, overLayers, allLayers}
-use Rattle.univmon.specs.Slices.{Lent, view}
-use Rattle.univmon.specs.Updates.{recordLength, whoAt}
-use Rattle.univmon.specs.Needs.{Standing, Headed, SendReady, SendsReady, readsAt, fitsAt, addsAt}
-use Rattle.univmon.proofs.States.{Long, at-fits, all-later}
-
--- a lent state's lists are as long as its shape's
-pub long-view : (r : Lent) → Standing r → Long (view r)
-unfolding view
-long-view r z = record { counters = z .sizes .cells; norms = length-norms (r .norms) _; cands = length-cands (r .entries) (r .counts) ∙ z .sizes .counts }
+use Rattle.layout.specs.State.{State, dimsAt, layerAt, putLayer, overLayers, allLayers}
+use Rattle.layout.specs.Slices.{Lent, view}
+use Rattle.layout.specs.Records.{recordLength, whoAt}
+use Rattle.layout.specs.Needs.{Standing, Headed}
+use Rattle.univmon.specs.Needs.{SendReady, SendsReady, readsAt, fitsAt, addsAt}
+use Rattle.layout.proofs.Lengths.{long-view}
+use Rattle.layout.proofs.States.{at-fits, all-later}
 
 pub record Sending (r₀ : Lent) (words : List ℕ) (w many first : ℕ) (r : Lent) (l : ℕ) : Type 0 where
   pub left : ℕ

@@ -1,45 +1,43 @@
 -- The stages of an update: what each test that passed or failed says of the answer. Assumes nothing.
 use mathlib.Core.Path.{_≡_, refl, sym, ap, _∙_}
-use mathlib.Core.Bool.{Bool, true, false, cond, not, _&&_}
-use mathlib.Core.List.{List}
+use mathlib.Core.Bool.{Bool, true, false, cond, not}
+use mathlib.Core.List.{List, [], _∷_, _++_}
 use Prim.Native.Nat.{ℕ, zero, suc, _+_, _-_, _≤_, _<_}
 use native.Mathlib.Omega.{arith}
-use borrow.Author.Tests.{eqb-true, eqb-false, eq-eqb, ne-eqb}
+use borrow.Author.Tests.{eqb-true, eqb-false, eq-eqb, ne-eqb, not-false}
 use lib.ListN.{length, getD}
 use lib.IntN.{ℤ, natAbs}
-use lib.Signed.{nonNeg}
-use lib.Dec.{eqb, leb}
+use lib.Dec.{eqb}
 use Rattle.words.specs.Num.{top, wordSize}
+use Rattle.words.specs.Tests.{number, numbered}
+use Rattle.words.proofs.Tests.{Off, number-off, off-number, number-first, number-rest, off-first, off-rest}
 use Rattle.header.specs.declared.Mode.{Mode}
+use Rattle.header.specs.declared.Totals.{Totals}
 use Rattle.header.specs.Shape.{maxLayers}
-use Rattle.header.specs.Header.{clash, begun, beginOf, fixedOf, headerOk}
+use Rattle.header.specs.Totals.{updateTotals}
+use Rattle.header.specs.Header.{begun, beginTests, scalarsOf}
 use Rattle.header.proofs.Bottoms.{bottom-lt}
-use Rattle.header.proofs.Steps.{begin-by}
 use Rattle.layer.specs.Layer.{Layer}
 use Rattle.univmon.specs.declared.Kind.{Kind}
 use Rattle.univmon.specs.declared.Kind.the-variants as kind
-use Rattle.univmon.specs.State.{State, layerAt, putLayer, allLayers, overLayers, withHead}
-use Rattle.univmon.specs.Slices.{Lent, lent, lentOk, view, flat}
-use Rattle.univmon.specs.Judged.{Out, refused, done, unsound}
-use Rattle.univmon.specs.Updates.{recordLength, modeOf, firstSent, manySent, bottomBy, updateTests, updated, update}
-use Rattle.univmon.specs.Calls.{Outcome, Left, left, leftBy, outcomeOf, updateCall, lentUpdateCall}
-use Rattle.univmon.specs.Needs.{Standing, Headed, SendsReady, JudgeReady, KeyReady, readsAt, fitsAt, addsAt, judgedAt, sentBy, keySent, soundIn, soundNumber, sentAfter}
-use Rattle.univmon.proofs.Lengths.{standing-of, sized-view}
-use Rattle.univmon.proofs.Flatten.{lent-is}
-
--- ---- header and lengths
-
-pub sound-of : (r : Lent) → headerOk (r .head) ≡ true → lentOk r ≡ true → unsound (view r) ≡ false
-unfolding view
-sound-of r h z = simp (h, sized-view r z)
+use Rattle.layout.specs.State.{State, layerAt, putLayer, overLayers, withHead}
+use Rattle.layout.specs.Slices.{Lent, lent, view, flat}
+use Rattle.layout.specs.Outcomes.{Outcome, judge, Left, left, leftBy}
+use Rattle.layout.specs.Needs.{Standing}
+use Rattle.layout.proofs.Lengths.{standing-of}
+use Rattle.layout.proofs.Flatten.{lent-is}
+use Rattle.layout.proofs.Judged.{refused, judge-number, left-refused, left-done}
+use Rattle.univmon.specs.Updates.{modeOf, firstSent, manySent, bottomBy, sentTests, updateTests, updated}
+use Rattle.univmon.specs.Calls.{updateCall, placeTests, lentUpdateCall}
+use Rattle.univmon.specs.Needs.{SendsReady, JudgeReady, KeyReady, addsAt, layersTests, sentBy, keySent, soundIn, sentAfter}
 
 -- ---- a header that begins an update changes no layer, before the layers or after them
 
-pub sends-kept : (f : ℕ → Layer → Layer) (k l : ℕ) (s : State) (w : ℕ) (m : Mode)
-    → overLayers f k l (withHead s (begun (s .head) w m)) ≡ withHead (overLayers f k l s) (begun (overLayers f k l s .head) w m)
+pub sends-kept : (f : ℕ → Layer → Layer) (k l : ℕ) (s : State) (u : Totals) (m : Mode)
+    → overLayers f k l (withHead s (begun (s .head) u m)) ≡ withHead (overLayers f k l s) (begun (overLayers f k l s .head) u m)
 unfolding overLayers layerAt putLayer
-sends-kept f zero l s w m = refl
-sends-kept f (suc k) l s w m = sends-kept f k (suc l) (putLayer s l (f l (layerAt s l))) w m
+sends-kept f zero l s u m = refl
+sends-kept f (suc k) l s u m = sends-kept f k (suc l) (putLayer s l (f l (layerAt s l))) u m
 
 -- ---- the touched layers
 
@@ -51,122 +49,52 @@ pub many-sent : (k : Kind) (b : ℕ) → b + 1 - firstSent k b ≡ manySent k b
 many-sent kind.Standard b = omega arith
 many-sent kind.Terminal b = omega arith
 
--- ---- 9 and 12
+-- ---- tests and then others
 
--- a header out of range
-pub unranged : (k : Kind) (r : Lent) (words : List ℕ) (w : ℤ) → headerOk (r .head) ≡ false → left 9 r ≡ leftBy r (updateCall k r words w)
-unfolding updateCall update updateTests view
-unranged k r words w h = go (lentOk r) (update k (view r) words w) (simp h)
+judge-rest : (ts us : List (Bool × ℕ)) (r : Lent) → Off ts → judge (ts ++ us) r ≡ judge us r
+judge-rest [] us r h = refl
+judge-rest (t ∷ ts) us r h = rw (h .0) (judge-rest ts us r (h .1))
+
+-- tests whose number n is known may stand as one test, between any others
+judge-told : (ts us vs : List (Bool × ℕ)) (r : Lent) (n : ℕ) → numbered us ≡ true → n ≡ number us → judge (ts ++ ((not (eqb n 0), n) ∷ vs)) r ≡ judge (ts ++ (us ++ vs)) r
+judge-told [] us vs r n d e = go (eqb n 0) refl
   where
-    go : (b : Bool) (o : Out) → o ≡ refused 9 → left 9 r ≡ leftBy r (cond b (outcomeOf o) (Outcome.no 9))
-    go true o e = rw e
-    go false o e = refl
+    go : (b : Bool) → eqb n 0 ≡ b → cond (not b) (Outcome.no n) (judge vs r) ≡ judge (us ++ vs) r
+    go true q = sym (judge-rest us vs r (off-number us d (sym e ∙ eqb-true n 0 q)))
+    go false q =
+        let h : number us ≡ 0 → ⊥ = λ z. eqb-false n 0 q (e ∙ z) in
+        let f : number (us ++ vs) ≡ n = number-first us vs h ∙ sym e in
+        sym (refused (us ++ vs) r (λ z. eqb-false n 0 q (sym f ∙ z)) ∙ ap Outcome.no f)
+judge-told (t ∷ ts) us vs r n d e = ap (λ (o : Outcome). cond (t .0) (Outcome.no (t .1)) o) (judge-told ts us vs r n d e)
 
--- slices of other lengths
-pub unsized : (k : Kind) (r : Lent) (words : List ℕ) (w : ℤ) → lentOk r ≡ false → left 9 r ≡ leftBy r (updateCall k r words w)
-unfolding updateCall
-unsized k r words w h = simp h
-
--- slices of the right lengths
-pub sized-call : (k : Kind) (r : Lent) (words : List ℕ) (w : ℤ) → lentOk r ≡ true → leftBy r (outcomeOf (update k (view r) words w)) ≡ leftBy r (updateCall k r words w)
-unfolding updateCall
-sized-call k r words w h = simp h
-
--- a record of another length
-pub unrecorded : (k : Kind) (r : Lent) (words : List ℕ) (w : ℤ) → headerOk (r .head) ≡ true → lentOk r ≡ true → (length words ≡ recordLength (r .head .shape .layers) → ⊥) → left 12 r ≡ leftBy r (updateCall k r words w)
-unfolding update updateTests view
-unrecorded k r words w h z n =
-    sym (simp (sound-of r h z, ne-eqb _ _ n)) ∙ sized-call k r words w z
-
--- ---- lengths and flags that are lent
-
--- not 19 of them
-pub unplaced : (k : Kind) (r : Lent) (words : List ℕ) (w : ℤ) → eqb (length (r .head .lens)) maxLayers && eqb (length (r .head .flags)) maxLayers ≡ false → left 9 r ≡ leftBy r (lentUpdateCall k r words w)
-unfolding lentUpdateCall
-unplaced k r words w h = simp h
-
-pub placed-call : (k : Kind) (r : Lent) (words : List ℕ) (w : ℤ) → length (r .head .lens) ≡ maxLayers → length (r .head .flags) ≡ maxLayers → leftBy r (updateCall k r words w) ≡ leftBy r (lentUpdateCall k r words w)
-unfolding lentUpdateCall
-placed-call k r words w l f = simp (eq-eqb _ _ l, eq-eqb _ _ f)
-
--- ---- header, lengths and record together
-
--- they are right
-pub record UpdateReady (r : Lent) (words : List ℕ) : Type 0 where
-  pub headed : Headed (r .head)
-  pub ranged : headerOk (r .head) ≡ true
-  pub sized : lentOk r ≡ true
-  pub recorded : length words ≡ recordLength (r .head .shape .layers)
-
--- their number, by the five tests
-abbrev soundBy : Bool → Bool → Bool → Bool → Bool → ℕ
-soundBy i j a b c = cond (not i) 9 (cond (not j) 9 (cond (not a) 9 (cond (not b) 9 (cond (not c) 12 0))))
-
-module _ (k : Kind) (r : Lent) (words : List ℕ) (w : ℤ) where
-  -- what they are refused with, the call is
-  pub unsound-call : (soundIn r words ≡ 0 → ⊥) → left (soundIn r words) r ≡ leftBy r (lentUpdateCall k r words w)
-  unfolding soundNumber
-  unsound-call h =
-      go (eqb (length (r .head .lens)) maxLayers) refl (eqb (length (r .head .flags)) maxLayers) refl (headerOk (r .head)) refl (lentOk r) refl
-      (eqb (length words) (recordLength (r .head .shape .layers))) refl h
-    where
-      go : (i : Bool) → eqb (length (r .head .lens)) maxLayers ≡ i → (j : Bool) → eqb (length (r .head .flags)) maxLayers ≡ j
-          → (a : Bool) → headerOk (r .head) ≡ a → (b : Bool) → lentOk r ≡ b → (c : Bool) → eqb (length words) (recordLength (r .head .shape .layers)) ≡ c
-          → (soundBy i j a b c ≡ 0 → ⊥) → left (soundBy i j a b c) r ≡ leftBy r (lentUpdateCall k r words w)
-      go false pi j pj a pa b pb c pc n = unplaced k r words w (rw pi)
-      go true pi false pj a pa b pb c pc n = unplaced k r words w (rw (pi, pj))
-      go true pi true pj false pa b pb c pc n = unranged k r words w pa ∙ placed-call k r words w (eqb-true _ _ pi) (eqb-true _ _ pj)
-      go true pi true pj true pa false pb c pc n = unsized k r words w pb ∙ placed-call k r words w (eqb-true _ _ pi) (eqb-true _ _ pj)
-      go true pi true pj true pa true pb false pc n = unrecorded k r words w pa pb (eqb-false _ _ pc) ∙ placed-call k r words w (eqb-true _ _ pi) (eqb-true _ _ pj)
-      go true pi true pj true pa true pb true pc n = absurd (n refl)
-
--- or they are right
-pub ready-of : (r : Lent) (words : List ℕ) → soundIn r words ≡ 0 → UpdateReady r words
-unfolding soundNumber
-ready-of r words e =
-    go (eqb (length (r .head .lens)) maxLayers) refl (eqb (length (r .head .flags)) maxLayers) refl (headerOk (r .head)) refl (lentOk r) refl
-    (eqb (length words) (recordLength (r .head .shape .layers))) refl e
+-- the number tells what a call leaves
+left-by : (ts : List (Bool × ℕ)) (r t : Lent) → numbered ts ≡ true → leftBy r (judge ts t) ≡ left (number ts) (cond (eqb (number ts) 0) t r)
+left-by ts r t n = ap (leftBy r) (judge-number ts t n) ∙ go (eqb (number ts) 0) refl
   where
-    go : (i : Bool) → eqb (length (r .head .lens)) maxLayers ≡ i → (j : Bool) → eqb (length (r .head .flags)) maxLayers ≡ j
-        → (a : Bool) → headerOk (r .head) ≡ a → (b : Bool) → lentOk r ≡ b → (c : Bool) → eqb (length words) (recordLength (r .head .shape .layers)) ≡ c
-        → soundBy i j a b c ≡ 0 → UpdateReady r words
-    go false pi j pj a pa b pb c pc z = absurd (omega (arith, z))
-    go true pi false pj a pa b pb c pc z = absurd (omega (arith, z))
-    go true pi true pj false pa b pb c pc z = absurd (omega (arith, z))
-    go true pi true pj true pa false pb c pc z = absurd (omega (arith, z))
-    go true pi true pj true pa true pb false pc z = absurd (omega (arith, z))
-    go true pi true pj true pa true pb true pc z =
-        record {
-          headed = record { lens = eqb-true _ _ pi; flags = eqb-true _ _ pj };
-          ranged = pa;
-          sized = pb;
-          recorded = eqb-true _ _ pc;
-        }
+    go : (b : Bool) → eqb (number ts) 0 ≡ b → leftBy r (cond b (Outcome.yes t) (Outcome.no (number ts))) ≡ left (number ts) (cond b t r)
+    go true q = ap (λ (k : ℕ). left k t) (sym (eqb-true (number ts) 0 q))
+    go false q = refl
 
 -- ---- tests and sends of many layers
 
 module _ (words : List ℕ) (w many first : ℕ) (r : Lent) where
+  abbrev tests : List (Bool × ℕ)
+  tests = layersTests (r .head .shape) words w many first (view r)
+
   -- 9 or 11
-  pub sent-refused : (n : ℕ) → n ≡ judgedAt (r .head .shape) words w many first (view r) → (n ≡ 0 → ⊥) → left n r ≡ sentBy words w many first r
+  pub sent-refused : (n : ℕ) → n ≡ number tests → (n ≡ 0 → ⊥) → left n r ≡ sentBy words w many first r
   unfolding sentBy
-  sent-refused n e h = rw e (sym (rw (ne-eqb (judgedAt (r .head .shape) words w many first (view r)) 0 (λ z. h (e ∙ z)))))
+  sent-refused n e h = left-refused tests r _ n e h
 
-  pub sends-ready : JudgeReady r words w many first → judgedAt (r .head .shape) words w many first (view r) ≡ 0 → SendsReady r words w many first
-  unfolding judgedAt
-  sends-ready p z = record { standing = p .standing; headed = p .headed; recorded = p .recorded; light = p .light; inside = p .inside; read = both .0; fit = both .1 }
-    where
-      go : (x y : Bool) → _≡_ {A = ℕ} (cond (not x) 9 (cond (not y) 11 0)) 0 → (x ≡ true) × (y ≡ true)
-      go false y e = absurd (omega (arith, e))
-      go true false e = absurd (omega (arith, e))
-      go true true e = (refl, refl)
+  pub sends-ready : JudgeReady r words w many first → number tests ≡ 0 → SendsReady r words w many first
+  sends-ready p z =
+      let q = off-number tests refl z in
+      record { standing = p .standing; headed = p .headed; recorded = p .recorded; light = p .light; inside = p .inside; read = not-false _ (q .0); fit = not-false _ (q .1 .0) }
 
-      both : (allLayers (readsAt (r .head .shape) words w) many first (view r) ≡ true) × (allLayers (fitsAt (r .head .shape) words w) many first (view r) ≡ true)
-      both = go (allLayers (readsAt (r .head .shape) words w) many first (view r)) (allLayers (fitsAt (r .head .shape) words w) many first (view r)) z
-
-  pub sent-done : (t : Lent) → judgedAt (r .head .shape) words w many first (view r) ≡ 0 → Standing t → ((i : ℕ) → getD (t .norms) i 0 < wordSize)
+  pub sent-done : (t : Lent) → number tests ≡ 0 → Standing t → ((i : ℕ) → getD (t .norms) i 0 < wordSize)
       → view t ≡ overLayers (addsAt (r .head .shape) words w) many first (view r) → left 0 t ≡ sentBy words w many first r
   unfolding sentBy
-  sent-done t z s b e = ap (left 0) (lent-is t (overLayers (addsAt (r .head .shape) words w) many first (view r)) s b e) ∙ sym (rw (eq-eqb _ 0 z))
+  sent-done t z s b e = ap (left 0) (lent-is t _ s b e) ∙ left-done tests r _ refl z
 
 -- ---- the layers that a key reaches
 
@@ -186,138 +114,92 @@ judge-ready k r words w p =
     inside kind.Standard h = omega (arith, h)
     inside kind.Terminal h = omega (arith, h)
 
-pub key-ready : (r : Lent) (words : List ℕ) (w : ℕ) → UpdateReady r words → w ≤ top → KeyReady r words w
-key-ready r words w p l = record { standing = standing-of r (p .ranged) (p .sized); headed = p .headed; recorded = p .recorded; light = l }
-
 -- ---- all of an update but its beginning, stage by stage
 
+-- the layers that a key reaches, sent to
+abbrev sent : Kind → List ℕ → ℕ → Lent → Lent
+sent k words w r = flat (overLayers (addsAt (r .head .shape) words w) (manySent k (bottomBy (view r) words)) (firstSent k (bottomBy (view r) words)) (view r))
+
+-- header, lengths and record were found right
+pub key-ready : (r : Lent) (words : List ℕ) (w : ℕ) → number (soundIn r words) ≡ 0 → w ≤ top → KeyReady r words w
+key-ready r words w z l =
+    let p = off-number (soundIn r words) refl z in
+    record {
+      standing = standing-of r (not-false _ (p .1 .1 .0)) (not-false _ (p .1 .1 .1 .0));
+      headed = record { lens = eqb-true _ _ (not-false _ (p .0)); flags = eqb-true _ _ (not-false _ (p .1 .0)) };
+      recorded = eqb-true _ _ (not-false _ (p .1 .1 .1 .1 .0));
+      light = l;
+    }
+
 module _ (k : Kind) (n : ℕ) (words : List ℕ) (w : ℤ) (r : Lent) where
-  pub after-unsound : (m : ℕ) → m ≡ soundIn r words → (m ≡ 0 → ⊥) → left m r ≡ sentAfter k n words w r
+  -- the tests behind those of header, lengths and record
+  abbrev rest : List (Bool × ℕ)
+  rest = (not (eqb n 0), n) ∷ sentTests k (view r) words w
+
+  pub after-unsound : (m : ℕ) → m ≡ number (soundIn r words) → (m ≡ 0 → ⊥) → left m r ≡ sentAfter k n words w r
   unfolding sentAfter
-  after-unsound m e h = rw (ne-eqb (soundIn r words) 0 (λ z. h (e ∙ z))) (ap (λ (x : ℕ). left x r) e)
+  after-unsound m e h = left-refused (soundIn r words ++ rest) r _ m (e ∙ sym (number-first (soundIn r words) rest (λ z. h (e ∙ z)))) h
 
-  pub after-unbegun : soundIn r words ≡ 0 → (n ≡ 0 → ⊥) → left n r ≡ sentAfter k n words w r
+  pub after-unbegun : number (soundIn r words) ≡ 0 → (n ≡ 0 → ⊥) → left n r ≡ sentAfter k n words w r
   unfolding sentAfter
-  after-unbegun e h = rw (eq-eqb (soundIn r words) 0 e, ne-eqb n 0 h)
+  after-unbegun z h = left-refused (soundIn r words ++ rest) r _ n (sym (number-rest (soundIn r words) rest (off-number (soundIn r words) refl z) ∙ rw (ne-eqb n 0 h))) h
 
-  pub after-begun : soundIn r words ≡ 0 → n ≡ 0 → keySent k words (natAbs w) r ≡ sentAfter k n words w r
-  unfolding sentAfter
-  after-begun e z = rw (eq-eqb (soundIn r words) 0 e, eq-eqb n 0 z)
-
--- a state whose weight and mode an update has begun with
-abbrev pub begunIn : Kind → ℤ → Lent → Lent
-begunIn k w t = lent (begun (t .head) (natAbs w) (modeOf k)) (t .counters) (t .norms) (t .entries) (t .counts)
-
--- ---- the stages, of a record of the right length in a lent state that is right
-
-module _ (k : Kind) (r : Lent) (words : List ℕ) (w : ℤ) (p : UpdateReady r words) where
-  abbrev pub bottom : ℕ
-  bottom = bottomBy (view r) words
-
-  abbrev pub reads : Bool
-  reads = allLayers (readsAt (r .head .shape) words (natAbs w)) (manySent k bottom) (firstSent k bottom) (view r)
-
-  abbrev pub fits : Bool
-  fits = allLayers (fitsAt (r .head .shape) words (natAbs w)) (manySent k bottom) (firstSent k bottom) (view r)
-
-  -- what is left once header, lengths and record are right
-  begins : update k (view r) words w
-      ≡ cond (not (nonNeg w)) (refused 5)
-      (cond (clash (r .head .mode) (modeOf k)) (refused 6)
-      (cond (not (leb (r .head .weight + natAbs w) top)) (refused 7) (cond (not reads) (refused 9) (cond (not fits) (refused 11) (done (updated k (view r) words w))))))
-  unfolding update updateTests view
-  begins = simp (sound-of r (p .ranged) (p .sized), eq-eqb _ _ (p .recorded))
-
-  -- the number that the beginning is refused with
-  abbrev pub number : ℕ
-  number = beginOf (fixedOf (r .head)) w (modeOf k) .refusal
-
-  -- 5, 6 or 7
-  pub not-begun : (number ≡ 0 → ⊥) → left number r ≡ leftBy r (outcomeOf (update k (view r) words w))
-  unfolding beginOf
-  not-begun =
-      begin-by (fixedOf (r .head)) w (modeOf k) (λ b. (b .refusal ≡ 0 → ⊥) → left (b .refusal) r ≡ leftBy r (outcomeOf (update k (view r) words w)))
-      (λ p n. rw (begins, p)) (λ p q n. rw (begins, p, q)) (λ p q s n. rw (begins, p, q, s)) (λ p q s n. absurd (n (rw (p, q, s))))
-
-  -- none of the three
-  has-begun : number ≡ 0 → update k (view r) words w ≡ cond (not reads) (refused 9) (cond (not fits) (refused 11) (done (updated k (view r) words w)))
-  unfolding beginOf
-  has-begun =
-      begin-by (fixedOf (r .head)) w (modeOf k) (λ b. b .refusal ≡ 0 → update k (view r) words w ≡ cond (not reads) (refused 9) (cond (not fits) (refused 11) (done (updated k (view r) words w))))
-      (λ p z. absurd (omega (arith, rw p at z))) (λ p q z. absurd (omega (arith, rw (p, q) at z))) (λ p q s z. absurd (omega (arith, rw (p, q, s) at z)))
-      (λ p q s z. rw (begins, p, q, s))
-
-  -- what was sent, by what the tests found
-  sent-is : keySent k words (natAbs w) r
-      ≡ cond (eqb (cond (not reads) 9 (cond (not fits) 11 0)) 0)
-      (left 0 (flat (overLayers (addsAt (r .head .shape) words (natAbs w)) (manySent k bottom) (firstSent k bottom) (view r))))
-      (left (cond (not reads) 9 (cond (not fits) 11 0)) r)
-  unfolding sentBy judgedAt
-  sent-is = refl
-
-  -- 9 or 11
-  pub not-sent : number ≡ 0 → (m : ℕ) (t : Lent) → left m t ≡ keySent k words (natAbs w) r → (m ≡ 0 → ⊥) → (t ≡ r) × (left m r ≡ leftBy r (outcomeOf (update k (view r) words w)))
-  not-sent z m t e h = rw (has-begun z) (go reads fits (flat (overLayers (addsAt (r .head .shape) words (natAbs w)) (manySent k bottom) (firstSent k bottom) (view r))) _ (e ∙ sent-is))
-    where
-      go : (x y : Bool) (f : Lent) (o : Out) → left m t ≡ cond (eqb (cond (not x) 9 (cond (not y) 11 0)) 0) (left 0 f) (left (cond (not x) 9 (cond (not y) 11 0)) r)
-          → (t ≡ r) × (left m r ≡ leftBy r (outcomeOf (cond (not x) (refused 9) (cond (not y) (refused 11) o))))
-      go false y f o q = (ap (λ (l : Left). l .lends) q, ap (λ (l : Left). left (l .refusal) r) q)
-      go true false f o q = (ap (λ (l : Left). l .lends) q, ap (λ (l : Left). left (l .refusal) r) q)
-      go true true f o q = absurd (h (ap (λ (l : Left). l .refusal) q))
-
-  -- done
-  updated-is : flat (updated k (view r) words w) ≡ begunIn k w (flat (overLayers (addsAt (r .head .shape) words (natAbs w)) (manySent k bottom) (firstSent k bottom) (view r)))
-  unfolding updated view flat
-  updated-is = ap flat (sends-kept (addsAt (r .head .shape) words (natAbs w)) (manySent k bottom) (firstSent k bottom) (view r) (natAbs w) (modeOf k))
-
-  pub all-sent : number ≡ 0 → (m : ℕ) (t : Lent) → left m t ≡ keySent k words (natAbs w) r → m ≡ 0 → left 0 (begunIn k w t) ≡ leftBy r (outcomeOf (update k (view r) words w))
-  all-sent z m t e q = rw (has-begun z) (go reads fits _ (updated k (view r) words w) updated-is (e ∙ sent-is))
-    where
-      wrong : (c : ℕ) → 0 < c → m ≡ c → ⊥
-      wrong c h x = omega (arith, h, x, q)
-
-      go : (x y : Bool) (f : Lent) (s : State) → flat s ≡ begunIn k w f → left m t ≡ cond (eqb (cond (not x) 9 (cond (not y) 11 0)) 0) (left 0 f) (left (cond (not x) 9 (cond (not y) 11 0)) r)
-          → left 0 (begunIn k w t) ≡ leftBy r (outcomeOf (cond (not x) (refused 9) (cond (not y) (refused 11) (done s))))
-      go false y f s u v = absurd (wrong 9 (omega arith) (ap (λ (l : Left). l .refusal) v))
-      go true false f s u v = absurd (wrong 11 (omega arith) (ap (λ (l : Left). l .refusal) v))
-      go true true f s u v = ap (λ (l : Left). left 0 (begunIn k w (l .lends))) v ∙ ap (left 0) (sym u)
+  pub after-begun : number (soundIn r words) ≡ 0 → n ≡ 0 → keySent k words (natAbs w) r ≡ sentAfter k n words w r
+  unfolding sentAfter sentBy view
+  after-begun z e =
+      let p : judge rest (sent k words (natAbs w) r) ≡ judge (sentTests k (view r) words w) (sent k words (natAbs w) r) = rw (eq-eqb n 0 e) in
+      ap (leftBy r) (sym (judge-rest (soundIn r words) rest _ (off-number (soundIn r words) refl z) ∙ p))
 
 -- ---- what the call answers, by what all but its beginning left
 
-module _ (k : Kind) (r : Lent) (words : List ℕ) (w : ℤ) (m : ℕ) (t : Lent) (e : left m t ≡ sentAfter k (beginOf (fixedOf (r .head)) w (modeOf k) .refusal) words w r) where
-  abbrev begins-by : ℕ
-  begins-by = beginOf (fixedOf (r .head)) w (modeOf k) .refusal
+-- a state whose totals and mode an update has begun with
+abbrev pub begunIn : Kind → ℤ → Lent → Lent
+begunIn k w t = lent (begun (t .head) (updateTotals (natAbs w)) (modeOf k)) (t .counters) (t .norms) (t .entries) (t .counts)
 
-  -- header, lengths and record are right
-  called : UpdateReady r words → leftBy r (outcomeOf (update k (view r) words w)) ≡ leftBy r (lentUpdateCall k r words w)
-  called p = sized-call k r words w (p .sized) ∙ placed-call k r words w (p .headed .lens) (p .headed .flags)
+-- a header with 19 lengths and flags
+pub placed-call : (k : Kind) (r : Lent) (words : List ℕ) (w : ℤ) → length (r .head .lens) ≡ maxLayers → length (r .head .flags) ≡ maxLayers → leftBy r (lentUpdateCall k r words w) ≡ leftBy r (updateCall k r words w)
+unfolding lentUpdateCall updateCall
+placed-call k r words w l f = ap (leftBy r) (judge-rest (placeTests (r .head)) (updateTests k r words w) _ (rw (eq-eqb _ maxLayers l), (rw (eq-eqb _ maxLayers f), tt)))
 
-  -- a refusal, and nothing is changed
-  pub call-refused : (m ≡ 0 → ⊥) → (t ≡ r) × (left m r ≡ leftBy r (lentUpdateCall k r words w))
+module _ (k : Kind) (r : Lent) (words : List ℕ) (w : ℤ) where
+  -- the tests of the beginning, and of the whole call
+  abbrev begins : List (Bool × ℕ)
+  begins = beginTests (scalarsOf (r .head)) w (modeOf k)
+
+  abbrev all : List (Bool × ℕ)
+  all = soundIn r words ++ (begins ++ sentTests k (view r) words w)
+
+  abbrev after : Lent
+  after = sent k words (natAbs w) r
+
+  after-is : sentAfter k (number begins) words w r ≡ left (number all) (cond (eqb (number all) 0) after r)
   unfolding sentAfter
-  call-refused h = go (eqb (soundIn r words) 0) refl (eqb begins-by 0) refl e
-    where
-      go : (a : Bool) → eqb (soundIn r words) 0 ≡ a → (b : Bool) → eqb begins-by 0 ≡ b
-          → left m t ≡ cond (not a) (left (soundIn r words) r) (cond (not b) (left begins-by r) (keySent k words (natAbs w) r)) → (t ≡ r) × (left m r ≡ leftBy r (lentUpdateCall k r words w))
-      go false p b q z = (ap (λ (l : Left). l .lends) z, ap (λ (l : Left). left (l .refusal) r) z ∙ unsound-call k r words w (eqb-false (soundIn r words) 0 p))
-      go true p false q z =
-          let s = ready-of r words (eqb-true (soundIn r words) 0 p) in
-          (ap (λ (l : Left). l .lends) z, ap (λ (l : Left). left (l .refusal) r) z ∙ not-begun k r words w s (eqb-false begins-by 0 q) ∙ called s)
-      go true p true q z =
-          let s = ready-of r words (eqb-true (soundIn r words) 0 p) in
-          let n = not-sent k r words w s (eqb-true begins-by 0 q) m t z h in
-          (n .0, n .1 ∙ called s)
+  after-is = ap (leftBy r) (judge-told (soundIn r words) begins (sentTests k (view r) words w) after (number begins) refl refl) ∙ left-by all r after refl
 
-  -- or the update began, and all was sent
-  pub call-done : m ≡ 0 → (begins-by ≡ 0) × (left 0 (begunIn k w t) ≡ leftBy r (lentUpdateCall k r words w))
-  unfolding sentAfter
-  call-done h = go (eqb (soundIn r words) 0) refl (eqb begins-by 0) refl e
-    where
-      go : (a : Bool) → eqb (soundIn r words) 0 ≡ a → (b : Bool) → eqb begins-by 0 ≡ b
-          → left m t ≡ cond (not a) (left (soundIn r words) r) (cond (not b) (left begins-by r) (keySent k words (natAbs w) r))
-          → (begins-by ≡ 0) × (left 0 (begunIn k w t) ≡ leftBy r (lentUpdateCall k r words w))
-      go false p b q z = absurd (eqb-false (soundIn r words) 0 p (sym (ap (λ (l : Left). l .refusal) z) ∙ h))
-      go true p false q z = absurd (eqb-false begins-by 0 q (sym (ap (λ (l : Left). l .refusal) z) ∙ h))
-      go true p true q z =
-          let s = ready-of r words (eqb-true (soundIn r words) 0 p) in
-          (eqb-true begins-by 0 q, all-sent k r words w s (eqb-true begins-by 0 q) m t z h ∙ called s)
+  call-is : lentUpdateCall k r words w ≡ judge all (flat (updated k (view r) words w))
+  unfolding lentUpdateCall updateTests
+  call-is = refl
+
+  updated-is : flat (updated k (view r) words w) ≡ begunIn k w after
+  unfolding updated view flat
+  updated-is = ap flat (sends-kept (addsAt (r .head .shape) words (natAbs w)) (manySent k (bottomBy (view r) words)) (firstSent k (bottomBy (view r) words)) (view r) (updateTotals (natAbs w)) (modeOf k))
+
+  module _ (m : ℕ) (t : Lent) (e : left m t ≡ sentAfter k (number begins) words w r) where
+    number-is : m ≡ number all
+    number-is = ap (λ (l : Left). l .refusal) (e ∙ after-is)
+
+    lends-are : t ≡ cond (eqb (number all) 0) after r
+    lends-are = ap (λ (l : Left). l .lends) (e ∙ after-is)
+
+    -- a refusal, and nothing is changed
+    pub call-refused : (m ≡ 0 → ⊥) → (t ≡ r) × (left m r ≡ leftBy r (lentUpdateCall k r words w))
+    call-refused h = (lends-are ∙ rw (ne-eqb (number all) 0 (λ z. h (number-is ∙ z))), left-refused all r _ m number-is h ∙ ap (leftBy r) (sym call-is))
+
+    -- or the update began, and all was sent
+    pub call-done : m ≡ 0 → (number begins ≡ 0) × (left 0 (begunIn k w t) ≡ leftBy r (lentUpdateCall k r words w))
+    call-done q =
+        let z : number all ≡ 0 = sym number-is ∙ q in
+        let t-is : t ≡ after = lends-are ∙ rw (eq-eqb (number all) 0 z) in (
+          number-off begins (off-first begins (sentTests k (view r) words w) (off-rest (soundIn r words) (begins ++ sentTests k (view r) words w) (off-number all refl z))),
+          ap (λ (s : Lent). left 0 (begunIn k w s)) t-is ∙ ap (left 0) (sym updated-is) ∙ left-done all r (flat (updated k (view r) words w)) refl z ∙ ap (leftBy r) (sym call-is),
+        )

@@ -1,7 +1,7 @@
 -- The public calls: what each answers, and what it leaves of the header and the slices that it is lent.
 use Prim.Native.Nat.{ℕ}
-use mathlib.Core.Bool.{false, cond, not, _&&_, _||_}
-use mathlib.Core.List.{List}
+use mathlib.Core.Bool.{Bool, false, cond, not}
+use mathlib.Core.List.{List, [], _∷_, _++_}
 use lib.ListN.{length, set, replicate}
 use lib.IntN.{ℤ}
 use lib.Dec.{eqb, leb, ltb}
@@ -11,35 +11,12 @@ use Rattle.header.specs.declared.Mode.the-variants as mode
 use Rattle.header.specs.declared.Header.{Header}
 use Rattle.header.specs.declared.Answered.{Answered}
 use Rattle.header.specs.Shape.{maxLayers, shapeRefusal}
-use Rattle.header.specs.Header.{zeroHeader, withWeight, withMode, withFlags, settled, clash, headerOk}
+use Rattle.header.specs.Totals.{setWeight}
+use Rattle.header.specs.Header.{zeroHeader, withTotals, withMode, withFlags, settled, clash, headerOk}
 use Rattle.univmon.specs.declared.Kind.{Kind}
-use Rattle.univmon.specs.Judged.{Out, refused, done}
-use Rattle.univmon.specs.Updates.{update}
-use Rattle.univmon.specs.Deltas.{Arrival, applyDelta}
-use Rattle.univmon.specs.Slices.{Lent, lent, lentOk, lengthsOk, view, flat, freshLent}
-
--- ---- what a call on slices answers
-
--- a refusal's number, or the header and slices after it
-pub data Outcome : Type 0 where
-  no : ℕ → Outcome
-  yes : Lent → Outcome
-
-abbrev pub outcomeOf : Out → Outcome
-outcomeOf (refused n) = Outcome.no n
-outcomeOf (done s) = Outcome.yes (flat s)
-
--- the number that is answered, 0 for none, and what is left: "Header and slices remain unchanged" on a refusal
-pub record Left : Type 0 where
-  pub refusal : ℕ
-  pub lends : Lent
-
-abbrev pub left : ℕ → Lent → Left
-left n r = record { refusal = n; lends = r }
-
-abbrev pub leftBy : Lent → Outcome → Left
-leftBy r (Outcome.no n) = left n r
-leftBy r (Outcome.yes t) = left 0 t
+use Rattle.univmon.specs.Updates.{updateTests, updated}
+use Rattle.layout.specs.Slices.{Lent, lent, lengthsOk, view, flat, freshLent}
+use Rattle.layout.specs.Outcomes.{Outcome, judge, Left, left, lentTests}
 
 -- ---- the calls
 
@@ -51,18 +28,18 @@ newCall sh xs ws es ns =
     (left 0 (freshLent sh)))
 
 unfoldable pub updateCall : Kind → Lent → List ℕ → ℤ → Outcome
-updateCall k r words w = cond (lentOk r) (outcomeOf (update k (view r) words w)) (Outcome.no 9)
+updateCall k r words w = judge (updateTests k r words w) (flat (updated k (view r) words w))
 
--- an update whose header's lengths and flags are lent beside the slices: both have 19 places, or 9 "wrong slice length"
+-- where a header's lengths and flags are lent beside the slices: both have 19 places, or 9 "wrong slice length"
+abbrev pub placeTests : Header → List (Bool × ℕ)
+placeTests h = (not (eqb (length (h .lens)) maxLayers), 9) ∷ (not (eqb (length (h .flags)) maxLayers), 9) ∷ []
+
 unfoldable pub lentUpdateCall : Kind → Lent → List ℕ → ℤ → Outcome
-lentUpdateCall k r words w = cond (eqb (length (r .head .lens)) maxLayers && eqb (length (r .head .flags)) maxLayers) (updateCall k r words w) (Outcome.no 9)
-
-unfoldable pub deltaCall : Lent → List ℕ → Arrival → Outcome
-deltaCall r words a = cond (lentOk r) (outcomeOf (applyDelta (view r) words a)) (Outcome.no 9)
+lentUpdateCall k r words w = judge (placeTests (r .head) ++ updateTests k r words w) (flat (updated k (view r) words w))
 
 -- "`clear` zeroes every slice", and the header is a fresh one
 unfoldable pub clearCall : Lent → Outcome
-clearCall r = cond (not (headerOk (r .head)) || not (lentOk r)) (Outcome.no 9) (Outcome.yes (freshLent (r .head .shape)))
+clearCall r = judge (lentTests r) (freshLent (r .head .shape))
 
 -- ---- the calls on the header alone
 
@@ -75,7 +52,7 @@ weightCall h w =
     cond (not (headerOk h)) (answered 9 h)
     (cond (clash (h .mode) mode.Standard) (answered 6 h)
     (cond (ltb top w) (answered 7 h)
-    (answered 0 (withMode (withWeight h w) (settled (h .mode))))))
+    (answered 0 (withMode (withTotals h (setWeight (h .totals) w)) (settled (h .mode))))))
 
 -- every flag falls
 unfoldable pub markCall : Header → Answered

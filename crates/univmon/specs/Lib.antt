@@ -1,9 +1,3 @@
-pub mod State
-pub mod Judged
-pub mod Updates
-pub mod Deltas
-pub mod Slices
 pub mod Calls
 pub mod Needs
-pub mod Spans
-pub mod Arriving
+pub mod Updates

@@ -1,41 +1,24 @@
 -- What the inner functions need, by name.
-use Prim.Native.Nat.{ℕ, _+_, _*_, _≤_, _<_}
+use Prim.Native.Nat.{ℕ, _+_, _≤_, _<_}
 use mathlib.Core.Path.{_≡_}
-use mathlib.Core.Bool.{Bool, true, cond, not, _&&_}
-use mathlib.Core.List.{List}
-use lib.ListN.{length, getD}
+use mathlib.Core.Bool.{Bool, true, not, _&&_}
+use mathlib.Core.List.{List, [], _∷_, _++_}
+use lib.ListN.{length}
 use lib.IntN.{ℤ, natAbs}
 use lib.Dec.{eqb}
 use Rattle.words.specs.Num.{top}
 use Rattle.header.specs.declared.Shape.{Shape}
 use Rattle.header.specs.declared.Header.{Header}
-use Rattle.header.specs.Shape.{maxLayers}
-use Rattle.header.specs.Accepted.{Accepted}
 use Rattle.header.specs.Header.{headerOk}
 use Rattle.layer.specs.Layer.{Layer, addLayer, addReads, addFits, item}
 use Rattle.univmon.specs.declared.Kind.{Kind}
-use Rattle.univmon.specs.State.{State, dimsAt, layerAt, allLayers, overLayers}
-use Rattle.univmon.specs.Slices.{Lent, lengthsOk, view, flat, cellsIn, normsIn, candsIn}
-use Rattle.univmon.specs.Updates.{recordLength, whoAt, firstSent, manySent, bottomBy}
-use Rattle.univmon.specs.Calls.{Left, left}
-
--- slices of these lengths are a shape's
-pub record Sizes (sh : Shape) (a b c d : ℕ) : Type 0 where
-  pub cells : a ≡ cellsIn sh
-  pub norms : b ≡ 2 * normsIn sh
-  pub entries : c ≡ 4 * candsIn sh
-  pub counts : d ≡ candsIn sh
-
--- a header and slices that fit together: an accepted shape, its lengths, and no layer with more candidates than seats
-pub record Standing (r : Lent) : Type 0 where
-  pub accepted : Accepted (r .head .shape)
-  pub sizes : Sizes (r .head .shape) (length (r .counters)) (length (r .norms)) (length (r .entries)) (length (r .counts))
-  pub lens : (m : ℕ) → m < r .head .shape .layers → getD (r .head .lens) m 0 ≤ r .head .shape .«heap_size»
-
--- lengths and flags have a place for each layer that a shape may have
-pub record Headed (h : Header) : Type 0 where
-  pub lens : length (h .lens) ≡ maxLayers
-  pub flags : length (h .flags) ≡ maxLayers
+use Rattle.layout.specs.State.{State, dimsAt, layerAt, allLayers, overLayers}
+use Rattle.layout.specs.Slices.{Lent, lengthsOk, view, flat}
+use Rattle.layout.specs.Records.{recordLength, whoAt}
+use Rattle.layout.specs.Needs.{Standing, Headed}
+use Rattle.layout.specs.Outcomes.{Left, leftBy, judge}
+use Rattle.univmon.specs.Updates.{firstSent, manySent, bottomBy, sentTests}
+use Rattle.univmon.specs.Calls.{placeTests}
 
 -- what the update of layer l needs
 pub record SendReady (r : Lent) (words : List ℕ) (w l : ℕ) : Type 0 where
@@ -79,17 +62,14 @@ pub record JudgeReady (r : Lent) (words : List ℕ) (w many first : ℕ) : Type 
   pub light : w ≤ top
   pub inside : first + many ≤ r .head .shape .layers
 
--- the number of the first of the two refusals that applies to the touched layers
-unfoldable pub judgedAt : Shape → List ℕ → ℕ → ℕ → ℕ → State → ℕ
-judgedAt sh words w many first s =
-    cond (not (allLayers (readsAt sh words w) many first s)) 9 (cond (not (allLayers (fitsAt sh words w) many first s)) 11 0)
+-- what is read of the touched layers, and what is added there: 9, 11
+abbrev pub layersTests : Shape → List ℕ → ℕ → ℕ → ℕ → State → List (Bool × ℕ)
+layersTests sh words w many first s = (not (allLayers (readsAt sh words w) many first s), 9) ∷ (not (allLayers (fitsAt sh words w) many first s), 11) ∷ []
 
 -- what tests and then sends of many layers from the first on leave: a refusal and nothing changed, or 0 and the layers changed
 unfoldable pub sentBy : List ℕ → ℕ → ℕ → ℕ → Lent → Left
 sentBy words w many first r =
-    cond (eqb (judgedAt (r .head .shape) words w many first (view r)) 0)
-    (left 0 (flat (overLayers (addsAt (r .head .shape) words w) many first (view r))))
-    (left (judgedAt (r .head .shape) words w many first (view r)) r)
+    leftBy r (judge (layersTests (r .head .shape) words w many first (view r)) (flat (overLayers (addsAt (r .head .shape) words w) many first (view r))))
 
 -- what the tests and sends of a key need
 pub record KeyReady (r : Lent) (words : List ℕ) (w : ℕ) : Type 0 where
@@ -102,22 +82,19 @@ pub record KeyReady (r : Lent) (words : List ℕ) (w : ℕ) : Type 0 where
 abbrev pub keySent : Kind → List ℕ → ℕ → Lent → Left
 keySent k words w r = sentBy words w (manySent k (bottomBy (view r) words)) (firstSent k (bottomBy (view r) words)) r
 
--- the number of the first of the refusals that applies to header, lengths and record
-unfoldable pub soundNumber : Header → ℕ → ℕ → ℕ → ℕ → ℕ → ℕ
-soundNumber h xs ws es ns n =
-    cond (not (eqb (length (h .lens)) maxLayers)) 9
-    (cond (not (eqb (length (h .flags)) maxLayers)) 9
-    (cond (not (headerOk h)) 9
-    (cond (not (lengthsOk (h .shape) xs ws es ns)) 9
-    (cond (not (eqb n (recordLength (h .shape .layers)))) 12 0))))
+-- header, lengths and record, where a header's lengths and flags are lent too: 9, 12
+abbrev pub soundTests : Header → ℕ → ℕ → ℕ → ℕ → ℕ → List (Bool × ℕ)
+soundTests h xs ws es ns n =
+    placeTests h
+    ++ ((not (headerOk h), 9) ∷ (not (lengthsOk (h .shape) xs ws es ns), 9) ∷ (not (eqb n (recordLength (h .shape .layers))), 12) ∷ [])
 
--- and to what is lent
-abbrev pub soundIn : Lent → List ℕ → ℕ
-soundIn r words = soundNumber (r .head) (length (r .counters)) (length (r .norms)) (length (r .entries)) (length (r .counts)) (length words)
+-- of what is lent
+abbrev pub soundIn : Lent → List ℕ → List (Bool × ℕ)
+soundIn r words = soundTests (r .head) (length (r .counters)) (length (r .norms)) (length (r .entries)) (length (r .counts)) (length words)
 
--- what all of an update but its beginning leaves, by the number that the beginning is refused with: weight and mode stay
+-- what all of an update but its beginning leaves, where n is what the beginning is refused with: totals and mode stay
 unfoldable pub sentAfter : Kind → ℕ → List ℕ → ℤ → Lent → Left
 sentAfter k n words w r =
-    cond (not (eqb (soundIn r words) 0)) (left (soundIn r words) r)
-    (cond (not (eqb n 0)) (left n r)
-    (keySent k words (natAbs w) r))
+    leftBy r
+    (judge (soundIn r words ++ ((not (eqb n 0), n) ∷ sentTests k (view r) words w))
+    (flat (overLayers (addsAt (r .head .shape) words (natAbs w)) (manySent k (bottomBy (view r) words)) (firstSent k (bottomBy (view r) words)) (view r))))

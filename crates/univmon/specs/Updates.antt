@@ -1,33 +1,20 @@
 -- The two updates.
-use Prim.Native.Nat.{ℕ, _+_, _*_}
+use Prim.Native.Nat.{ℕ, _+_}
 use mathlib.Core.Bool.{Bool, not}
-use mathlib.Core.List.{List, [], _∷_}
-use lib.ListN.{length, getD}
+use mathlib.Core.List.{List, [], _∷_, _++_}
 use lib.IntN.{ℤ, natAbs}
-use lib.Signed.{nonNeg}
-use lib.Dec.{eqb, leb}
-use Rattle.words.specs.Num.{top}
-use Rattle.heap_moves.specs.declared.Who.{Who}
 use Rattle.header.specs.declared.Mode.{Mode}
 use Rattle.header.specs.declared.Mode.the-variants as mode
 use Rattle.header.specs.Shape.{bottomOf}
-use Rattle.header.specs.Header.{clash, begun}
+use Rattle.header.specs.Totals.{updateTotals}
+use Rattle.header.specs.Header.{scalarsOf, begun, beginTests}
 use Rattle.layer.specs.Layer.{Layer, Item, addLayer, addReads, addFits}
 use Rattle.univmon.specs.declared.Kind.{Kind}
 use Rattle.univmon.specs.declared.Kind.the-variants as kind
-use Rattle.univmon.specs.State.{State, shapeOf, dimsAt, overLayers, allLayers, withHead}
-use Rattle.univmon.specs.Judged.{Out, judge, unsound}
-
--- "a record is key, bottom hash (seed index 19), then high and low half of the 128-bit hash for each layer, 2 + 2 × layers words"
-abbrev pub recordLength : ℕ → ℕ
-recordLength layers = 2 + 2 * layers
-
-abbrev pub bottomWord : List ℕ → ℕ
-bottomWord words = getD words 1 0
-
--- the key of a record, with layer l's hash
-abbrev pub whoAt : List ℕ → ℕ → Who
-whoAt words l = record { key = getD words 0 0; bottom = bottomWord words; high = getD words (2 + 2 * l) 0; low = getD words (3 + 2 * l) 0 }
+use Rattle.layout.specs.State.{State, shapeOf, dimsAt, overLayers, allLayers, withHead}
+use Rattle.layout.specs.Slices.{Lent, view}
+use Rattle.layout.specs.Records.{bottomWord, whoAt}
+use Rattle.layout.specs.Outcomes.{recordTests}
 
 -- the update as layer l sees it
 abbrev pub itemAt : List ℕ → ℤ → ℕ → Item
@@ -54,22 +41,18 @@ bottomBy s words = bottomOf (bottomWord words) (shapeOf s .layers)
 abbrev pub sentAll : Kind → (ℕ → Layer → Bool) → State → List ℕ → Bool
 sentAll k p s words = allLayers p (manySent k (bottomBy s words)) (firstSent k (bottomBy s words)) s
 
--- "Other calls: 9 for lengths and headers, 12, 10, 5, 8, 6, 7, 9 for what is read, 11."
-unfoldable pub updateTests : Kind → State → List ℕ → ℤ → List (Bool × ℕ)
-updateTests k s words w =
-    (unsound s, 9)
-    ∷ (not (eqb (length words) (recordLength (shapeOf s .layers))), 12)
-    ∷ (not (nonNeg w), 5)
-    ∷ (clash (s .head .mode) (modeOf k), 6)
-    ∷ (not (leb (s .head .weight + natAbs w) top), 7)
-    ∷ (not (sentAll k (λ l y. addReads (dimsAt (shapeOf s) l) (itemAt words w l) y) s words), 9)
-    ∷ (not (sentAll k (λ l y. addFits (dimsAt (shapeOf s) l) (itemAt words w l) y) s words), 11)
-    ∷ []
-
 unfoldable pub updated : Kind → State → List ℕ → ℤ → State
 updated k s words w =
     overLayers (λ l y. addLayer (dimsAt (shapeOf s) l) (itemAt words w l) y) (manySent k (bottomBy s words)) (firstSent k (bottomBy s words))
-    (withHead s (begun (s .head) (natAbs w) (modeOf k)))
+    (withHead s (begun (s .head) (updateTotals (natAbs w)) (modeOf k)))
 
-unfoldable pub update : Kind → State → List ℕ → ℤ → Out
-update k s words w = judge (updateTests k s words w) (updated k s words w)
+-- what is read of the touched layers, and what is added there: 9, 11
+abbrev pub sentTests : Kind → State → List ℕ → ℤ → List (Bool × ℕ)
+sentTests k s words w =
+    (not (sentAll k (λ l y. addReads (dimsAt (shapeOf s) l) (itemAt words w l) y) s words), 9)
+    ∷ (not (sentAll k (λ l y. addFits (dimsAt (shapeOf s) l) (itemAt words w l) y) s words), 11)
+    ∷ []
+
+-- "Other calls: 9 for lengths and headers, 12, 10, 5, 8, 6, 7, 9 for what is read, 11.": here 9, 12; 5, 6, 7; 9, 11
+unfoldable pub updateTests : Kind → Lent → List ℕ → ℤ → List (Bool × ℕ)
+updateTests k r words w = recordTests r words ++ (beginTests (scalarsOf (r .head)) w (modeOf k) ++ sentTests k (view r) words w)

@@ -9,8 +9,9 @@ use header::Header;
 ghost use mathlib.Core.Path.{_≡_};
 ghost use Prim.Native.Nat.{ℕ};
 ghost use Rattle.univmon.specs.declared.Kind.the-variants as kind;
-ghost use Rattle.univmon.specs.Slices.{lent};
-ghost use Rattle.univmon.specs.Calls.{left, leftBy, updateCall};
+ghost use Rattle.layout.specs.Slices.{lent};
+ghost use Rattle.layout.specs.Outcomes.{left, leftBy};
+ghost use Rattle.univmon.specs.Calls.{updateCall};
 
 // An update of any kind, on anything: 9, 12, 5, 6, 7, 9, 11. Refused or not, lengths and flags go back
 // from where they were lent, and a refused update left them as they were: so no second copy is kept.
@@ -33,7 +34,7 @@ fn update_held(
     let mut lens = header.lens;
     let refusal = update(
         kind,
-        header.fixed(),
+        header.scalars(),
         begun.refusal,
         &mut flags,
         &mut lens,

@@ -1,14 +1,16 @@
 // States with nothing counted.
-use crate::sizes::lengths_match;
 use header::Answered;
 use header::CheckedShape;
 use header::Header;
 use header::Shape;
+use layout::lengths_match;
+use layout::lent_refusal;
 ghost use mathlib.Core.Path.{_≡_};
 ghost use lib.ListN.{length, replicate};
 ghost use lib.IntN.{pos};
-ghost use Rattle.univmon.specs.Slices.{lent};
-ghost use Rattle.univmon.specs.Calls.{left, leftBy, newCall, clearCall};
+ghost use Rattle.layout.specs.Slices.{lent};
+ghost use Rattle.layout.specs.Outcomes.{left, leftBy};
+ghost use Rattle.univmon.specs.Calls.{newCall, clearCall};
 
 fn zero_all(counters: &mut [i64], norms: &mut [u64], entries: &mut [u64], counts: &mut [i64])
     ensures { λ _. ⌜ now (counters .exit) ≡ replicate (length (now (counters .entry))) (pos 0) ⌝ }
@@ -77,22 +79,13 @@ pub fn clear(
         ≡ leftBy (lent header (now (counters .entry)) (now (norms .entry)) (now (entries .entry)) (now (counts .entry)))
         (clearCall (lent header (now (counters .entry)) (now (norms .entry)) (now (entries .entry)) (now (counts .entry)))) ⌝ }
 {
-    if !header.in_range() {
-        return Answered { refusal: 9, header };
-    }
-    let shape = header.shape;
-    if !lengths_match(
-        shape,
-        counters.len(),
-        norms.len(),
-        entries.len(),
-        counts.len(),
-    ) {
-        return Answered { refusal: 9, header };
+    let refusal = lent_refusal(header, &*counters, &*norms, &*entries, &*counts);
+    if refusal != 0 {
+        return Answered { refusal, header };
     }
     zero_all(counters, norms, entries, counts);
     Answered {
         refusal: 0,
-        header: Header::fresh(shape),
+        header: Header::fresh(header.shape),
     }
 }

@@ -1,20 +1,23 @@
 // What an update reads of the layers that it touches, and whether it fits: nothing is written here.
 // The state is lent whole, so that a contract can name it; no entry is read.
-use crate::sizes::dims;
-use crate::sizes::span_of;
-use crate::update::who_in;
-use header::Fixed;
+use header::Scalars;
+use layout::cells_at;
+use layout::dims;
+use layout::norms_at;
+use layout::seats_at;
+use layout::who_in;
 ghost use mathlib.Core.Path.{_≡_};
 ghost use mathlib.Core.Bool.{Bool, true};
 ghost use Prim.Native.Nat.{ℕ, _+_, _<_};
+ghost use Rattle.words.specs.Tests.{number};
 ghost use Rattle.header.specs.Header.{headOf};
-ghost use Rattle.univmon.specs.State.{layerAt, allLayers};
-ghost use Rattle.univmon.specs.Slices.{lent, view};
-ghost use Rattle.univmon.specs.Needs.{JudgeReady, readsAt, readyAt, judgedAt};
+ghost use Rattle.layout.specs.State.{layerAt, allLayers};
+ghost use Rattle.layout.specs.Slices.{lent, view};
+ghost use Rattle.univmon.specs.Needs.{JudgeReady, readsAt, readyAt, layersTests};
 
 // Whether one layer is ready for the update.
 fn ready_at(
-    h: Fixed,
+    h: Scalars,
     flags: &[bool],
     lens: &[usize],
     counters: &[i64],
@@ -29,20 +32,13 @@ fn ready_at(
     ensures { λ r. ⌜ r ≡ readyAt (h .shape) (now (words .entry)) weight l (layerAt (view (lent (headOf h (now (flags .entry)) (now (lens .entry))) (now (counters .entry)) (now (norms .entry)) (now (entries .entry)) (now (counts .entry)))) l) ⌝ }
 {
     let shape = h.shape;
-    let s = span_of(shape, l);
     let d = dims(shape, l);
     let who = who_in(words, l);
     let len = lens[l];
-    let ca = s.cells;
-    let ce = s.cells_end;
-    let na = s.norms;
-    let ne = s.norms_end;
-    let ta = s.seats;
-    let te = s.seats_end;
     layer::add_ready(
-        &counters[ca..ce],
-        &norms[na..ne],
-        &counts[ta..te],
+        cells_at(shape, l, counters),
+        norms_at(shape, l, norms),
+        seats_at(shape, l, counts),
         d,
         len,
         who,
@@ -52,7 +48,7 @@ fn ready_at(
 
 // Whether what the update reads of one layer is in range.
 fn reads_at(
-    h: Fixed,
+    h: Scalars,
     flags: &[bool],
     lens: &[usize],
     counters: &[i64],
@@ -66,20 +62,13 @@ fn reads_at(
     ensures { λ r. ⌜ ((w : ℕ) → r ≡ readsAt (h .shape) (now (words .entry)) w l (layerAt (view (lent (headOf h (now (flags .entry)) (now (lens .entry))) (now (counters .entry)) (now (norms .entry)) (now (entries .entry)) (now (counts .entry)))) l)) ⌝ }
 {
     let shape = h.shape;
-    let s = span_of(shape, l);
     let d = dims(shape, l);
     let who = who_in(words, l);
     let len = lens[l];
-    let ca = s.cells;
-    let ce = s.cells_end;
-    let na = s.norms;
-    let ne = s.norms_end;
-    let ta = s.seats;
-    let te = s.seats_end;
     layer::add_reads(
-        &counters[ca..ce],
-        &norms[na..ne],
-        &counts[ta..te],
+        cells_at(shape, l, counters),
+        norms_at(shape, l, norms),
+        seats_at(shape, l, counts),
         d,
         len,
         who,
@@ -88,7 +77,7 @@ fn reads_at(
 
 // Whether every touched layer is ready.
 fn all_ready(
-    h: Fixed,
+    h: Scalars,
     flags: &[bool],
     lens: &[usize],
     counters: &[i64],
@@ -127,7 +116,7 @@ fn all_ready(
 
 // Whether all that is read of the touched layers is in range.
 fn all_read(
-    h: Fixed,
+    h: Scalars,
     flags: &[bool],
     lens: &[usize],
     counters: &[i64],
@@ -156,7 +145,7 @@ fn all_read(
 // leave the range. One pass where all is well; only a refusal looks again, since 9 anywhere comes
 // before 11 anywhere.
 pub fn judge_layers(
-    h: Fixed,
+    h: Scalars,
     flags: &[bool],
     lens: &[usize],
     counters: &[i64],
@@ -169,7 +158,7 @@ pub fn judge_layers(
     many: usize,
 ) -> u64
     requires { ⌜ JudgeReady (lent (headOf h (now flags) (now lens)) (now counters) (now norms) (now entries) (now counts)) (now words) weight many first ⌝ }
-    ensures { λ r. ⌜ r ≡ judgedAt (h .shape) (now (words .entry)) weight many first (view (lent (headOf h (now (flags .entry)) (now (lens .entry))) (now (counters .entry)) (now (norms .entry)) (now (entries .entry)) (now (counts .entry)))) ⌝ }
+    ensures { λ r. ⌜ r ≡ number (layersTests (h .shape) (now (words .entry)) weight many first (view (lent (headOf h (now (flags .entry)) (now (lens .entry))) (now (counters .entry)) (now (norms .entry)) (now (entries .entry)) (now (counts .entry))))) ⌝ }
 {
     if all_ready(
         h,

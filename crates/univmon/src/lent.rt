@@ -4,19 +4,20 @@
 use crate::Kind;
 use crate::stages::mode_of;
 use crate::stages::update;
-use header::Begun;
-use header::Fixed;
+use header::AnsweredLent;
+use header::Scalars;
 ghost use mathlib.Core.Path.{_≡_};
 ghost use Prim.Native.Nat.{ℕ};
 ghost use Rattle.header.specs.Header.{headOf};
 ghost use Rattle.univmon.specs.declared.Kind.the-variants as kind;
-ghost use Rattle.univmon.specs.Slices.{lent};
-ghost use Rattle.univmon.specs.Calls.{left, leftBy, lentUpdateCall};
+ghost use Rattle.layout.specs.Slices.{lent};
+ghost use Rattle.layout.specs.Outcomes.{left, leftBy};
+ghost use Rattle.univmon.specs.Calls.{lentUpdateCall};
 
 // An update of any kind, on anything.
 fn update_lent(
     kind: Kind,
-    had: Fixed,
+    had: Scalars,
     flags: &mut [bool],
     lens: &mut [usize],
     counters: &mut [i64],
@@ -25,8 +26,8 @@ fn update_lent(
     counts: &mut [i64],
     words: &[u64],
     weight: i64,
-) -> Begun
-    ensures { λ r. ⌜ left (r .refusal) (lent (headOf (r .fixed) (now (flags .exit)) (now (lens .exit))) (now (counters .exit)) (now (norms .exit)) (now (entries .exit)) (now (counts .exit)))
+) -> AnsweredLent
+    ensures { λ r. ⌜ left (r .refusal) (lent (headOf (r .scalars) (now (flags .exit)) (now (lens .exit))) (now (counters .exit)) (now (norms .exit)) (now (entries .exit)) (now (counts .exit)))
         ≡ leftBy (lent (headOf had (now (flags .entry)) (now (lens .entry))) (now (counters .entry)) (now (norms .entry)) (now (entries .entry)) (now (counts .entry)))
         (lentUpdateCall kind (lent (headOf had (now (flags .entry)) (now (lens .entry))) (now (counters .entry)) (now (norms .entry)) (now (entries .entry)) (now (counts .entry))) (now (words .entry)) weight) ⌝ }
 {
@@ -45,9 +46,9 @@ fn update_lent(
         weight,
     );
     if refusal != 0 {
-        return Begun {
+        return AnsweredLent {
             refusal,
-            fixed: had,
+            scalars: had,
         };
     }
     begun
@@ -55,7 +56,7 @@ fn update_lent(
 
 // The key goes to layers 0 to its bottom layer.
 pub fn update_weighted_lent(
-    had: Fixed,
+    had: Scalars,
     lens: &mut [usize],
     flags: &mut [bool],
     counters: &mut [i64],
@@ -64,8 +65,8 @@ pub fn update_weighted_lent(
     counts: &mut [i64],
     words: &[u64],
     weight: i64,
-) -> Begun
-    ensures { λ r. ⌜ left (r .refusal) (lent (headOf (r .fixed) (now (flags .exit)) (now (lens .exit))) (now (counters .exit)) (now (norms .exit)) (now (entries .exit)) (now (counts .exit)))
+) -> AnsweredLent
+    ensures { λ r. ⌜ left (r .refusal) (lent (headOf (r .scalars) (now (flags .exit)) (now (lens .exit))) (now (counters .exit)) (now (norms .exit)) (now (entries .exit)) (now (counts .exit)))
         ≡ leftBy (lent (headOf had (now (flags .entry)) (now (lens .entry))) (now (counters .entry)) (now (norms .entry)) (now (entries .entry)) (now (counts .entry)))
         (lentUpdateCall kind.Standard (lent (headOf had (now (flags .entry)) (now (lens .entry))) (now (counters .entry)) (now (norms .entry)) (now (entries .entry)) (now (counts .entry))) (now (words .entry)) weight) ⌝ }
 {
@@ -85,7 +86,7 @@ pub fn update_weighted_lent(
 
 // The key goes to its bottom layer only.
 pub fn update_weighted_terminal_lent(
-    had: Fixed,
+    had: Scalars,
     lens: &mut [usize],
     flags: &mut [bool],
     counters: &mut [i64],
@@ -94,8 +95,8 @@ pub fn update_weighted_terminal_lent(
     counts: &mut [i64],
     words: &[u64],
     weight: i64,
-) -> Begun
-    ensures { λ r. ⌜ left (r .refusal) (lent (headOf (r .fixed) (now (flags .exit)) (now (lens .exit))) (now (counters .exit)) (now (norms .exit)) (now (entries .exit)) (now (counts .exit)))
+) -> AnsweredLent
+    ensures { λ r. ⌜ left (r .refusal) (lent (headOf (r .scalars) (now (flags .exit)) (now (lens .exit))) (now (counters .exit)) (now (norms .exit)) (now (entries .exit)) (now (counts .exit)))
         ≡ leftBy (lent (headOf had (now (flags .entry)) (now (lens .entry))) (now (counters .entry)) (now (norms .entry)) (now (entries .entry)) (now (counts .entry)))
         (lentUpdateCall kind.Terminal (lent (headOf had (now (flags .entry)) (now (lens .entry))) (now (counters .entry)) (now (norms .entry)) (now (entries .entry)) (now (counts .entry))) (now (words .entry)) weight) ⌝ }
 {

@@ -2,18 +2,15 @@
 // `Header` by value and four slices that the caller lends: counters, norms, entries and counts. For
 // updates lengths and flags may be lent too.
 mod calls;
-mod delta;
 mod fresh;
 mod judge;
 mod lent;
 mod marks;
-pub mod sizes;
 mod stages;
 mod update;
 
 pub use calls::update_weighted;
 pub use calls::update_weighted_terminal;
-pub use delta::apply_delta;
 pub use fresh::clear;
 pub use fresh::new;
 pub use lent::update_weighted_lent;
@@ -26,10 +23,4 @@ pub use marks::set_total_weight;
 pub enum Kind {
     Standard,
     Terminal,
-}
-
-// How much of the stream reached a relay that is fed by deltas.
-pub enum Fidelity {
-    EveryInsert,
-    PromotedOnly,
 }

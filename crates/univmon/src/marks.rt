@@ -5,9 +5,6 @@ use header::Mode;
 ghost use mathlib.Core.Path.{_≡_};
 ghost use Rattle.univmon.specs.Calls.{weightCall, markCall, markLayerCall};
 
-// 2^52, the greatest weight.
-const TOP: u64 = 4503599627370496;
-
 // Sets the weight that a relay fed by deltas believes it has seen: 9, 6 in terminal mode, 7.
 pub fn set_total_weight(header: Header, weight: u64) -> Answered
     ensures { λ r. ⌜ r ≡ weightCall header weight ⌝ }
@@ -19,13 +16,15 @@ pub fn set_total_weight(header: Header, weight: u64) -> Answered
     if header::clashes(had, Mode::Standard) {
         return Answered { refusal: 6, header };
     }
-    if TOP < weight {
+    if words::MAX_WEIGHT < weight {
         return Answered { refusal: 7, header };
     }
     let settled = header::join(had, Mode::Standard);
     Answered {
         refusal: 0,
-        header: header.with_weight(weight).with_mode(settled),
+        header: header
+            .with_totals(header.totals.with_weight(weight))
+            .with_mode(settled),
     }
 }
 

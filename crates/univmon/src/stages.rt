@@ -2,20 +2,21 @@
 // and mode. Everything is judged before anything is written, so a refused call leaves all as it was.
 use crate::Kind;
 use crate::judge::judge_layers;
-use crate::sizes::lengths_match;
 use crate::update::send;
-use header::Fixed;
 use header::Mode;
+use header::Scalars;
 use header::Shape;
+use layout::lengths_match;
 ghost use mathlib.Core.Path.{_≡_};
 ghost use Prim.Native.Nat.{ℕ, _≤_};
 ghost use lib.IntN.{natAbs};
 ghost use Rattle.words.specs.Num.{top};
+ghost use Rattle.words.specs.Tests.{number};
 ghost use Rattle.header.specs.Header.{headOf};
-ghost use Rattle.univmon.specs.Slices.{lent};
+ghost use Rattle.layout.specs.Slices.{lent};
 ghost use Rattle.univmon.specs.Updates.{modeOf, firstSent};
-ghost use Rattle.univmon.specs.Calls.{left};
-ghost use Rattle.univmon.specs.Needs.{JudgeReady, KeyReady, soundNumber, sentBy, keySent, sentAfter};
+ghost use Rattle.layout.specs.Outcomes.{left};
+ghost use Rattle.univmon.specs.Needs.{JudgeReady, KeyReady, soundTests, sentBy, keySent, sentAfter};
 
 pub fn mode_of(kind: Kind) -> Mode
     ensures { λ r. ⌜ r ≡ modeOf kind ⌝ }
@@ -39,7 +40,7 @@ fn first_sent(kind: Kind, bottom: usize) -> usize
 // The number that header, lengths and record are refused with, 0 for none: 9, 12. Lengths and flags
 // have 19 places, or it is 9 too.
 fn sound_refusal(
-    had: Fixed,
+    had: Scalars,
     flags: &[bool],
     lens: &[usize],
     counters: usize,
@@ -48,7 +49,7 @@ fn sound_refusal(
     counts: usize,
     words: usize,
 ) -> u64
-    ensures { λ r. ⌜ r ≡ soundNumber (headOf had (now (flags .entry)) (now (lens .entry))) counters norms entries counts words ⌝ }
+    ensures { λ r. ⌜ r ≡ number (soundTests (headOf had (now (flags .entry)) (now (lens .entry))) counters norms entries counts words) ⌝ }
 {
     if lens.len() != Shape::MAX_LAYERS {
         return 9;
@@ -57,7 +58,7 @@ fn sound_refusal(
         return 9;
     }
     let shape = had.shape;
-    if !header::fields_in_range(shape, had.weight, lens, flags) {
+    if !header::fields_in_range(shape, had.totals, lens, flags) {
         return 9;
     }
     if !lengths_match(shape, counters, norms, entries, counts) {
@@ -71,7 +72,7 @@ fn sound_refusal(
 
 // The layers that a key reaches are judged, and sent to if all is well: 9, 11.
 fn send_judged(
-    h: Fixed,
+    h: Scalars,
     flags: &mut [bool],
     lens: &mut [usize],
     counters: &mut [i64],
@@ -122,7 +123,7 @@ fn send_judged(
 // A key goes to the layers that its bottom hash says: 9, 11.
 fn send_key(
     kind: Kind,
-    h: Fixed,
+    h: Scalars,
     flags: &mut [bool],
     lens: &mut [usize],
     counters: &mut [i64],
@@ -157,7 +158,7 @@ fn send_key(
 // All of an update but its beginning, of which it is told the number: 9, 12, that number, 9, 11.
 pub fn update(
     kind: Kind,
-    had: Fixed,
+    had: Scalars,
     begins: u64,
     flags: &mut [bool],
     lens: &mut [usize],

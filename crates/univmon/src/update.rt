@@ -1,36 +1,23 @@
-// What both updates write, once everything is judged: functions of this crate only, so they may ask for what `calls` has tested.
-use crate::sizes::dims;
-use crate::sizes::span_of;
-use header::Fixed;
-use heap_moves::Who;
+// What both updates write, once everything is judged: functions of this crate only, so they may ask for
+// what `stages` has tested.
+use header::Scalars;
+use layout::dims;
+use layout::span_of;
+use layout::who_in;
 ghost use mathlib.Core.Path.{_≡_};
 ghost use mathlib.Core.Bool.{Bool};
-ghost use Prim.Native.Nat.{ℕ, _+_, _*_, _≤_, _<_};
-ghost use lib.ListN.{length};
+ghost use Prim.Native.Nat.{ℕ, _+_};
 ghost use Rattle.layer.specs.Layer.{item, addLayer};
 ghost use Rattle.header.specs.Header.{headOf};
-ghost use Rattle.univmon.specs.State.{dimsAt, layerAt, putLayer, overLayers};
-ghost use Rattle.univmon.specs.Slices.{lent, view};
-ghost use Rattle.univmon.specs.Updates.{whoAt};
-ghost use Rattle.univmon.specs.Needs.{Standing, SendReady, SendsReady, addsAt};
-
-// Who a record names, with the hash of a layer.
-pub fn who_in(words: &[u64], l: usize) -> Who
-    requires { ⌜ (l < 19) × (4 + 2 * l ≤ length (now words)) ⌝ }
-    ensures { λ r. ⌜ r ≡ whoAt (now (words .entry)) l ⌝ }
-{
-    let at = 2 + 2 * l;
-    Who {
-        key: words[0],
-        bottom: words[1],
-        high: words[at],
-        low: words[at + 1],
-    }
-}
+ghost use Rattle.layout.specs.State.{dimsAt, layerAt, putLayer, overLayers};
+ghost use Rattle.layout.specs.Slices.{lent, view};
+ghost use Rattle.layout.specs.Records.{whoAt};
+ghost use Rattle.layout.specs.Needs.{Standing};
+ghost use Rattle.univmon.specs.Needs.{SendReady, SendsReady, addsAt};
 
 // Sends an update to one layer.
 fn send_one(
-    h: Fixed,
+    h: Scalars,
     flags: &mut [bool],
     lens: &mut [usize],
     counters: &mut [i64],
@@ -79,7 +66,7 @@ fn send_one(
 
 // Sends an update to many layers from the first on.
 pub fn send(
-    h: Fixed,
+    h: Scalars,
     flags: &mut [bool],
     lens: &mut [usize],
     counters: &mut [i64],

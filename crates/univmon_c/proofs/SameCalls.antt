@@ -1,11 +1,12 @@
 -- Calls from C on what the library left are the library's own: the statements stand in specs/SameCalls.antt. Assumes nothing.
-use mathlib.Core.Path.{_≡_, refl, ap, ap₂, _∙_}
+use mathlib.Core.Path.{_≡_, refl, ap, ap₂}
 use mathlib.Core.Bool.{true}
 use Rattle.header.specs.declared.Mode.{Mode}
 use Rattle.header.specs.declared.Mode.the-variants as mode
-use Rattle.univmon.specs.Slices.{Lent, lent}
-use Rattle.univmon.specs.Calls.{Outcome, leftBy, updateCall, lentUpdateCall}
-use Rattle.univmon_merge.specs.Calls.{mergeCall}
+use Rattle.layout.specs.Slices.{Lent, lent}
+use Rattle.layout.specs.Outcomes.{Outcome, leftBy}
+use Rattle.univmon.specs.Calls.{updateCall, lentUpdateCall}
+use Rattle.univmon_merge.specs.Merges.{mergeCall}
 use Rattle.univmon_c.specs.Crossing.{isMode, modeOf, modeNumber}
 use Rattle.univmon_c.specs.Calls.{ofLent, crossed, changeBy, mergeBy}
 use Rattle.univmon_c.specs.SameCalls.{ThereAndBack, FromC}
@@ -23,7 +24,7 @@ is-mode mode.Terminal = refl
 
 pub there-and-back : ThereAndBack
 there-and-back r =
-    λ i. lent (record { shape = r .head .shape; weight = r .head .weight; mode = mode-back (r .head .mode) i; flags = r .head .flags; lens = r .head .lens }) (r .counters) (r .norms) (r .entries) (r .counts)
+    λ i. lent (record { shape = r .head .shape; totals = r .head .totals; mode = mode-back (r .head .mode) i; flags = r .head .flags; lens = r .head .lens }) (r .counters) (r .norms) (r .entries) (r .counts)
 
 change-same : (f : Lent → Outcome) (r : Lent) → changeBy true f (ofLent r) ≡ crossed (leftBy r (f r))
 unfolding changeBy
@@ -36,9 +37,9 @@ merge-same f r t =
     (ap₂ (λ (y z : Lent). crossed (leftBy y (f y z))) (there-and-back r) (there-and-back t))
 
 pub from-c : FromC
-from-c sh r c =
+from-c r =
     record {
-      update = λ k words w. change-same (λ s. updateCall k s words w) (r .lends);
-      lent = λ k words w. change-same (λ s. lentUpdateCall k s words w) (r .lends) ∙ ap (λ (o : Outcome). crossed (leftBy (r .lends) o)) (c .lent k words w);
-      merge = merge-same mergeCall (r .lends);
+      update = λ k words w. change-same (λ s. updateCall k s words w) r;
+      lent = λ k words w. change-same (λ s. lentUpdateCall k s words w) r;
+      merge = merge-same mergeCall r;
     }

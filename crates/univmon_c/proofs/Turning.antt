@@ -1,23 +1,23 @@
 -- A call as C makes it is the library's own on the header that C's stands for.
-use Prim.Native.Nat.{ℕ, zero, suc, _≤_, _<_}
+use Prim.Native.Nat.{ℕ, _≤_, _<_}
 use mathlib.Core.Path.{_≡_, refl, sym, ap, _∙_}
 use mathlib.Core.Bool.{Bool, true, false}
 use mathlib.Core.List.{List}
 use lib.IntN.{ℤ}
-use native.Mathlib.Omega.{arith}
 use borrow.Author.Tests.{le-leb, lt-leb}
 use Rattle.header.specs.declared.Shape.{Shape}
 use Rattle.header.specs.declared.Header.{Header}
 use Rattle.header.specs.declared.Answered.{Answered}
-use Rattle.univmon.specs.Slices.{Lent}
+use Rattle.layout.specs.Slices.{Lent}
 use Rattle.univmon.specs.declared.Kind.{Kind}
-use Rattle.univmon.specs.Calls.{Outcome, Left, left, leftBy, lentUpdateCall}
+use Rattle.layout.specs.Outcomes.{Outcome, Left, left, leftBy}
+use Rattle.univmon.specs.Calls.{lentUpdateCall}
 use Rattle.univmon_c.proofs.Shapes.{update-shape}
 use Rattle.estimates.specs.declared.Answer.{Answer}
 use Rattle.estimates.specs.declared.PanelAnswer.{PanelAnswer}
 use Rattle.estimates.specs.Calls.{refusedBy, noPanel}
 use Rattle.univmon_c.specs.declared.CHeader.{CHeader}
-use Rattle.univmon_c.specs.Crossing.{modeOf, modeNumber, headerOf, cHeader, cAnswered, cAnswer, cPanel}
+use Rattle.univmon_c.specs.Crossing.{modeNumber, headerOf, cAnswered, cAnswer, cPanel}
 use Rattle.univmon_c.specs.Calls.{CLent, cLent, lentOf, ofLent, cLeft, crossed, changeBy, mergeBy, headBy, answerBy, panelBy, checkBy}
 
 -- ---- calls that change a state
@@ -43,7 +43,7 @@ shaped r t =
       rows = r .head .rows;
       cols = r .head .cols;
       layers = r .head .layers;
-      weight = t .head .weight;
+      weight = t .head .totals .weight;
       mode = modeNumber (t .head .mode);
       lens = t .head .lens;
       flags = t .head .flags;
@@ -60,7 +60,7 @@ stepped k words w r h n t e = ap (λ (sh : Shape). cLeft n (at sh)) (sym same) �
           rows = sh .rows;
           cols = sh .cols;
           layers = sh .layers;
-          weight = t .head .weight;
+          weight = t .head .totals .weight;
           mode = modeNumber (t .head .mode);
           lens = t .head .lens;
           flags = t .head .flags;
@@ -123,13 +123,3 @@ unfolding checkBy
 checked f r h b e = e ∙ simp (le-leb _ _ h)
 
 -- ---- a refused call gives the header back as it came
-
-number-back : (n : ℕ) → n ≤ 2 → modeNumber (modeOf n) ≡ n
-unfolding modeOf
-number-back zero h = refl
-number-back (suc zero) h = refl
-number-back (suc (suc zero)) h = refl
-number-back (suc (suc (suc n))) h = absurd (omega arith)
-
-pub header-back : (h : CHeader) → h .mode ≤ 2 → cHeader (headerOf h) ≡ h
-header-back h k = rw (number-back (h .mode) k)

@@ -6,8 +6,8 @@ use mathlib.Core.List.{List}
 use lib.IntN.{ℤ}
 use Rattle.header.specs.declared.Header.{Header}
 use Rattle.header.specs.declared.Answered.{Answered}
-use Rattle.univmon.specs.Slices.{Lent, lent}
-use Rattle.univmon.specs.Calls.{Outcome, Left, leftBy}
+use Rattle.layout.specs.Slices.{Lent, lent}
+use Rattle.layout.specs.Outcomes.{Outcome, Left, leftBy}
 use Rattle.estimates.specs.declared.Answer.{Answer}
 use Rattle.estimates.specs.declared.PanelAnswer.{PanelAnswer}
 use Rattle.estimates.specs.Calls.{refusedBy, noPanel}

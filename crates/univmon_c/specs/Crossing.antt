@@ -7,12 +7,12 @@ use Rattle.header.specs.declared.Mode.{Mode}
 use Rattle.header.specs.declared.Mode.the-variants as mode
 use Rattle.header.specs.declared.Header.{Header}
 use Rattle.header.specs.declared.Answered.{Answered}
-use Rattle.header.specs.declared.Fixed.{Fixed}
-use Rattle.header.specs.declared.Begun.{Begun}
+use Rattle.header.specs.declared.Scalars.{Scalars}
+use Rattle.header.specs.declared.AnsweredLent.{AnsweredLent}
 use Rattle.header.specs.declared.BottomLayer.{BottomLayer}
 use Rattle.header.specs.declared.BottomLayer.the-variants as bottom
-use Rattle.univmon.specs.declared.Fidelity.{Fidelity}
-use Rattle.univmon.specs.declared.Fidelity.the-variants as fidelity
+use Rattle.univmon_delta.specs.declared.Fidelity.{Fidelity}
+use Rattle.univmon_delta.specs.declared.Fidelity.the-variants as fidelity
 use Rattle.sums.specs.declared.G.{G}
 use Rattle.sums.specs.declared.G.the-variants as g
 use Rattle.estimates.specs.declared.Answer.{Answer}
@@ -58,7 +58,7 @@ abbrev pub headerOf : CHeader → Header
 headerOf h =
     record {
       shape = record { «heap_size» = h .«heap_size»; rows = h .rows; cols = h .cols; layers = h .layers };
-      weight = h .weight;
+      totals = record { weight = h .weight };
       mode = modeOf (h .mode);
       flags = h .flags;
       lens = h .lens;
@@ -71,7 +71,7 @@ cHeader h =
       rows = h .shape .rows;
       cols = h .shape .cols;
       layers = h .shape .layers;
-      weight = h .weight;
+      weight = h .totals .weight;
       mode = modeNumber (h .mode);
       lens = h .lens;
       flags = h .flags;
@@ -81,13 +81,13 @@ cHeader h =
 abbrev pub cHead : CShape → ℕ → ℕ → List ℕ → List Bool → CHeader
 cHead s w m ns fs = record { «heap_size» = s .«heap_size»; rows = s .rows; cols = s .cols; layers = s .layers; weight = w; mode = m; lens = ns; flags = fs }
 
-abbrev pub cFixed : CShape → ℕ → ℕ → Fixed
-cFixed s w m = record { shape = record { «heap_size» = s .«heap_size»; rows = s .rows; cols = s .cols; layers = s .layers }; weight = w; mode = modeOf m }
+abbrev pub cScalars : CShape → ℕ → ℕ → Scalars
+cScalars s w m = record { shape = record { «heap_size» = s .«heap_size»; rows = s .rows; cols = s .cols; layers = s .layers }; totals = record { weight = w }; mode = modeOf m }
 
 -- ---- answers
 
-abbrev pub cStep : Begun → CStep
-cStep b = record { refusal = b .refusal; weight = b .fixed .weight; mode = modeNumber (b .fixed .mode) }
+abbrev pub cStep : AnsweredLent → CStep
+cStep b = record { refusal = b .refusal; weight = b .scalars .totals .weight; mode = modeNumber (b .scalars .mode) }
 
 abbrev pub cAnswered : Answered → CAnswered
 cAnswered a = record { refusal = a .refusal; header = cHeader (a .header) }

@@ -12,9 +12,10 @@ ghost use mathlib.Core.Bool.{Bool, true};
 ghost use Prim.Native.Nat.{ℕ};
 ghost use Rattle.header.specs.Shape.{shapeRefusal, bottomLayer};
 ghost use Rattle.univmon.specs.declared.Kind.the-variants as kind;
-ghost use Rattle.univmon.specs.Arriving.{arrival};
-ghost use Rattle.univmon.specs.Calls.{newCall, updateCall, deltaCall, clearCall, weightCall, markCall, markLayerCall};
-ghost use Rattle.univmon_merge.specs.Calls.{mergeCall};
+ghost use Rattle.univmon_delta.specs.Arriving.{arrival};
+ghost use Rattle.univmon.specs.Calls.{newCall, updateCall, clearCall, weightCall, markCall, markLayerCall};
+ghost use Rattle.univmon_delta.specs.Deltas.{deltaCall};
+ghost use Rattle.univmon_merge.specs.Merges.{mergeCall};
 ghost use Rattle.univmon_c.specs.Crossing.{isFidelity, fidelityOf, cBottom};
 ghost use Rattle.univmon_c.specs.Calls.{cLent, cLeft, crossed, changeBy, mergeBy, headBy};
 
@@ -172,7 +173,7 @@ pub extern "C" fn univmon_apply_delta(
     }
     let h = header_of(header);
     let f = fidelity_of(fidelity);
-    c_answered(univmon::apply_delta(
+    c_answered(univmon_delta::apply_delta(
         h,
         counters,
         norms,

@@ -9,14 +9,15 @@ use crate::CStep;
 use estimates::Answer;
 use estimates::PanelAnswer;
 use header::Answered;
-use header::Begun;
+use header::AnsweredLent;
 use header::BottomLayer;
-use header::Fixed;
 use header::Header;
 use header::Mode;
+use header::Scalars;
 use header::Shape;
+use header::Totals;
 use sums::G;
-use univmon::Fidelity;
+use univmon_delta::Fidelity;
 ghost use mathlib.Core.Path.{_≡_};
 ghost use mathlib.Core.Bool.{Bool};
 ghost use Prim.Native.Nat.{ℕ};
@@ -32,7 +33,7 @@ ghost use Rattle.univmon_c.specs.Crossing.{
   cBottom,
   cAnswer,
   cPanel,
-  cFixed,
+  cScalars,
   cStep,
 };
 
@@ -100,7 +101,7 @@ pub fn header_of(h: CHeader) -> Header
     let lens = h.lens;
     Header {
         shape,
-        weight: h.weight,
+        totals: Totals { weight: h.weight },
         mode,
         flags,
         lens,
@@ -119,7 +120,7 @@ fn c_header(h: Header) -> CHeader
         rows: h.shape.rows,
         cols: h.shape.cols,
         layers: h.shape.layers,
-        weight: h.weight,
+        weight: h.totals.weight,
         mode,
         lens,
         flags,
@@ -127,8 +128,8 @@ fn c_header(h: Header) -> CHeader
 }
 
 // What is left of a header without lengths and flags.
-pub fn fixed_of(s: CShape, weight: u64, mode: u64) -> Fixed
-    ensures { λ r. ⌜ r ≡ cFixed s weight mode ⌝ }
+pub fn scalars_of(s: CShape, weight: u64, mode: u64) -> Scalars
+    ensures { λ r. ⌜ r ≡ cScalars s weight mode ⌝ }
 {
     let shape = Shape {
         heap_size: s.heap_size,
@@ -137,24 +138,24 @@ pub fn fixed_of(s: CShape, weight: u64, mode: u64) -> Fixed
         layers: s.layers,
     };
     let had = mode_of(mode);
-    Fixed {
+    Scalars {
         shape,
-        weight,
+        totals: Totals { weight },
         mode: had,
     }
 }
 
 // ---- answers
 
-pub fn c_step(b: Begun) -> CStep
+pub fn c_step(b: AnsweredLent) -> CStep
     ensures { λ r. ⌜ r ≡ cStep b ⌝ }
 {
-    let fixed = b.fixed;
-    let now = fixed.mode;
+    let scalars = b.scalars;
+    let now = scalars.mode;
     let mode = mode_number(now);
     CStep {
         refusal: b.refusal,
-        weight: fixed.weight,
+        weight: scalars.totals.weight,
         mode,
     }
 }

@@ -4,7 +4,7 @@ use crate::CShape;
 use crate::CStep;
 use crate::crossing::LAST_MODE;
 use crate::crossing::c_step;
-use crate::crossing::fixed_of;
+use crate::crossing::scalars_of;
 ghost use mathlib.Core.Path.{_≡_};
 ghost use mathlib.Core.Bool.{Bool, true};
 ghost use Prim.Native.Nat.{ℕ};
@@ -38,7 +38,7 @@ pub extern "C" fn univmon_update_weighted_lent(
             mode,
         };
     }
-    let had = fixed_of(shape, weight_had, mode);
+    let had = scalars_of(shape, weight_had, mode);
     c_step(univmon::update_weighted_lent(
         had,
         lens,
@@ -77,7 +77,7 @@ pub extern "C" fn univmon_update_weighted_terminal_lent(
             mode,
         };
     }
-    let had = fixed_of(shape, weight_had, mode);
+    let had = scalars_of(shape, weight_had, mode);
     c_step(univmon::update_weighted_terminal_lent(
         had,
         lens,

@@ -6,6 +6,8 @@ pub mod changing;
 mod crossing;
 pub mod lending;
 
+use header::Shape;
+
 // A header as C has it: mode 0 is unset, 1 standard, 2 terminal; another number is refused with 9.
 #[repr(C)]
 pub struct CHeader {
@@ -15,8 +17,8 @@ pub struct CHeader {
     pub layers: usize,
     pub weight: u64,
     pub mode: u64,
-    pub lens: [usize; 19],
-    pub flags: [bool; 19],
+    pub lens: [usize; Shape::MAX_LAYERS],
+    pub flags: [bool; Shape::MAX_LAYERS],
 }
 
 // What a call that changes a state answers: a refusal and the header as it was, or 0 and the new one.

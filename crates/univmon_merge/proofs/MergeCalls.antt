@@ -1,170 +1,121 @@
--- The number that a merge is refused with, and what the call leaves by it. Assumes nothing.
+-- The tests of a merge, stage by stage, and what the merge of the layers needs once none of them holds. Assumes nothing.
 use mathlib.Core.Path.{_≡_, refl, sym, ap, _∙_}
-use mathlib.Core.Bool.{Bool, true, false, cond, not, _&&_, _||_}
-use Prim.Native.Nat.{ℕ, zero, suc, _+_, _≤_}
+use mathlib.Core.Bool.{Bool, _&&_}
+use mathlib.Core.List.{List, _++_}
+use Prim.Native.Nat.{ℕ, zero, suc}
 use native.Mathlib.Omega.{arith}
-use lib.Dec.{eqb, leb}
-use borrow.Author.Tests.{eq-eqb, ne-eqb, eqb-true, leb-true}
-use Rattle.words.specs.Num.{top}
-use Rattle.words.proofs.Bools.{never, and-left, and-right}
-use Rattle.header.specs.declared.Shape.{Shape}
+use borrow.Author.Tests.{not-false}
+use Rattle.words.specs.Tests.{number}
+use Rattle.words.proofs.Tests.{Off, number-off, off-number, number-first, number-rest, off-first, off-rest}
 use Rattle.header.specs.declared.Mode.{Mode}
-use Rattle.header.specs.Header.{headerOk, clash, begun}
-use Rattle.header.proofs.Ranges.{ranged-of}
+use Rattle.header.specs.declared.Totals.{Totals}
+use Rattle.header.specs.Totals.{totalsTests}
+use Rattle.header.proofs.Shapes.{same-of}
+use Rattle.header.specs.Header.{begun}
 use Rattle.layer.specs.Layer.{Layer}
-use Rattle.univmon.specs.State.{State, sizesOk, layerAt, overLayers, allLayers}
-use Rattle.univmon.specs.Slices.{Lent, lent, lentOk, view, flat}
-use Rattle.univmon.specs.Judged.{refused, done}
-use Rattle.univmon_merge.specs.Merges.{sameShape, mergeTests, merged, merge}
-use Rattle.univmon.specs.Calls.{Outcome, outcomeOf, left, leftBy}
-use Rattle.univmon_merge.specs.Calls.{mergeCall}
-use Rattle.univmon.specs.Needs.{Standing}
-use Rattle.univmon_merge.specs.Pairs.{Paired, MergesReady, readsWith, fitsWith, mergesWith, lentStands, headsNumber, layersNumber, mergeNumber}
-use Rattle.univmon.proofs.Lengths.{standing-of, sized-view}
+use Rattle.layout.specs.State.{layerAt, overLayers, allLayers}
+use Rattle.layout.specs.Slices.{Lent, lent, view, flat}
+use Rattle.layout.specs.Outcomes.{left, leftBy, lentTests}
+use Rattle.univmon_merge.specs.Merges.{headsTests, pairTests, mergeTests, merged, mergeCall}
+use Rattle.univmon_merge.specs.Pairs.{Paired, MergesReady, readsWith, fitsWith, mergesWith}
+use Rattle.layout.proofs.Judged.{left-refused, left-done}
+use Rattle.layout.proofs.Lengths.{stands-of}
 
--- a header in range and slices of its lengths fit together
-pub stands-of : (r : Lent) → lentStands r ≡ true → Standing r
-stands-of r e = standing-of r (and-left (headerOk (r .head)) (lentOk r) e) (and-right (headerOk (r .head)) (lentOk r) e)
+-- ---- the headers
 
-pub light-of : (r : Lent) → lentStands r ≡ true → r .head .weight ≤ top
-light-of r e = ranged-of (r .head) (and-left (headerOk (r .head)) (lentOk r) e) .light
-
--- ---- one shape
-
-pub same-of : (a b : Shape) → sameShape a b ≡ true → b ≡ a
-same-of a b e =
-    let l = eqb (a .layers) (b .layers) in
-    let r = eqb (a .rows) (b .rows) in
-    let c = eqb (a .cols) (b .cols) in
-    let z = eqb (a .«heap_size») (b .«heap_size») in
-    let lrc = and-left (l && r && c) z e in
-    let lr = and-left (l && r) c lrc in
-    let pl = sym (eqb-true (a .layers) (b .layers) (and-left l r lr)) in
-    let pr = sym (eqb-true (a .rows) (b .rows) (and-right l r lr)) in
-    let pc = sym (eqb-true (a .cols) (b .cols) (and-right (l && r) c lrc)) in
-    let pz = sym (eqb-true (a .«heap_size») (b .«heap_size») (and-right (l && r && c) z e)) in
-    λ i. record { «heap_size» = pz i; rows = pr i; cols = pc i; layers = pl i }
-
--- three tests that hold leave the last
-pub last-test : (l r c z : Bool) → l ≡ true → r ≡ true → c ≡ true → z ≡ l && r && c && z
-last-test l r c z a b d = rw (a, b, d)
-
-abbrev headsBy : Bool → Bool → Bool → ℕ
-headsBy s c w = cond (not s) 10 (cond c 6 (cond (not w) 7 0))
-
-heads-same : (s c w : Bool) → headsBy s c w ≡ 0 → s ≡ true
-heads-same false c w e = absurd (omega (arith, e))
-heads-same true c w e = refl
-
--- two states that stand, with no refusal of their headers
-pub paired-of : (r t : Lent) → lentStands r ≡ true → lentStands t ≡ true → headsNumber (r .head) (t .head) ≡ 0 → Paired r t (r .head .shape .layers) 0
-unfolding headsNumber
-paired-of r t a b e =
-    record {
-      standing = stands-of r a;
-      other = stands-of t b;
-      same = same-of (r .head .shape) (t .head .shape) (heads-same (sameShape (r .head .shape) (t .head .shape)) (clash (r .head .mode) (t .head .mode)) (leb (r .head .weight + t .head .weight) top) e);
-      inside = omega arith;
-    }
-
--- ---- the tests, by what each of them found
-
--- header and lengths of the first and of the second, shapes, modes, weights, reads, sums
-abbrev numberBy : Bool → Bool → Bool → Bool → Bool → Bool → Bool → Bool → Bool → ℕ
-numberBy h l g k s c w q f = cond (not (h && l)) 9 (cond (not (g && k)) 9 (cond (not (eqb (headsBy s c w) 0)) (headsBy s c w) (cond (not q) 9 (cond (not f) 11 0))))
-
-call-by : (h l z g k y s c w q f : Bool) (m : State) (r : Lent) → (l ≡ true → z ≡ true) → (k ≡ true → y ≡ true)
-    → leftBy r (cond (not l || not k) (Outcome.no 9) (outcomeOf (cond (not (h && z) || not (g && y)) (refused 9) (cond (not s) (refused 10) (cond c (refused 6) (cond (not w) (refused 7) (cond (not q) (refused 9) (cond (not f) (refused 11) (done m)))))))))
-    ≡ cond (eqb (numberBy h l g k s c w q f) 0) (left 0 (flat m)) (left (numberBy h l g k s c w q f) r)
-call-by false false z g k y s c w q f m r e d = refl
-call-by true false z g k y s c w q f m r e d = refl
-call-by false true z g false y s c w q f m r e d = refl
-call-by true true z false false y s c w q f m r e d = refl
-call-by true true z true false y s c w q f m r e d = refl
-call-by false true false g true y s c w q f m r e d = absurd (never (e refl))
-call-by true true false g true y s c w q f m r e d = absurd (never (e refl))
-call-by false true true g true y s c w q f m r e d = refl
-call-by true true true false true false s c w q f m r e d = absurd (never (d refl))
-call-by true true true true true false s c w q f m r e d = absurd (never (d refl))
-call-by true true true false true true s c w q f m r e d = refl
-call-by true true true true true true false c w q f m r e d = refl
-call-by true true true true true true true true w q f m r e d = refl
-call-by true true true true true true true false false q f m r e d = refl
-call-by true true true true true true true false true false f m r e d = refl
-call-by true true true true true true true false true true false m r e d = refl
-call-by true true true true true true true false true true true m r e d = refl
-
-record Passed (h l g k s c w q f : Bool) : Type 0 where
-  own : h && l ≡ true
-  other : g && k ≡ true
-  heads : headsBy s c w ≡ 0
-  light : w ≡ true
-  read : q ≡ true
-  fit : f ≡ true
-
-passed : (h l g k s c w q f : Bool) → numberBy h l g k s c w q f ≡ 0 → Passed h l g k s c w q f
-passed false l g k s c w q f e = absurd (omega (arith, e))
-passed true false g k s c w q f e = absurd (omega (arith, e))
-passed true true false k s c w q f e = absurd (omega (arith, e))
-passed true true true false s c w q f e = absurd (omega (arith, e))
-passed true true true true false c w q f e = absurd (omega (arith, e))
-passed true true true true true true w q f e = absurd (omega (arith, e))
-passed true true true true true false false q f e = absurd (omega (arith, e))
-passed true true true true true false true false f e = absurd (omega (arith, e))
-passed true true true true true false true true false e = absurd (omega (arith, e))
-passed true true true true true false true true true e = record { own = refl; other = refl; heads = refl; light = refl; read = refl; fit = refl }
-
--- the tests of the layers look neither at the weight nor at the mode
-all-begun : (p : ℕ → Layer → Bool) (k l : ℕ) (r : Lent) (w : ℕ) (m : Mode) → allLayers p k l (view (lent (begun (r .head) w m) (r .counters) (r .norms) (r .entries) (r .counts))) ≡ allLayers p k l (view r)
+-- the tests of the layers look neither at the totals nor at the mode
+all-begun : (p : ℕ → Layer → Bool) (k l : ℕ) (r : Lent) (w : Totals) (m : Mode) → allLayers p k l (view (lent (begun (r .head) w m) (r .counters) (r .norms) (r .entries) (r .counts))) ≡ allLayers p k l (view r)
 unfolding allLayers view layerAt
 all-begun p zero l r w m = refl
 all-begun p (suc k) l r w m = ap (λ (b : Bool). p l (layerAt (view r) l) && b) (all-begun p k (suc l) r w m)
 
--- ---- the call
-
 module _ (r t : Lent) where
-  call-is : leftBy r (mergeCall r t) ≡ cond (eqb (mergeNumber r t) 0) (left 0 (flat (merged (view r) (view t)))) (left (mergeNumber r t) r)
-  unfolding mergeCall merge mergeTests mergeNumber headsNumber layersNumber view
-  call-is =
-      call-by (headerOk (r .head)) (lentOk r) (sizesOk (view r)) (headerOk (t .head)) (lentOk t) (sizesOk (view t)) (sameShape (r .head .shape) (t .head .shape)) (clash (r .head .mode) (t .head .mode))
-      (leb (r .head .weight + t .head .weight) top) (allLayers (readsWith (view t)) (r .head .shape .layers) 0 (view r)) (allLayers (fitsWith (view t)) (r .head .shape .layers) 0 (view r)) (merged (view r) (view t)) r
-      (sized-view r) (sized-view t)
+  -- ---- the number of each stage, where those before it refuse nothing
+
+  abbrev heads : List (Bool × ℕ)
+  heads = headsTests (r .head) (t .head)
+
+  abbrev pairs : List (Bool × ℕ)
+  pairs = pairTests (r .head .shape .layers) (view r) (view t)
+
+  pub own-refused : (n : ℕ) → n ≡ number (lentTests r) → (n ≡ 0 → ⊥) → n ≡ number (mergeTests r t)
+  unfolding mergeTests
+  own-refused n e h = e ∙ sym (number-first (lentTests r) (lentTests t ++ (heads ++ pairs)) (λ z. h (e ∙ z)))
+
+  module _ (a : number (lentTests r) ≡ 0) where
+    own-passed : number (mergeTests r t) ≡ number (lentTests t ++ (heads ++ pairs))
+    unfolding mergeTests
+    own-passed = number-rest (lentTests r) (lentTests t ++ (heads ++ pairs)) (off-number (lentTests r) refl a)
+
+    pub other-refused : (n : ℕ) → n ≡ number (lentTests t) → (n ≡ 0 → ⊥) → n ≡ number (mergeTests r t)
+    other-refused n e h = e ∙ sym (own-passed ∙ number-first (lentTests t) (heads ++ pairs) (λ z. h (e ∙ z)))
+
+    module _ (b : number (lentTests t) ≡ 0) where
+      both-passed : number (mergeTests r t) ≡ number (heads ++ pairs)
+      both-passed = own-passed ∙ number-rest (lentTests t) (heads ++ pairs) (off-number (lentTests t) refl b)
+
+      pub heads-refused : (n : ℕ) → n ≡ number heads → (n ≡ 0 → ⊥) → n ≡ number (mergeTests r t)
+      heads-refused n e h = e ∙ sym (both-passed ∙ number-first heads pairs (λ z. h (e ∙ z)))
+
+      module _ (e : number heads ≡ 0) where
+        pub pairs-number : number pairs ≡ number (mergeTests r t)
+        pairs-number = sym (both-passed ∙ number-rest heads pairs (off-number heads refl e))
+
+        -- two states of one shape
+        pub paired-of : Paired r t (r .head .shape .layers) 0
+        paired-of =
+            record {
+              standing = stands-of r a;
+              other = stands-of t b;
+              same = same-of (r .head .shape) (t .head .shape) (not-false _ (off-number heads refl e .0));
+              inside = omega arith;
+            }
+
+  -- ---- the call
 
   -- refused: the number, and nothing changed
-  pub merge-refused : (n : ℕ) → n ≡ mergeNumber r t → (n ≡ 0 → ⊥) → left n r ≡ leftBy r (mergeCall r t)
-  merge-refused n e k = rw e (sym (call-is ∙ rw (ne-eqb (mergeNumber r t) 0 (λ z. k (e ∙ z)))))
-
-  -- done
-  pub merge-done : mergeNumber r t ≡ 0 → left 0 (flat (merged (view r) (view t))) ≡ leftBy r (mergeCall r t)
-  merge-done z = sym (call-is ∙ rw (eq-eqb (mergeNumber r t) 0 z))
-
-  passes : mergeNumber r t ≡ 0
-      → Passed (headerOk (r .head)) (lentOk r) (headerOk (t .head)) (lentOk t) (sameShape (r .head .shape) (t .head .shape)) (clash (r .head .mode) (t .head .mode))
-      (leb (r .head .weight + t .head .weight) top) (allLayers (readsWith (view t)) (r .head .shape .layers) 0 (view r)) (allLayers (fitsWith (view t)) (r .head .shape .layers) 0 (view r))
-  unfolding mergeNumber headsNumber layersNumber
-  passes z = passed (headerOk (r .head)) (lentOk r) (headerOk (t .head)) (lentOk t) (sameShape (r .head .shape) (t .head .shape)) (clash (r .head .mode) (t .head .mode))
-      (leb (r .head .weight + t .head .weight) top) (allLayers (readsWith (view t)) (r .head .shape .layers) 0 (view r)) (allLayers (fitsWith (view t)) (r .head .shape .layers) 0 (view r)) z
-
-  -- the weights may be added
-  pub weights-fit : mergeNumber r t ≡ 0 → r .head .weight + t .head .weight ≤ top
-  weights-fit z = leb-true (r .head .weight + t .head .weight) top ((passes z) .light)
-
-  -- what is not refused may be made, with whatever weight and mode
-  pub merges-of : (w : ℕ) (m : Mode) → mergeNumber r t ≡ 0 → MergesReady (lent (begun (r .head) w m) (r .counters) (r .norms) (r .entries) (r .counts)) t (r .head .shape .layers)
-  unfolding headsNumber
-  merges-of w m z =
-      let p = passes z in
-      let q = paired-of r t (p .own) (p .other) (p .heads) in
-      let s = q .standing in
-      record {
-        ready = record {
-          paired = record { standing = record { accepted = s .accepted; sizes = s .sizes; lens = s .lens }; other = q .other; same = q .same; inside = q .inside };
-          read = all-begun (readsWith (view t)) (r .head .shape .layers) 0 r w m ∙ p .read;
-        };
-        fit = all-begun (fitsWith (view t)) (r .head .shape .layers) 0 r w m ∙ p .fit;
-      }
+  pub merge-refused : (n : ℕ) → n ≡ number (mergeTests r t) → (n ≡ 0 → ⊥) → left n r ≡ leftBy r (mergeCall r t)
+  unfolding mergeCall
+  merge-refused n e k = left-refused (mergeTests r t) r (flat (merged (view r) (view t))) n e k
 
   -- the layers merged are the state after the merge
-  pub merged-is : overLayers (mergesWith (r .head .shape) (view t)) (r .head .shape .layers) 0 (view (lent (begun (r .head) (t .head .weight) (t .head .mode)) (r .counters) (r .norms) (r .entries) (r .counts))) ≡ merged (view r) (view t)
+  pub merged-is : overLayers (mergesWith (r .head .shape) (view t)) (r .head .shape .layers) 0 (view (lent (begun (r .head) (t .head .totals) (t .head .mode)) (r .counters) (r .norms) (r .entries) (r .counts))) ≡ merged (view r) (view t)
   unfolding merged view
   merged-is = refl
+
+  module _ (z : number (mergeTests r t) ≡ 0) where
+    -- done
+    pub merge-done : left 0 (flat (merged (view r) (view t))) ≡ leftBy r (mergeCall r t)
+    unfolding mergeCall mergeTests
+    merge-done = left-done (mergeTests r t) r (flat (merged (view r) (view t))) refl z
+
+    -- what no test holds of
+    none : Off (lentTests r ++ (lentTests t ++ (heads ++ pairs)))
+    unfolding mergeTests
+    none = off-number (mergeTests r t) refl z
+
+    others : Off (lentTests t ++ (heads ++ pairs))
+    others = off-rest (lentTests r) (lentTests t ++ (heads ++ pairs)) none
+
+    inner : Off (heads ++ pairs)
+    inner = off-rest (lentTests t) (heads ++ pairs) others
+
+    -- the totals may be added
+    pub totals-fit : number (totalsTests (r .head .totals) (t .head .totals)) ≡ 0
+    totals-fit = number-off (totalsTests (r .head .totals) (t .head .totals)) (off-first heads pairs inner .1 .1)
+
+    -- what is not refused may be made, with whatever totals and mode
+    pub merges-of : (w : Totals) (m : Mode) → MergesReady (lent (begun (r .head) w m) (r .counters) (r .norms) (r .entries) (r .counts)) t (r .head .shape .layers)
+    merges-of w m =
+        let own = number-off (lentTests r) (off-first (lentTests r) (lentTests t ++ (heads ++ pairs)) none) in
+        let other = number-off (lentTests t) (off-first (lentTests t) (heads ++ pairs) others) in
+        let q = paired-of own other (number-off heads (off-first heads pairs inner)) in
+        let s = q .standing in
+        let p = off-rest heads pairs inner in
+        record {
+          ready = record {
+            paired = record { standing = record { accepted = s .accepted; sizes = s .sizes; lens = s .lens }; other = q .other; same = q .same; inside = q .inside };
+            read = all-begun (readsWith (view t)) (r .head .shape .layers) 0 r w m ∙ not-false _ (p .0);
+          };
+          fit = all-begun (fitsWith (view t)) (r .head .shape .layers) 0 r w m ∙ not-false _ (p .1 .0);
+        }

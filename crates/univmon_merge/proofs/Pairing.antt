@@ -2,7 +2,7 @@
 use mathlib.Core.Path.{_≡_, refl, sym, ap, ap₂, _∙_, subst}
 use mathlib.Core.Bool.{Bool, true, false, _&&_}
 use mathlib.Core.List.{List}
-use Prim.Native.Nat.{ℕ, _-_, _*_, _<_}
+use Prim.Native.Nat.{ℕ, _*_, _<_}
 use native.Mathlib.Omega.{arith}
 use lib.ListN.{length, getD, take}
 use lib.IntN.{ℤ}
@@ -10,115 +10,102 @@ use Rattle.words.specs.Num.{allIn}
 use Rattle.words.specs.Parts.{part}
 use Rattle.words.proofs.Bools.{and-left, and-right}
 use Rattle.header.specs.declared.Shape.{Shape}
-use Rattle.layer.specs.Layer.{layerOf}
 use Rattle.layer.specs.Merge.{mergeReads, mergeFits}
 use Rattle.layer.specs.Gather as gather
 use Rattle.layer.specs.Needs.{Housed}
 use Rattle.layer.proofs.Merges.{merge-reads-are, merge-fits-are}
-use Rattle.univmon.specs.State.{dimsAt, layerAt}
-use Rattle.univmon.specs.Slices.{Lent, view}
+use Rattle.layout.specs.declared.Span.{Span}
+use Rattle.layout.specs.State.{dimsAt, cellOff, normOff, candOff, layerAt}
+use Rattle.layout.specs.Slices.{Lent, view}
+use Rattle.layout.specs.Needs.{Sizes}
+use Rattle.layout.proofs.Pieces.{words-long}
+use Rattle.layout.proofs.Views.{shapeBy, layerBy, layerHere, layer-view, housed-here}
+use Rattle.layout.proofs.Handed.{Spanned, cellPart, normPart, wordPart, seatPart, cell-piece, housed, word-length, handed-is}
 use Rattle.univmon_merge.specs.Pairs.{Paired, MergeReady, readsWith, fitsWith}
-use Rattle.univmon.proofs.Views.{shapeBy}
-use Rattle.univmon.proofs.Sends.{Spanned, housed, words-long, handed-is}
 
-module _ (r t : Lent) (l : ℕ) (p : Paired r t 1 l) (ca ce na ne ea ee ta te : ℕ) (s : Spanned (shapeBy r) l ca ce na ne ea ee ta te) where
+-- the counters and the used counts of a layer, in the parts of the slices
+abbrev cellsOf : Shape → Lent → ℕ → List ℤ
+cellsOf sh r l = part (cellOff sh l) (dimsAt sh l .rows * dimsAt sh l .cols) (r .counters)
+
+abbrev countsOf : Shape → Lent → ℕ → List ℤ
+countsOf sh r l = take (getD (r .head .lens) l 0) (part (candOff sh l) (dimsAt sh l .size) (r .counts))
+
+module _ {r t : Lent} {l : ℕ} (p : Paired r t 1 l) where
   pub pair-inside : l < shapeBy r .layers
   pair-inside = omega (arith, p .inside)
 
-  pub other-inside : l < shapeBy t .layers
+  other-inside : l < shapeBy t .layers
   other-inside = subst (λ (sh : Shape). l < sh .layers) (sym (p .same)) pair-inside
 
-  -- a layer of the second stands where that of the first stands
-  pub other-spanned : Spanned (shapeBy t) l ca ce na ne ea ee ta te
-  other-spanned = subst (λ (sh : Shape). Spanned sh l ca ce na ne ea ee ta te) (sym (p .same)) s
+  -- ---- the second state, by the shape of the first
 
-  pub own-is : layerAt (view r) l
-      ≡ layerOf (dimsAt (shapeBy r) l) (part ca (ce - ca) (r .counters)) (part na (ne - na) (r .norms)) (part ea (ee - ea) (r .entries)) (part ta (te - ta) (r .counts)) (getD (r .head .lens) l 0) (getD (r .head .flags) l false)
-  own-is = handed-is r (p .standing) l pair-inside ca ce na ne ea ee ta te s
+  pub other-sizes : Sizes (shapeBy r) (length (t .counters)) (length (t .norms)) (length (t .entries)) (length (t .counts))
+  other-sizes = subst (λ (sh : Shape). Sizes sh (length (t .counters)) (length (t .norms)) (length (t .entries)) (length (t .counts))) (p .same) (p .other .sizes)
 
-  pub other-is : layerAt (view t) l
-      ≡ layerOf (dimsAt (shapeBy r) l) (part ca (ce - ca) (t .counters)) (part na (ne - na) (t .norms)) (part ea (ee - ea) (t .entries)) (part ta (te - ta) (t .counts)) (getD (t .head .lens) l 0) (getD (t .head .flags) l false)
-  other-is =
-      handed-is t (p .other) l other-inside ca ce na ne ea ee ta te other-spanned
-      ∙ ap (λ (sh : Shape). layerOf (dimsAt sh l) (part ca (ce - ca) (t .counters)) (part na (ne - na) (t .norms)) (part ea (ee - ea) (t .entries)) (part ta (te - ta) (t .counts)) (getD (t .head .lens) l 0) (getD (t .head .flags) l false)) (p .same)
+  pub other-is : layerAt (view t) l ≡ layerBy (shapeBy r) t l
+  other-is = layer-view t (p .other .sizes) l other-inside ∙ ap (λ (sh : Shape). layerBy sh t l) (p .same)
 
-  -- ---- lengths
-
-  pub own-housed : Housed (dimsAt (shapeBy r) l) (length (part ca (ce - ca) (r .counters))) (length (part na (ne - na) (r .norms))) (length (part ta (te - ta) (r .counts))) (getD (r .head .lens) l 0)
-  own-housed = housed r (p .standing) l pair-inside ca ce na ne ea ee ta te s
-
-  pub other-housed : Housed (dimsAt (shapeBy r) l) (length (part ca (ce - ca) (t .counters))) (length (part na (ne - na) (t .norms))) (length (part ta (te - ta) (t .counts))) (getD (t .head .lens) l 0)
+  pub other-housed : let d = dimsAt (shapeBy r) l in
+      Housed d (length (part (cellOff (shapeBy r) l) (d .rows * d .cols) (t .counters))) (length (part (2 * normOff (shapeBy r) l) (2 * d .rows) (t .norms)))
+      (length (part (candOff (shapeBy r) l) (d .size) (t .counts))) (getD (t .head .lens) l 0)
   other-housed =
-      subst (λ (sh : Shape). Housed (dimsAt sh l) (length (part ca (ce - ca) (t .counters))) (length (part na (ne - na) (t .norms))) (length (part ta (te - ta) (t .counts))) (getD (t .head .lens) l 0)) (p .same)
-      (housed t (p .other) l other-inside ca ce na ne ea ee ta te other-spanned)
+      subst (λ (sh : Shape). Housed (dimsAt sh l) (length (part (cellOff sh l) (dimsAt sh l .rows * dimsAt sh l .cols) (t .counters))) (length (part (2 * normOff sh l) (2 * dimsAt sh l .rows) (t .norms)))
+      (length (part (candOff sh l) (dimsAt sh l .size) (t .counts))) (getD (t .head .lens) l 0)) (p .same)
+      (housed-here t (p .other) l other-inside)
 
-  pub other-words : length (part ea (ee - ea) (t .entries)) ≡ 4 * dimsAt (shapeBy r) l .size
-  other-words = words-long t (p .other) l other-inside ca ce na ne ea ee ta te other-spanned ∙ ap (λ (sh : Shape). 4 * dimsAt sh l .size) (p .same)
+  pub other-words : length (part (4 * candOff (shapeBy r) l) (4 * dimsAt (shapeBy r) l .size) (t .entries)) ≡ 4 * dimsAt (shapeBy r) l .size
+  other-words = words-long (shapeBy r) l pair-inside (t .entries) (other-sizes .entries)
 
   -- ---- the tests
 
-  pub reads-here : mergeReads
-      (layerOf (dimsAt (shapeBy r) l) (part ca (ce - ca) (r .counters)) (part na (ne - na) (r .norms)) (part ea (ee - ea) (r .entries)) (part ta (te - ta) (r .counts)) (getD (r .head .lens) l 0) (getD (r .head .flags) l false))
-      (layerOf (dimsAt (shapeBy r) l) (part ca (ce - ca) (t .counters)) (part na (ne - na) (t .norms)) (part ea (ee - ea) (t .entries)) (part ta (te - ta) (t .counts)) (getD (t .head .lens) l 0) (getD (t .head .flags) l false))
-      ≡ readsWith (view t) l (layerAt (view r) l)
+  own-is : layerAt (view r) l ≡ layerHere r l
+  own-is = layer-view r (p .standing .sizes) l pair-inside
+
+  pub reads-here : mergeReads (layerHere r l) (layerBy (shapeBy r) t l) ≡ readsWith (view t) l (layerAt (view r) l)
   reads-here = sym (ap₂ mergeReads own-is other-is)
 
-  pub fits-here : mergeFits
-      (layerOf (dimsAt (shapeBy r) l) (part ca (ce - ca) (r .counters)) (part na (ne - na) (r .norms)) (part ea (ee - ea) (r .entries)) (part ta (te - ta) (r .counts)) (getD (r .head .lens) l 0) (getD (r .head .flags) l false))
-      (layerOf (dimsAt (shapeBy r) l) (part ca (ce - ca) (t .counters)) (part na (ne - na) (t .norms)) (part ea (ee - ea) (t .entries)) (part ta (te - ta) (t .counts)) (getD (t .head .lens) l 0) (getD (t .head .flags) l false))
-      ≡ fitsWith (view t) l (layerAt (view r) l)
+  pub fits-here : mergeFits (layerHere r l) (layerBy (shapeBy r) t l) ≡ fitsWith (view t) l (layerAt (view r) l)
   fits-here = sym (ap₂ mergeFits own-is other-is)
 
   -- the counters that are read are in range
   module _ (e : readsWith (view t) l (layerAt (view r) l) ≡ true) where
-    xs : List ℤ
-    xs = part ca (ce - ca) (r .counters)
+    three : allIn (cellsOf (shapeBy r) r l) && allIn (countsOf (shapeBy r) r l) && allIn (cellsOf (shapeBy r) t l) ≡ true
+    three =
+        let sh = shapeBy r in
+        let d = dimsAt sh l in
+        and-left (allIn (cellsOf sh r l) && allIn (countsOf sh r l) && allIn (cellsOf sh t l)) (allIn (countsOf sh t l))
+        (sym (merge-reads-are d (cellsOf sh r l) (part (2 * normOff sh l) (2 * d .rows) (r .norms)) (part (4 * candOff sh l) (4 * d .size) (r .entries)) (part (candOff sh l) (d .size) (r .counts)) (getD (r .head .lens) l 0) (getD (r .head .flags) l false)
+        (cellsOf sh t l) (part (2 * normOff sh l) (2 * d .rows) (t .norms)) (part (4 * candOff sh l) (4 * d .size) (t .entries)) (part (candOff sh l) (d .size) (t .counts)) (getD (t .head .lens) l 0) (getD (t .head .flags) l false))
+        ∙ reads-here ∙ e)
 
-    xs₂ : List ℤ
-    xs₂ = part ca (ce - ca) (t .counters)
+    pub own-in : allIn (part (cellOff (shapeBy r) l) (dimsAt (shapeBy r) l .rows * dimsAt (shapeBy r) l .cols) (r .counters)) ≡ true
+    own-in =
+        let sh = shapeBy r in
+        and-left (allIn (cellsOf sh r l)) (allIn (countsOf sh r l)) (and-left (allIn (cellsOf sh r l) && allIn (countsOf sh r l)) (allIn (cellsOf sh t l)) three)
 
-    ns : List ℤ
-    ns = take (getD (r .head .lens) l 0) (part ta (te - ta) (r .counts))
+    pub other-in : allIn (part (cellOff (shapeBy r) l) (dimsAt (shapeBy r) l .rows * dimsAt (shapeBy r) l .cols) (t .counters)) ≡ true
+    other-in = let sh = shapeBy r in and-right (allIn (cellsOf sh r l) && allIn (countsOf sh r l)) (allIn (cellsOf sh t l)) three
 
-    ns₂ : List ℤ
-    ns₂ = take (getD (t .head .lens) l 0) (part ta (te - ta) (t .counts))
-
-    four : allIn (part ca (ce - ca) (r .counters)) && allIn (take (getD (r .head .lens) l 0) (part ta (te - ta) (r .counts))) && allIn (part ca (ce - ca) (t .counters)) && allIn (take (getD (t .head .lens) l 0) (part ta (te - ta) (t .counts))) ≡ true
-    four =
-        sym (merge-reads-are (dimsAt (shapeBy r) l) (part ca (ce - ca) (r .counters)) (part na (ne - na) (r .norms)) (part ea (ee - ea) (r .entries)) (part ta (te - ta) (r .counts)) (getD (r .head .lens) l 0) (getD (r .head .flags) l false)
-        (part ca (ce - ca) (t .counters)) (part na (ne - na) (t .norms)) (part ea (ee - ea) (t .entries)) (part ta (te - ta) (t .counts)) (getD (t .head .lens) l 0) (getD (t .head .flags) l false))
-        ∙ reads-here ∙ e
-
-    three : allIn xs && allIn ns && allIn xs₂ ≡ true
-    unfolding xs ns xs₂
-    three = and-left (allIn (part ca (ce - ca) (r .counters)) && allIn (take (getD (r .head .lens) l 0) (part ta (te - ta) (r .counts))) && allIn (part ca (ce - ca) (t .counters))) (allIn (take (getD (t .head .lens) l 0) (part ta (te - ta) (t .counts)))) four
-
-    pub own-in : allIn (part ca (ce - ca) (r .counters)) ≡ true
-    unfolding xs ns xs₂
-    own-in = and-left (allIn xs) (allIn ns) (and-left (allIn xs && allIn ns) (allIn xs₂) three)
-
-    pub other-in : allIn (part ca (ce - ca) (t .counters)) ≡ true
-    unfolding xs ns xs₂
-    other-in = and-right (allIn xs && allIn ns) (allIn xs₂) three
-
--- what the merge of one layer needs, in the parts
-pub merge-ready : (r t : Lent) (l : ℕ) (p : MergeReady r t l) (ca ce na ne ea ee ta te : ℕ) (s : Spanned (shapeBy r) l ca ce na ne ea ee ta te)
-    → gather.MergeReady (dimsAt (shapeBy r) l) (getD (r .head .lens) l 0) (getD (t .head .lens) l 0) (part ca (ce - ca) (r .counters)) (part na (ne - na) (r .norms)) (part ea (ee - ea) (r .entries)) (part ta (te - ta) (r .counts))
-    (part ca (ce - ca) (t .counters)) (part ea (ee - ea) (t .entries))
-merge-ready r t l p ca ce na ne ea ee ta te s =
-    let q = p .ready .paired in
-    let h = other-housed r t l q ca ce na ne ea ee ta te s in
+-- what the merge of one layer needs: the first's parts as a span names them, the second's as functions return them
+pub merge-ready : {r t : Lent} {l : ℕ} {s : Span} → MergeReady r t l → Spanned r l s → let d = dimsAt (shapeBy r) l in
+    gather.MergeReady d (getD (r .head .lens) l 0) (getD (t .head .lens) l 0) (cellPart s (r .counters)) (normPart s (r .norms)) (wordPart s (r .entries)) (seatPart s (r .counts))
+    (part (cellOff (shapeBy r) l) (d .rows * d .cols) (t .counters)) (part (4 * candOff (shapeBy r) l) (4 * d .size) (t .entries))
+merge-ready {r} {t} {l} {s} p q =
+    let w = p .ready .paired in
+    let h = other-housed w in
+    let d = dimsAt (shapeBy r) l in
     record {
-      housed = own-housed r t l q ca ce na ne ea ee ta te s;
-      words = words-long r (q .standing) l (pair-inside r t l q ca ce na ne ea ee ta te s) ca ce na ne ea ee ta te s;
+      housed = housed q;
+      words = word-length q;
       cells = h .cells;
-      others = record { words = omega (arith, h .used, other-words r t l q ca ce na ne ea ee ta te s); few = omega (arith, h .used, h .few) };
-      read = own-in r t l q ca ce na ne ea ee ta te s (p .ready .read);
-      otherRead = other-in r t l q ca ce na ne ea ee ta te s (p .ready .read);
+      others = record { words = omega (arith, h .used, other-words w); few = omega (arith, h .used, h .few) };
+      read = ap allIn (cell-piece q .is) ∙ own-in w (p .ready .read);
+      otherRead = other-in w (p .ready .read);
       fit =
-          sym (merge-fits-are (dimsAt (shapeBy r) l) (part ca (ce - ca) (r .counters)) (part na (ne - na) (r .norms)) (part ea (ee - ea) (r .entries)) (part ta (te - ta) (r .counts)) (getD (r .head .lens) l 0) (getD (r .head .flags) l false)
-          (part ca (ce - ca) (t .counters)) (part na (ne - na) (t .norms)) (part ea (ee - ea) (t .entries)) (part ta (te - ta) (t .counts)) (getD (t .head .lens) l 0) (getD (t .head .flags) l false))
-          ∙ fits-here r t l q ca ce na ne ea ee ta te s ∙ p .fit;
+          sym (merge-fits-are d (cellPart s (r .counters)) (normPart s (r .norms)) (wordPart s (r .entries)) (seatPart s (r .counts)) (getD (r .head .lens) l 0) (getD (r .head .flags) l false)
+          (cellsOf (shapeBy r) t l) (part (2 * normOff (shapeBy r) l) (2 * d .rows) (t .norms)) (part (4 * candOff (shapeBy r) l) (4 * d .size) (t .entries)) (part (candOff (shapeBy r) l) (d .size) (t .counts))
+          (getD (t .head .lens) l 0) (getD (t .head .flags) l false))
+          ∙ sym (ap₂ mergeFits (handed-is q) (other-is w)) ∙ p .fit;
     }
 
 -- the flag as the header takes it

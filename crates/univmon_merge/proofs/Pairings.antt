@@ -10,12 +10,12 @@ use Rattle.header.specs.declared.Shape.{Shape}
 use Rattle.layer.specs.Layer.{Layer}
 use Rattle.layer.specs.Needs.{Fits}
 use Rattle.layer.proofs.Merges.{merge-lengths}
-use Rattle.univmon.specs.State.{State, dimsAt, layerAt, putLayer, overLayers, allLayers}
-use Rattle.univmon.specs.Slices.{Lent, view}
-use Rattle.univmon.specs.Needs.{Standing}
+use Rattle.layout.specs.State.{State, dimsAt, layerAt, putLayer, overLayers, allLayers}
+use Rattle.layout.specs.Slices.{Lent, view}
+use Rattle.layout.specs.Needs.{Standing}
 use Rattle.univmon_merge.specs.Pairs.{Paired, PairRead, PairsRead, MergeReady, MergesReady, readsWith, fitsWith, mergesWith}
-use Rattle.univmon.proofs.States.{at-fits, all-later}
-use Rattle.univmon.proofs.Sending.{long-view}
+use Rattle.layout.proofs.States.{at-fits, all-later}
+use Rattle.layout.proofs.Lengths.{long-view}
 
 -- ---- the tests
 

@@ -1,32 +1,33 @@
 -- A second state merged into a first.
-use Prim.Native.Nat.{ℕ, _+_}
-use mathlib.Core.Bool.{Bool, not, _&&_, _||_}
-use mathlib.Core.List.{List, [], _∷_}
-use lib.Dec.{eqb, leb}
-use Rattle.words.specs.Num.{top}
-use Rattle.header.specs.declared.Shape.{Shape}
+use Prim.Native.Nat.{ℕ}
+use mathlib.Core.Bool.{Bool, not}
+use mathlib.Core.List.{List, [], _∷_, _++_}
+use Rattle.header.specs.declared.Header.{Header}
+use Rattle.header.specs.Shape.{sameShape}
+use Rattle.header.specs.Totals.{totalsTests}
 use Rattle.header.specs.Header.{clash, begun}
 use Rattle.layer.specs.Merge.{mergeLayer, mergeReads, mergeFits}
-use Rattle.univmon.specs.State.{State, shapeOf, dimsAt, layerAt, overLayers, allLayers, withHead}
-use Rattle.univmon.specs.Judged.{Out, judge, unsound}
-
--- 10 "layers, rows, cols or heap sizes differ in merge"
-abbrev pub sameShape : Shape → Shape → Bool
-sameShape a b = eqb (a .layers) (b .layers) && eqb (a .rows) (b .rows) && eqb (a .cols) (b .cols) && eqb (a .«heap_size») (b .«heap_size»)
-
-unfoldable pub mergeTests : State → State → List (Bool × ℕ)
-mergeTests s t =
-    (unsound s || unsound t, 9)
-    ∷ (not (sameShape (shapeOf s) (shapeOf t)), 10)
-    ∷ (clash (s .head .mode) (t .head .mode), 6)
-    ∷ (not (leb (s .head .weight + t .head .weight) top), 7)
-    ∷ (not (allLayers (λ l y. mergeReads y (layerAt t l)) (shapeOf s .layers) 0 s), 9)
-    ∷ (not (allLayers (λ l y. mergeFits y (layerAt t l)) (shapeOf s .layers) 0 s), 11)
-    ∷ []
+use Rattle.layout.specs.State.{State, shapeOf, dimsAt, layerAt, overLayers, allLayers, withHead}
+use Rattle.layout.specs.Slices.{Lent, view, flat}
+use Rattle.layout.specs.Outcomes.{Outcome, judge, lentTests}
 
 unfoldable pub merged : State → State → State
 merged s t =
-    overLayers (λ l y. mergeLayer (dimsAt (shapeOf s) l) y (layerAt t l)) (shapeOf s .layers) 0 (withHead s (begun (s .head) (t .head .weight) (t .head .mode)))
+    overLayers (λ l y. mergeLayer (dimsAt (shapeOf s) l) y (layerAt t l)) (shapeOf s .layers) 0 (withHead s (begun (s .head) (t .head .totals) (t .head .mode)))
 
-unfoldable pub merge : State → State → Out
-merge s t = judge (mergeTests s t) (merged s t)
+-- of two headers: 10, 6 "mode mixed in .. merge", then the totals
+abbrev pub headsTests : Header → Header → List (Bool × ℕ)
+headsTests a b = (not (sameShape (a .shape) (b .shape)), 10) ∷ (clash (a .mode) (b .mode), 6) ∷ totalsTests (a .totals) (b .totals)
+
+-- of the layers of two states: 9 for what is read, 11
+abbrev pub pairTests : ℕ → State → State → List (Bool × ℕ)
+pairTests layers s t =
+    (not (allLayers (λ l y. mergeReads y (layerAt t l)) layers 0 s), 9) ∷ (not (allLayers (λ l y. mergeFits y (layerAt t l)) layers 0 s), 11) ∷ []
+
+-- "Other calls: 9 for lengths and headers, 12, 10, 5, 8, 6, 7, 9 for what is read, 11.": here 9; 10, 6, 7; 9, 11
+unfoldable pub mergeTests : Lent → Lent → List (Bool × ℕ)
+mergeTests r t = lentTests r ++ (lentTests t ++ (headsTests (r .head) (t .head) ++ pairTests (r .head .shape .layers) (view r) (view t)))
+
+-- the call: what a merge answers, and what it leaves of the header and the slices that it is lent
+unfoldable pub mergeCall : Lent → Lent → Outcome
+mergeCall r t = judge (mergeTests r t) (flat (merged (view r) (view t)))

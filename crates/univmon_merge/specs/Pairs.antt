@@ -1,18 +1,13 @@
 -- Two states of one shape, and what the inner functions of a merge need, by name.
 use Prim.Native.Nat.{ℕ, _+_, _≤_}
 use mathlib.Core.Path.{_≡_}
-use mathlib.Core.Bool.{Bool, true, cond, not, _&&_}
-use lib.Dec.{eqb, leb}
-use Rattle.words.specs.Num.{top}
+use mathlib.Core.Bool.{Bool, true}
 use Rattle.header.specs.declared.Shape.{Shape}
-use Rattle.header.specs.declared.Header.{Header}
-use Rattle.header.specs.Header.{headerOk, clash}
 use Rattle.layer.specs.Layer.{Layer}
 use Rattle.layer.specs.Merge.{mergeLayer, mergeReads, mergeFits}
-use Rattle.univmon.specs.State.{State, dimsAt, layerAt, allLayers}
-use Rattle.univmon.specs.Slices.{Lent, lentOk, view}
-use Rattle.univmon_merge.specs.Merges.{sameShape}
-use Rattle.univmon.specs.Needs.{Standing}
+use Rattle.layout.specs.State.{State, dimsAt, layerAt, allLayers}
+use Rattle.layout.specs.Slices.{Lent, view}
+use Rattle.layout.specs.Needs.{Standing}
 
 -- the tests and the step of a merge at each layer, by the second state
 abbrev pub readsWith : State → ℕ → Layer → Bool
@@ -48,24 +43,3 @@ pub record MergeReady (r t : Lent) (l : ℕ) : Type 0 where
 pub record MergesReady (r t : Lent) (many : ℕ) : Type 0 where
   pub ready : PairsRead r t many
   pub fit : allLayers (fitsWith (view t)) many 0 (view r) ≡ true
-
--- ---- the number that a merge is refused with, 0 for none
-
-abbrev pub lentStands : Lent → Bool
-lentStands r = headerOk (r .head) && lentOk r
-
-unfoldable pub headsNumber : Header → Header → ℕ
-headsNumber a b =
-    cond (not (sameShape (a .shape) (b .shape))) 10
-    (cond (clash (a .mode) (b .mode)) 6
-    (cond (not (leb (a .weight + b .weight) top)) 7 0))
-
-unfoldable pub layersNumber : ℕ → State → State → ℕ
-layersNumber layers s t = cond (not (allLayers (readsWith t) layers 0 s)) 9 (cond (not (allLayers (fitsWith t) layers 0 s)) 11 0)
-
-unfoldable pub mergeNumber : Lent → Lent → ℕ
-mergeNumber r t =
-    cond (not (lentStands r)) 9
-    (cond (not (lentStands t)) 9
-    (cond (not (eqb (headsNumber (r .head) (t .head)) 0)) (headsNumber (r .head) (t .head))
-    (layersNumber (r .head .shape .layers) (view r) (view t))))

@@ -4,9 +4,9 @@ use crate::layers::merge_layers;
 use header::Answered;
 use header::Header;
 ghost use mathlib.Core.Path.{_≡_};
-ghost use Rattle.univmon.specs.Slices.{lent};
-ghost use Rattle.univmon.specs.Calls.{left, leftBy};
-ghost use Rattle.univmon_merge.specs.Calls.{mergeCall};
+ghost use Rattle.layout.specs.Slices.{lent};
+ghost use Rattle.layout.specs.Outcomes.{left, leftBy};
+ghost use Rattle.univmon_merge.specs.Merges.{mergeCall};
 
 // A second state merged into a first: 9, 10, 6, 7, 9, 11.
 pub fn merge(
@@ -43,9 +43,9 @@ pub fn merge(
     let had = header.mode;
     let came = other.mode;
     let layers = header.shape.layers;
-    let weight = header.weight + other.weight;
+    let totals = header.totals.plus(other.totals);
     let begun = header
-        .with_weight(weight)
+        .with_totals(totals)
         .with_mode(header::join(had, came));
     Answered {
         refusal: 0,

@@ -1,16 +1,15 @@
 // What a merge reads of two states, whether the sums fit, and the number that it is refused with: nothing
 // is written here. Both states are lent whole, so that a contract can name them.
 use header::Header;
-use header::Shape;
-use univmon::sizes::lengths_match;
-use univmon::sizes::span_of;
+use layout::cells_at;
+use layout::lent_refusal;
+use layout::seats_at;
 ghost use mathlib.Core.Path.{_≡_};
-ghost use Prim.Native.Nat.{_≤_};
-ghost use Rattle.words.specs.Num.{top};
-ghost use Rattle.univmon.specs.State.{layerAt, allLayers};
-ghost use Rattle.univmon.specs.Slices.{lent, view};
-ghost use Rattle.univmon_merge.specs.Merges.{sameShape};
-ghost use Rattle.univmon_merge.specs.Pairs.{Paired, PairRead, PairsRead, readsWith, fitsWith, lentStands, headsNumber, layersNumber, mergeNumber};
+ghost use Rattle.words.specs.Tests.{number};
+ghost use Rattle.layout.specs.State.{layerAt, allLayers};
+ghost use Rattle.layout.specs.Slices.{lent, view};
+ghost use Rattle.univmon_merge.specs.Merges.{headsTests, pairTests, mergeTests};
+ghost use Rattle.univmon_merge.specs.Pairs.{Paired, PairRead, PairsRead, readsWith, fitsWith};
 
 // Whether what a merge reads of one layer of both states is in range.
 fn reads_at(
@@ -30,21 +29,17 @@ fn reads_at(
     ensures { λ r. ⌜ r ≡ readsWith (view (lent other (now («other_counters» .entry)) (now («other_norms» .entry)) (now («other_entries» .entry)) (now («other_counts» .entry)))) l
         (layerAt (view (lent h (now (counters .entry)) (now (norms .entry)) (now (entries .entry)) (now (counts .entry)))) l) ⌝ }
 {
-    let s = span_of(h.shape, l);
+    let shape = h.shape;
     let lens = h.lens;
     let len = lens[l];
     let other_lens = other.lens;
     let other_len = other_lens[l];
-    let ca = s.cells;
-    let ce = s.cells_end;
-    let ta = s.seats;
-    let te = s.seats_end;
     layer::merge_reads(
-        &counters[ca..ce],
-        &counts[ta..te],
+        cells_at(shape, l, counters),
+        seats_at(shape, l, counts),
         len,
-        &other_counters[ca..ce],
-        &other_counts[ta..te],
+        cells_at(shape, l, other_counters),
+        seats_at(shape, l, other_counts),
         other_len,
     )
 }
@@ -67,10 +62,11 @@ fn fits_at(
     ensures { λ r. ⌜ r ≡ fitsWith (view (lent other (now («other_counters» .entry)) (now («other_norms» .entry)) (now («other_entries» .entry)) (now («other_counts» .entry)))) l
         (layerAt (view (lent h (now (counters .entry)) (now (norms .entry)) (now (entries .entry)) (now (counts .entry)))) l) ⌝ }
 {
-    let s = span_of(h.shape, l);
-    let ca = s.cells;
-    let ce = s.cells_end;
-    layer::merge_fits(&counters[ca..ce], &other_counters[ca..ce])
+    let shape = h.shape;
+    layer::merge_fits(
+        cells_at(shape, l, counters),
+        cells_at(shape, l, other_counters),
+    )
 }
 
 // Whether all that a merge reads is in range, in many layers from the first on.
@@ -155,46 +151,12 @@ fn all_fit(
 
 // ---- the number that a merge is refused with
 
-// 2^52, the greatest weight.
-const TOP: u64 = 4503599627370496;
-
-fn same_shape(a: Shape, b: Shape) -> bool
-    ensures { λ r. ⌜ r ≡ sameShape a b ⌝ }
-{
-    if a.layers != b.layers {
-        return false;
-    }
-    if a.rows != b.rows {
-        return false;
-    }
-    if a.cols != b.cols {
-        return false;
-    }
-    a.heap_size == b.heap_size
-}
-
-// Whether a header is in range, and the slices are as long as it says.
-fn stands(h: Header, counters: &[i64], norms: &[u64], entries: &[u64], counts: &[i64]) -> bool
-    ensures { λ r. ⌜ r ≡ lentStands (lent h (now (counters .entry)) (now (norms .entry)) (now (entries .entry)) (now (counts .entry))) ⌝ }
-{
-    if !h.in_range() {
-        return false;
-    }
-    lengths_match(
-        h.shape,
-        counters.len(),
-        norms.len(),
-        entries.len(),
-        counts.len(),
-    )
-}
-
 // 10, 6 or 7 by the two headers, 0 for none.
 fn heads_refusal(h: Header, other: Header) -> u64
-    requires { ⌜ (h .weight ≤ top) × (other .weight ≤ top) ⌝ }
-    ensures { λ r. ⌜ r ≡ headsNumber h other ⌝ }
+    ensures { λ r. ⌜ r ≡ number (headsTests h other) ⌝ }
 {
-    if !same_shape(h.shape, other.shape) {
+    let shape = h.shape;
+    if !shape.same(other.shape) {
         return 10;
     }
     let had = h.mode;
@@ -202,10 +164,7 @@ fn heads_refusal(h: Header, other: Header) -> u64
     if header::clashes(had, came) {
         return 6;
     }
-    if TOP - h.weight < other.weight {
-        return 7;
-    }
-    0
+    h.totals.sum_refusal(other.totals)
 }
 
 // 9 for what is read of the layers or 11 for their sums, 0 for none: 9 anywhere comes first.
@@ -223,7 +182,7 @@ fn layers_refusal(
     layers: usize,
 ) -> u64
     requires { ⌜ Paired (lent h (now counters) (now norms) (now entries) (now counts)) (lent other (now «other_counters») (now «other_norms») (now «other_entries») (now «other_counts»)) layers 0 ⌝ }
-    ensures { λ r. ⌜ r ≡ layersNumber layers (view (lent h (now (counters .entry)) (now (norms .entry)) (now (entries .entry)) (now (counts .entry)))) (view (lent other (now («other_counters» .entry)) (now («other_norms» .entry)) (now («other_entries» .entry)) (now («other_counts» .entry)))) ⌝ }
+    ensures { λ r. ⌜ r ≡ number (pairTests layers (view (lent h (now (counters .entry)) (now (norms .entry)) (now (entries .entry)) (now (counts .entry)))) (view (lent other (now («other_counters» .entry)) (now («other_norms» .entry)) (now («other_entries» .entry)) (now («other_counts» .entry))))) ⌝ }
 {
     if !all_read(
         h,
@@ -271,23 +230,25 @@ pub fn merge_refusal(
     other_entries: &[u64],
     other_counts: &[i64],
 ) -> u64
-    ensures { λ r. ⌜ r ≡ mergeNumber (lent h (now (counters .entry)) (now (norms .entry)) (now (entries .entry)) (now (counts .entry))) (lent other (now («other_counters» .entry)) (now («other_norms» .entry)) (now («other_entries» .entry)) (now («other_counts» .entry))) ⌝ }
+    ensures { λ r. ⌜ r ≡ number (mergeTests (lent h (now (counters .entry)) (now (norms .entry)) (now (entries .entry)) (now (counts .entry))) (lent other (now («other_counters» .entry)) (now («other_norms» .entry)) (now («other_entries» .entry)) (now («other_counts» .entry)))) ⌝ }
 {
-    if !stands(h, counters, norms, entries, counts) {
-        return 9;
+    let own = lent_refusal(h, counters, norms, entries, counts);
+    if own != 0 {
+        return own;
     }
-    if !stands(
+    let others = lent_refusal(
         other,
         other_counters,
         other_norms,
         other_entries,
         other_counts,
-    ) {
-        return 9;
+    );
+    if others != 0 {
+        return others;
     }
-    let n = heads_refusal(h, other);
-    if n != 0 {
-        return n;
+    let heads = heads_refusal(h, other);
+    if heads != 0 {
+        return heads;
     }
     let layers = h.shape.layers;
     layers_refusal(

@@ -1,14 +1,16 @@
 // The layers of a second state merged into those of a first, once everything is judged. Both states are
 // lent whole, so that a contract can name them; no norm of the second is read.
 use header::Header;
-use univmon::sizes::dims;
-use univmon::sizes::span_of;
+use layout::cells_at;
+use layout::dims;
+use layout::span_of;
+use layout::words_at;
 ghost use mathlib.Core.Path.{_≡_};
 ghost use mathlib.Core.Bool.{_&&_};
 ghost use lib.Dec.{leb};
-ghost use Rattle.univmon.specs.State.{layerAt, putLayer, overLayers};
-ghost use Rattle.univmon.specs.Slices.{lent, view};
-ghost use Rattle.univmon.specs.Needs.{Standing};
+ghost use Rattle.layout.specs.State.{layerAt, putLayer, overLayers};
+ghost use Rattle.layout.specs.Slices.{lent, view};
+ghost use Rattle.layout.specs.Needs.{Standing};
 ghost use Rattle.univmon_merge.specs.Pairs.{MergeReady, MergesReady, mergesWith};
 
 // Whether no key was lost: the other layer's flag, and a seat for every distinct key.
@@ -64,8 +66,8 @@ fn merge_one(
         &mut counts[ta..te],
         d,
         len,
-        &other_counters[ca..ce],
-        &other_entries[ea..ee],
+        cells_at(shape, l, other_counters),
+        words_at(shape, l, other_entries),
         other_len,
     );
     let flags = other.flags;

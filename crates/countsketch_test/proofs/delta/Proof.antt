@@ -4,13 +4,10 @@ use Prim.Native.Nat.{_+_, _*_, _≤_}
 use mathlib.Core.Path.{_≡_, sym, _∙_}
 use mathlib.Core.Bool.{true}
 use lib.ListN.{length}
-use lib.IntN.{natAbs}
 use borrow.Author.Needs.{needs}
 use borrow.Author.Tests.{not-false}
 use denote.Ref.{now}
 use mir.Facts.{toZ-ofZ}
-use Rattle.words.specs.Num.{top}
-use Rattle.words.proofs.Squares.{range-bound}
 use Rattle.matrix_storage.specs.Bits.{Shaped}
 use Rattle.countsketch_l2_norm.specs.Sketch.{sketchOf, cellRead}
 use Rattle.countsketch_l2_norm.specs.Needs.{Placed}
@@ -48,9 +45,6 @@ lent c = c .before .held .ensures (not-false _ (c .if1 .left))
 placed : (c : tie.Else3) → Placed (c .before .before .before .before .before .args .rows) (c .before .before .before .before .before .args .cols) (c .before .before .before .before .before .args .row) (c .before .before .before .before .before .args .col) (now (c .before .before .before .before .before .args .counters))
 placed c = let l = lent (c .before .before) in record { shaped = l .0; room = l .1 .0; below = c .before .if2 .left; inside = c .if3 .left }
 
-small : (c : tie.Else4) → natAbs (c .before .before .before .before .before .before .before .args .count) ≤ top
-small c = range-bound (c .before .before .before .before .before .before .before .args .count) (sym (rw (toZ-ofZ (c .before .before .before .before .before .before .before .fits .count)) at (c .before .in-range .ensures)) ∙ not-false _ (c .if4 .left))
-
 read : (c : tie.Else5) → let a = c .before .before .before .before .before .before .before .before .before .before .before .args in cellRead (a .cols) (a .row * a .cols + a .col) (a .row) (sketchOf (now (a .counters)) (now (a .norms)) (a .rows)) ≡ true
 read c = sym (c .before .cell-read .ensures) ∙ not-false _ (c .if5 .left)
 
@@ -72,7 +66,7 @@ returns-5 c = search needs
 cell-fits-requires : tie.Need-cell-fits-requires
 cell-fits-requires c κs =
     let a = c .before .before .before .before .before .before .before .before .before .before .before .before .args in
-    rw (toZ-ofZ (c .before .before .before .before .before .before .before .before .before .before .before .before .fits .count)) (placed (c .before .before .before .before .before .before .before), (small (c .before .before .before .before .before), read-cell (a .cols) (a .row * a .cols + a .col) (a .row) (sketchOf (now (a .counters)) (now (a .norms)) (a .rows)) (read (c .before))))
+    (placed (c .before .before .before .before .before .before .before), read-cell (a .cols) (a .row * a .cols + a .col) (a .row) (sketchOf (now (a .counters)) (now (a .norms)) (a .rows)) (read (c .before)))
 
 print-refusal-requires-4 : tie.Need-print-refusal-requires-4
 print-refusal-requires-4 c κs = search needs
@@ -89,7 +83,7 @@ returns-6 c = search needs
 apply-delta-requires : tie.Need-apply-delta-requires
 apply-delta-requires c κs =
     let f = rw (toZ-ofZ (c .before .before .before .before .before .before .before .before .before .before .before .before .before .before .before .before .fits .count)) at (c .before .before .before .cell-fits .ensures) in
-    rw (toZ-ofZ (c .before .before .before .before .before .before .before .before .before .before .before .before .before .before .before .before .fits .count)) (record { placed = placed (c .before .before .before .before .before .before .before .before .before .before .before); pairs = (lent (c .before .before .before .before .before .before .before .before .before .before .before .before .before)) .1 .1; small = small (c .before .before .before .before .before .before .before .before .before); read = read (c .before .before .before .before .before); fit = sym f ∙ not-false _ (c .before .before .if6 .left) })
+    rw (toZ-ofZ (c .before .before .before .before .before .before .before .before .before .before .before .before .before .before .before .before .fits .count)) (record { placed = placed (c .before .before .before .before .before .before .before .before .before .before .before); pairs = (lent (c .before .before .before .before .before .before .before .before .before .before .before .before .before)) .1 .1; read = read (c .before .before .before .before .before); fit = sym f ∙ not-false _ (c .before .before .if6 .left) })
 
 same-length-5 : tie.Need-same-length-5
 same-length-5 c = search needs

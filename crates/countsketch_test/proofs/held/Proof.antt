@@ -6,7 +6,7 @@ use native.Mathlib.Omega.{arith}
 use borrow.Author.Needs.{needs}
 use borrow.Author.Tests.{leb-true}
 use Rattle.words.proofs.Bools.{never}
-use Rattle.matrix_storage.specs.Bits.{Shaped}
+use Rattle.matrix_storage.specs.Bits.{maxRows, maxCols, Shaped}
 use Rattle.matrix_storage.proofs.Refusals.{shaped-of}
 use native.Mathlib.Nat.{mul-le-mul}
 use Rattle.countsketch_test.proofs.held.Statement.{statement}
@@ -18,7 +18,7 @@ check-hash-bits-requires c κs = search needs
 shaped : (c : tie.Else1) → Shaped (c .before .before .args .rows) (c .before .before .args .cols)
 shaped c = shaped-of (c .before .before .args .rows) (c .before .before .args .cols) (sym (c .before .check-hash-bits .ensures) ∙ c .if1 .left)
 
-size : (c : tie.Else1) → c .before .before .args .rows * c .before .before .args .cols ≤ 81920
+size : (c : tie.Else1) → c .before .before .args .rows * c .before .before .args .cols ≤ maxRows * maxCols
 size c = mul-le-mul (shaped c .few) (shaped c .wide)
 
 returns : tie.Need-returns

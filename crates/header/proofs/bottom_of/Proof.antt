@@ -4,6 +4,7 @@ use Prim.Native.Nat.{ℕ, _-_, _/_, _^_, _≤_, _<_, min}
 use mathlib.Core.Path.{_≡_}
 use native.Mathlib.Omega.{arith}
 use borrow.Author.Needs.{needs}
+use Rattle.words.specs.Num.{wordSize}
 use Rattle.header.proofs.Bottoms.{bottom-min}
 use Rattle.header.specs.Shape.{bottomOf}
 use lib.Count.{trailingZeros, trailing-le}
@@ -14,10 +15,10 @@ sub-ones : tie.Need-sub-ones
 sub-ones c = search needs
 
 abbrev ones : tie.Start → ℕ
-ones c = trailingZeros 64 (18446744073709551615 - c .args .hash / 2)
+ones c = trailingZeros 64 (wordSize - 1 - c .args .hash / 2)
 
 few : (c : tie.Start) → ones c < 2 ^ 64
-few c = omega (arith, trailing-le 64 (18446744073709551615 - c .args .hash / 2))
+few c = omega (arith, trailing-le 64 (wordSize - 1 - c .args .hash / 2))
 
 cast-ones : tie.Need-cast-ones
 cast-ones c = record { fits = few c }

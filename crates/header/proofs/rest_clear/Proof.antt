@@ -9,18 +9,19 @@ use borrow.Author.Needs.{needs}
 use denote.Ref.{now}
 use Rattle.header.proofs.Steps.{lens-none, len-past}
 use Rattle.header.proofs.Sweeps.{Sweep, sweep-start, sweep-on, sweep-end, and-assoc}
+use Rattle.header.specs.Shape.{maxLayers}
 use Rattle.header.specs.Header.{lensFrom}
 use Rattle.header.proofs.rest_clear.Statement.{statement}
 use Rattle.header.proofs.rest_clear.Tie as tie
 
 abbrev Inv-loop : tie.InvT-loop
-Inv-loop lens flags layers clear₀ l₀ clear l = (layers ≤ l) × ((size : ℕ) → Sweep (lensFrom layers size lens flags) (19 - layers) layers l clear)
+Inv-loop lens flags layers clear₀ l₀ clear l = (layers ≤ l) × ((size : ℕ) → Sweep (lensFrom layers size lens flags) (maxLayers - layers) layers l clear)
 
 abbrev μ-loop : tie.MeasureT-loop
-μ-loop lens flags layers clear₀ l₀ clear l = 19 - l
+μ-loop lens flags layers clear₀ l₀ clear l = maxLayers - l
 
 loop-holds : tie.Need-loop-holds Inv-loop μ-loop
-loop-holds c = (omega arith, λ n. let a = c .args in sweep-start (lensFrom (a .layers) n (now (a .lens)) (now (a .flags))) (19 - a .layers) (a .layers))
+loop-holds c = (omega arith, λ n. let a = c .args in sweep-start (lensFrom (a .layers) n (now (a .lens)) (now (a .flags))) (maxLayers - a .layers) (a .layers))
 
 mul-clear : tie.Need-mul-clear Inv-loop μ-loop
 mul-clear c = search needs
@@ -45,14 +46,14 @@ loop-again c =
       omega (arith, v .0),
       λ n.
           rw (and-assoc (c .before .before .before .loop .clear) (eqb (getD (now (a .lens)) l 0) 0) (not (getD (now (a .flags)) l false)))
-          (sweep-on (lensFrom (a .layers) n (now (a .lens)) (now (a .flags))) (19 - a .layers) (a .layers) l (c .before .before .before .loop .clear) _ (v .1 n) (omega (arith, c .before .before .loop-test .taken, v .0))
+          (sweep-on (lensFrom (a .layers) n (now (a .lens)) (now (a .flags))) (maxLayers - a .layers) (a .layers) l (c .before .before .before .loop .clear) _ (v .1 n) (omega (arith, c .before .before .loop-test .taken, v .0))
           (λ k. len-past (a .layers) n (now (a .lens)) (now (a .flags)) k l (v .0))),
     )
 
 returns : tie.Need-returns Inv-loop μ-loop
 returns c = λ n.
     let a = c .before .before .args in
-    sweep-end (lensFrom (a .layers) n (now (a .lens)) (now (a .flags))) (19 - a .layers) (a .layers) (c .before .loop .l) (c .before .loop .clear) (c .before .loop .inv .1 n) (omega (arith, c .loop-test .left, c .before .before .pre .0))
+    sweep-end (lensFrom (a .layers) n (now (a .lens)) (now (a .flags))) (maxLayers - a .layers) (a .layers) (c .before .loop .l) (c .before .loop .clear) (c .before .loop .inv .1 n) (omega (arith, c .loop-test .left, c .before .before .pre .0))
     (lens-none (a .layers) n (now (a .lens)) (now (a .flags)))
 
 pub rest-clear-spec : {M : Type 1} → statement M

@@ -7,11 +7,12 @@ use lib.ListN.{length, take}
 use native.Mathlib.Omega.{arith}
 use borrow.Author.Needs.{needs}
 use Rattle.words.specs.Num.{allIn}
+use Rattle.matrix_storage.specs.Bits.{maxRows}
 use Rattle.leaves_test.proofs.median.Statement.{statement}
 use Rattle.leaves_test.proofs.median.Tie as tie
 
 abbrev Inv-loop : tie.InvT-loop
-Inv-loop text many buf₀ n₀ k₀ buf n k = (n ≤ 20) × ((length buf ≡ 20) × (allIn (take n buf) ≡ true))
+Inv-loop text many buf₀ n₀ k₀ buf n k = (n ≤ maxRows) × ((length buf ≡ maxRows) × (allIn (take n buf) ≡ true))
 
 abbrev μ-loop : tie.MeasureT-loop
 μ-loop text many buf₀ n₀ k₀ buf n k = many - k

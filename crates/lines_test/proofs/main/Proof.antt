@@ -5,11 +5,12 @@ use mathlib.Core.Path.{_≡_, refl, _∙_}
 use lib.ListN.{length}
 use native.Mathlib.Omega.{arith}
 use borrow.Author.Needs.{needs}
+use Rattle.panel_lines.specs.Split.{mostHeld}
 use Rattle.lines_test.proofs.main.Statement.{statement}
 use Rattle.lines_test.proofs.main.Tie as tie
 
 abbrev Inv-loop : tie.InvT-loop
-Inv-loop line₀ chunk₀ held₀ turns₀ line chunk held turns = (held ≤ 1025) × ((length line ≡ 1025) × (length chunk ≡ 97))
+Inv-loop line₀ chunk₀ held₀ turns₀ line chunk held turns = (held ≤ mostHeld) × ((length line ≡ mostHeld) × (length chunk ≡ 97))
 
 abbrev μ-loop : tie.MeasureT-loop
 μ-loop line₀ chunk₀ held₀ turns₀ line chunk held turns = turns

@@ -7,6 +7,7 @@ use native.Mathlib.Omega.{arith}
 use borrow.Author.Needs.{needs}
 use borrow.Author.Tests.{not-false, leb-true}
 use denote.Ref.{now}
+use Rattle.panel_lines.specs.Answers.{showBytes}
 use Rattle.lines_test.proofs.say_show.Statement.{statement}
 use Rattle.lines_test.proofs.say_show.Tie as tie
 
@@ -19,7 +20,7 @@ abbrev μ-loop : tie.MeasureT-loop
 loop-holds : tie.Need-loop-holds Inv-loop μ-loop
 loop-holds c = (refl, omega arith)
 
-fits : (c : tie.Else1 Inv-loop μ-loop) → 0 + 120 ≤ length (now (c .before .before .before .before .before .before .args .out))
+fits : (c : tie.Else1 Inv-loop μ-loop) → 0 + showBytes 19 ≤ length (now (c .before .before .before .before .before .before .args .out))
 fits c = leb-true _ _ (sym (c .before .room .ensures) ∙ not-false _ (c .if1 .left))
 
 array-write-flags : tie.Need-array-write-flags Inv-loop μ-loop

@@ -6,13 +6,13 @@ use lib.ListN.{length, take, drop}
 use native.Mathlib.Omega.{arith}
 use borrow.Author.Needs.{needs}
 use denote.Ref.{now}
-use Rattle.panel_lines.specs.Split.{chunkHeld}
+use Rattle.panel_lines.specs.Split.{mostHeld, chunkHeld}
 use Rattle.panel_lines.proofs.Chunks.{step-ended, step-open, held-end}
 use Rattle.lines_test.proofs.take_chunk.Statement.{statement}
 use Rattle.lines_test.proofs.take_chunk.Tie as tie
 
 abbrev Inv-loop : tie.InvT-loop
-Inv-loop chunk line₀ held at₀ n₀ line at n = (at ≤ length chunk) × ((n ≤ 1025) × ((length line ≡ length line₀) × (chunkHeld (take n line) (drop at chunk) ≡ chunkHeld (take held line₀) chunk)))
+Inv-loop chunk line₀ held at₀ n₀ line at n = (at ≤ length chunk) × ((n ≤ mostHeld) × ((length line ≡ length line₀) × (chunkHeld (take n line) (drop at chunk) ≡ chunkHeld (take held line₀) chunk)))
 
 abbrev μ-loop : tie.MeasureT-loop
 μ-loop chunk line₀ held at₀ n₀ line at n = length chunk - at

@@ -1,12 +1,15 @@
 -- `panel::main` meets its contract. Written by hand: the check prints no file for it, since its own search goes through the
 -- elements of the longest array. A law gives each array's length instead.
-use Prim.Native.Nat.{ℕ, _≤_}
+use Prim.Native.Nat.{ℕ, _*_, _≤_}
 use mathlib.Core.Path.{_≡_, sym}
 use lib.ListN.{length, replicate, length-replicate}
 use lib.IntN.{pos}
 use native.Mathlib.Omega.{arith}
 use borrow.Author.Needs.{needs}
-use Rattle.panel_step.specs.Panel.{longest}
+use Rattle.matrix_storage.specs.Bits.{maxRows}
+use Rattle.header.specs.Shape.{maxLayers}
+use Rattle.panel_lines.specs.Split.{mostHeld}
+use Rattle.panel_step.specs.Panel.{maxCounters, maxCandidates, longest}
 use Rattle.panel.proofs.main.Statement.{statement}
 use Rattle.panel.proofs.main.Tie as tie
 use Rattle.panel.proofs.main.Reads as reads
@@ -17,29 +20,29 @@ slice-aggregate-run : tie.Need-slice-aggregate-run
 slice-aggregate-run c = sym (length-replicate {A = ℕ} 16384 0)
 
 slice-aggregate-run-2 : tie.Need-slice-aggregate-run-2
-slice-aggregate-run-2 c = sym (length-replicate {A = ℕ} 1025 0)
+slice-aggregate-run-2 c = sym (length-replicate {A = ℕ} mostHeld 0)
 
 slice-aggregate-run-3 : tie.Need-slice-aggregate-run-3
-slice-aggregate-run-3 c = sym (length-replicate 4096 (pos 0))
+slice-aggregate-run-3 c = sym (length-replicate maxCounters (pos 0))
 
 slice-aggregate-run-4 : tie.Need-slice-aggregate-run-4
-slice-aggregate-run-4 c = sym (length-replicate {A = ℕ} 760 0)
+slice-aggregate-run-4 c = sym (length-replicate {A = ℕ} (2 * maxLayers * maxRows) 0)
 
 slice-aggregate-run-5 : tie.Need-slice-aggregate-run-5
-slice-aggregate-run-5 c = sym (length-replicate {A = ℕ} 2048 0)
+slice-aggregate-run-5 c = sym (length-replicate {A = ℕ} (4 * maxCandidates) 0)
 
 slice-aggregate-run-6 : tie.Need-slice-aggregate-run-6
-slice-aggregate-run-6 c = sym (length-replicate 512 (pos 0))
+slice-aggregate-run-6 c = sym (length-replicate maxCandidates (pos 0))
 
 slice-aggregate-run-7 : tie.Need-slice-aggregate-run-7
 slice-aggregate-run-7 c = sym (length-replicate {A = ℕ} 16384 0)
 
 -- lists of these lengths are long enough
-enough : (line out : ℕ) → line ≡ 1025 → out ≡ 16384 → (1025 ≤ line) × (longest ≤ out)
+enough : (line out : ℕ) → line ≡ mostHeld → out ≡ 16384 → (mostHeld ≤ line) × (longest ≤ out)
 enough line out a b = (omega arith, omega arith)
 
 run-requires : tie.Need-run-requires
-run-requires c κs = enough _ _ (length-replicate {A = ℕ} 1025 0) (length-replicate {A = ℕ} 16384 0)
+run-requires c κs = enough _ _ (length-replicate {A = ℕ} mostHeld 0) (length-replicate {A = ℕ} 16384 0)
 
 returns : tie.Need-returns
 returns c = tt

@@ -7,7 +7,7 @@ use lib.Seq.{length-take-le}
 use native.Mathlib.Omega.{arith}
 use borrow.Author.Needs.{needs}
 use denote.Ref.{now}
-use Rattle.univmon.specs.Slices.{Lent, lent}
+use Rattle.layout.specs.Slices.{Lent, lent}
 use Rattle.panel_step.proofs.Runs.{reply-is}
 use Rattle.panel.proofs.reply.Statement.{statement}
 use Rattle.panel.proofs.reply.Tie as tie

@@ -7,7 +7,7 @@ use lib.Seq.{length-take-le, take-all}
 use native.Mathlib.Omega.{arith}
 use borrow.Author.Needs.{needs}
 use denote.Ref.{now}
-use Rattle.univmon.specs.Slices.{lent}
+use Rattle.layout.specs.Slices.{lent}
 use Rattle.panel.proofs.Chunked.{Between, kept-on}
 use mathlib.Core.Logic.{⊎-elim}
 use Rattle.panel.proofs.run.Statement.{statement}

@@ -7,7 +7,7 @@ use lib.Seq.{take-all}
 use native.Mathlib.Omega.{arith}
 use borrow.Author.Needs.{needs}
 use denote.Ref.{now}
-use Rattle.univmon.specs.Slices.{Lent, lent}
+use Rattle.layout.specs.Slices.{Lent, lent}
 use Rattle.panel.proofs.Chunked.{Parted, part-start, part-next, part-end}
 use Rattle.panel.proofs.take_all.Statement.{statement}
 use Rattle.panel.proofs.take_all.Tie as tie

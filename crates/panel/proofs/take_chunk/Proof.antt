@@ -3,7 +3,7 @@
 use Prim.Native.Nat.{_-_}
 use native.Mathlib.Omega.{arith}
 use denote.Ref.{now}
-use Rattle.univmon.specs.Slices.{Lent, lent}
+use Rattle.layout.specs.Slices.{Lent, lent}
 use Rattle.panel.proofs.Chunked.{Chunked, chunk-start, chunk-ended, chunk-open, chunk-end}
 use Rattle.panel.proofs.take_chunk.Statement.{statement}
 use Rattle.panel.proofs.take_chunk.Tie as tie

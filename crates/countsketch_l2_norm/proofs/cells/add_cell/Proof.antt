@@ -6,9 +6,10 @@ use native.Mathlib.Omega.{arith}
 use borrow.Author.Needs.{needs, sfits-of}
 use denote.Ref.{now}
 use mir.Facts.{toZ-ofZ}
+use Rattle.countsketch_l2_norm.proofs.Rows.{sum-within}
 use Rattle.countsketch_l2_norm.specs.Norms.{setNorm}
 use Rattle.countsketch_l2_norm.specs.Sketch.{cellAt}
-use Rattle.words.proofs.Signed.{back, fits, abs-add, sum-is}
+use Rattle.words.proofs.Signed.{back, fits}
 use Rattle.words.proofs.Squares.{capped-le}
 use Rattle.words.specs.Num.{capped}
 use Rattle.countsketch_l2_norm.proofs.cells.add_cell.Statement.{statement}
@@ -27,13 +28,13 @@ old-square c = rw (toZ-ofZ (sfits-of (c .before .old .given))) at (c .capped-squ
 new-square : (c : tie.After-capped-square2) → let st = c .before .before .before .before in c .capped-square2 .result ≡ capped (cellAt (now (st .args .counters)) (st .args .at) +ℤ st .args .delta)
 new-square c =
     let st = c .before .before .before .before in
-    rw (sum-is (cellAt (now (st .args .counters)) (st .args .at)) (st .args .delta) (st .pre .cellIn) (st .pre .small)) at (c .capped-square2 .ensures)
+    rw (sum-within (cellAt (now (st .args .counters)) (st .args .at)) (st .args .delta) (st .pre .cellIn) (st .fits .delta) (st .pre .sumIn)) at (c .capped-square2 .ensures)
 
 add-new : tie.Need-add-new
 add-new c =
     let st = c .before .before in
     let x = cellAt (now (st .args .counters)) (st .args .at) in
-    rw (back x (omega (arith, st .pre .cellIn)), back (st .args .delta) (omega (arith, st .pre .small))) (fits _ (omega (arith, abs-add x (st .args .delta), st .pre .cellIn, st .pre .small)))
+    rw (back x (omega (arith, st .pre .cellIn)), toZ-ofZ (st .fits .delta)) (fits (x +ℤ st .args .delta) (omega (arith, st .pre .sumIn)))
 
 capped-square-requires : tie.Need-capped-square-requires
 capped-square-requires c κs = search needs
@@ -68,7 +69,7 @@ returns : tie.Need-returns
 returns c =
     let st = c .before .before .before .before .before .before .before .before .before .before .before in
     let x = cellAt (now (st .args .counters)) (st .args .at) in (
-      rw (sum-is x (st .args .delta) (st .pre .cellIn) (st .pre .small)),
+      rw (sum-within x (st .args .delta) (st .pre .cellIn) (st .fits .delta) (st .pre .sumIn)),
       c .before .before .put-norm .ensures ∙ ap (setNorm (now (st .args .norms)) (st .args .r)) (rw (c .before .before .before .before .before .norm-of .ensures, old-square (c .before .before .before .before .before .before .before .before), new-square (c .before .before .before .before .before .before .before)) at (c .before .before .before .before .moved .ensures)),
     )
 

@@ -24,7 +24,7 @@ add-cell-requires c κs =
     let d = c .before .before .before .before .pre in
     let p = d .placed in
     rw (c .before .before .index-of .ensures, toZ-ofZ (c .before .before .before .before .fits .count))
-    (cell-ready (a .rows) (a .cols) (a .row * a .cols + a .col) (a .row) (a .count) (now (a .counters)) (now (a .norms)) (place-lt (a .rows) (a .cols) (a .row) (a .col) (length (now (a .counters))) (p .below) (p .inside) (p .room)) (p .below) (p .shaped .few) (p .shaped .wide) (d .pairs) (d .small)
+    (cell-ready (a .rows) (a .cols) (a .row * a .cols + a .col) (a .row) (a .count) (now (a .counters)) (now (a .norms)) (place-lt (a .rows) (a .cols) (a .row) (a .col) (length (now (a .counters))) (p .below) (p .inside) (p .room)) (p .below) (p .shaped .few) (p .shaped .wide) (d .pairs)
     (ap (λ (n : ℕ). rowRead (cellAt (now (a .counters)) (a .row * a .cols + a .col)) n (a .cols)) (sym (norm-at (now (a .norms)) (a .rows) (a .row) (p .below))) ∙ d .read) (d .fit))
 
 same-length : tie.Need-same-length

@@ -8,7 +8,7 @@ use mir.Facts.{toZ-ofZ}
 use Rattle.countsketch_l2_norm.proofs.Rows.{end-rows}
 use Rattle.countsketch_l2_norm.proofs.Estimates.{counted}
 use Rattle.countsketch_l2_norm.proofs.Filled.{row-asks, added-bits, Filled, fill-start, fill-on, fill-end}
-use Rattle.matrix_storage.specs.Bits.{hashOf}
+use Rattle.matrix_storage.specs.Bits.{maxRows, hashOf}
 use Rattle.countsketch_l2_norm.proofs.update.update_rows.Statement.{statement}
 use Rattle.countsketch_l2_norm.proofs.update.update_rows.Tie as tie
 
@@ -34,10 +34,10 @@ update-row-requires c κs =
     row-asks (a .rows) (a .cols) _ (hash (c .before .before .before .before .before .before)) (a .weight) (now (a .counters)) (now (a .norms)) (lp .counters) (lp .norms) (lp .r) (c .before .before .before .before .before .before .pre .1) (c .before .before .before .before .mask-bits .ensures) (lp .inv .counted .going) (c .before .before .loop-test .taken)
 
 mul-v : tie.Need-mul-v Inv-loop μ-loop
-mul-v c = let h : c .before .before .before .before .before .before .before .loop .r < 20 = omega (arith, c .before .before .before .before .before .before .before .before .before .before .pre .1 .shaped .few, c .before .before .before .before .before .before .loop-test .taken) in let k = c .before .before .before .before .before .before .before .loop .inv .len in search needs
+mul-v c = let h : c .before .before .before .before .before .before .before .loop .r < maxRows = omega (arith, c .before .before .before .before .before .before .before .before .before .before .pre .1 .shaped .few, c .before .before .before .before .before .before .loop-test .taken) in let k = c .before .before .before .before .before .before .before .loop .inv .len in search needs
 
 element-set-from-v : tie.Need-element-set-from-v Inv-loop μ-loop
-element-set-from-v c = let h : c .before .before .before .before .before .before .before .loop .r < 20 = omega (arith, c .before .before .before .before .before .before .before .before .before .before .pre .1 .shaped .few, c .before .before .before .before .before .before .loop-test .taken) in let k = c .before .before .before .before .before .before .before .loop .inv .len in search needs
+element-set-from-v c = let h : c .before .before .before .before .before .before .before .loop .r < maxRows = omega (arith, c .before .before .before .before .before .before .before .before .before .before .pre .1 .shaped .few, c .before .before .before .before .before .before .loop-test .taken) in let k = c .before .before .before .before .before .before .before .loop .inv .len in search needs
 
 add-r : tie.Need-add-r Inv-loop μ-loop
 add-r c = omega arith

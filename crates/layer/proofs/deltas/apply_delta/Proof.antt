@@ -53,7 +53,6 @@ apply-delta-requires c κs =
     record {
       placed = record { shaped = p .housed .shaped; room = omega (arith, p .housed .cells); below = p .below; inside = p .inside };
       pairs = omega (arith, p .housed .norms);
-      small = p .small;
       read = cell-read (c .before .before .before .before);
       fit = cell-fits (c .before .before .before .before);
     })

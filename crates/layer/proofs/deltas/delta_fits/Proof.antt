@@ -9,8 +9,7 @@ use Rattle.layer.proofs.deltas.delta_fits.Tie as tie
 cell-fits-requires : tie.Need-cell-fits-requires
 cell-fits-requires c κs =
     let p = c .pre in
-    let e = toZ-ofZ (c .fits .count) in
-    (record { shaped = p .1 .0; room = omega (arith, p .1 .1 .0 .0); below = p .0 .0; inside = p .0 .1 }, (rw e (p .1 .1 .0 .1), p .1 .1 .1))
+    (record { shaped = p .1 .0; room = omega (arith, p .1 .1 .0); below = p .0 .0; inside = p .0 .1 }, p .1 .1 .1)
 
 returns : tie.Need-returns
 unfolding deltaFits

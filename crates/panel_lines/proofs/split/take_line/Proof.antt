@@ -6,13 +6,13 @@ use lib.ListN.{length, take, drop}
 use native.Mathlib.Omega.{arith}
 use borrow.Author.Needs.{needs}
 use denote.Ref.{now}
-use Rattle.panel_lines.specs.Split.{stepOf}
+use Rattle.panel_lines.specs.Split.{mostHeld, stepOf}
 use Rattle.panel_lines.proofs.Bytes.{step-more, step-line, step-end}
 use Rattle.panel_lines.proofs.split.take_line.Statement.{statement}
 use Rattle.panel_lines.proofs.split.take_line.Tie as tie
 
 abbrev Inv-loop : tie.InvT-loop
-Inv-loop chunk at line₀ held n₀ i₀ line n i = ((n ≤ 1025) × ((at ≤ i) × (i ≤ length chunk))) × ((length line ≡ length line₀) × (stepOf (take n line) i (drop i chunk) ≡ stepOf (take held line₀) at (drop at chunk)))
+Inv-loop chunk at line₀ held n₀ i₀ line n i = ((n ≤ mostHeld) × ((at ≤ i) × (i ≤ length chunk))) × ((length line ≡ length line₀) × (stepOf (take n line) i (drop i chunk) ≡ stepOf (take held line₀) at (drop at chunk)))
 
 abbrev μ-loop : tie.MeasureT-loop
 μ-loop chunk at line₀ held n₀ i₀ line n i = length chunk - i

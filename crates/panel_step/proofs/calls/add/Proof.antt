@@ -9,9 +9,9 @@ use borrow.Author.Needs.{needs}
 use denote.Ref.{now}
 use mir.Facts.{toZ-ofZ}
 use Rattle.header.proofs.Refusals.{accepted-of}
-use Rattle.univmon.specs.Slices.{Lent, lent}
-use Rattle.univmon.specs.Calls.{left}
-use Rattle.panel_step.specs.declared.extent.Extent.{Extent}
+use Rattle.layout.specs.Slices.{Lent, lent}
+use Rattle.layout.specs.Outcomes.{left}
+use Rattle.layout.specs.declared.Extent.{Extent}
 use Rattle.panel_step.specs.Panel.{refusalIn}
 use Rattle.panel_step.proofs.Rooms.{Fit, fit-of}
 use Rattle.panel_step.proofs.Fronts.{no-shape, has-added}

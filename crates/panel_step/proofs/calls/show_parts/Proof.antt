@@ -6,8 +6,9 @@ use lib.Seq.{sets, length-take-le}
 use native.Mathlib.Omega.{arith}
 use borrow.Author.Needs.{needs}
 use denote.Ref.{now}
-use Rattle.univmon.specs.Slices.{Lent, lent}
-use Rattle.univmon.specs.Calls.{left}
+use Rattle.header.specs.Shape.{maxLayers}
+use Rattle.layout.specs.Slices.{Lent, lent}
+use Rattle.layout.specs.Outcomes.{left}
 use Rattle.panel_step.specs.Panel.{panelText}
 use Rattle.panel_step.proofs.Replies.{panel-refused, panel-shown, as-many}
 use Rattle.panel_step.proofs.calls.show_parts.Statement.{statement}
@@ -42,9 +43,9 @@ to-bits-requires-2 c κs = search needs
 to-bits-requires-3 : tie.Need-to-bits-requires-3
 to-bits-requires-3 c κs = search needs
 
--- the header's flags are 19, as its type says
-many : (c : tie.Start) → length (c .args .header .flags) ≡ 19
-many c = as-many (c .args .header .flags) 19 (c .good .0 .1 .1 .1 .1 .1 .0 .1 .0 .1)
+-- the header has as many flags as its type says
+many : (c : tie.Start) → length (c .args .header .flags) ≡ maxLayers
+many c = as-many (c .args .header .flags) maxLayers (c .good .0 .1 .1 .1 .1 .1 .0 .1 .0 .1)
 
 shown : (c : tie.Start) → length (take (c .args .header .shape .layers) (c .args .header .flags)) ≡ c .args .header .shape .layers
 shown c = length-take-le (c .args .header .shape .layers) (c .args .header .flags) (omega (arith, many c, c .pre .0))

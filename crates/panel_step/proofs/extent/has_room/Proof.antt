@@ -1,7 +1,7 @@
 -- `panel_step::extent::has_room` meets its contract.
 -- Written by tools/places.py from answers.txt; assumes nothing.
 use borrow.Author.Tests.{le-leb, lt-leb}
-use Rattle.univmon.specs.Calls.{left}
+use Rattle.layout.specs.Outcomes.{left}
 use Rattle.panel_step.specs.Panel.{roomy}
 use Rattle.panel_step.proofs.extent.has_room.Statement.{statement}
 use Rattle.panel_step.proofs.extent.has_room.Tie as tie

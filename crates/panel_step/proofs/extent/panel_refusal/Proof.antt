@@ -7,10 +7,11 @@ use borrow.Author.Needs.{needs}
 use borrow.Author.Tests.{eq-eqb, ne-eqb, lt-ltb, le-ltb}
 use Rattle.header.specs.Shape.{shapeRefusal}
 use Rattle.header.proofs.Refusals.{accepted-of}
-use Rattle.univmon.specs.Slices.{cellsIn, candsIn}
-use Rattle.univmon.specs.Calls.{left}
-use Rattle.panel_step.specs.declared.extent.Extent.{Extent}
-use Rattle.panel_step.specs.Panel.{extentOf, maxCounters, maxCandidates, roomy, panelRefusal}
+use Rattle.layout.specs.Slices.{cellsIn, candsIn}
+use Rattle.layout.specs.Outcomes.{left}
+use Rattle.layout.specs.declared.Extent.{Extent}
+use Rattle.layout.specs.Spans.{extentOf}
+use Rattle.panel_step.specs.Panel.{maxCounters, maxCandidates, roomy, panelRefusal}
 use Rattle.panel_step.proofs.extent.panel_refusal.Statement.{statement}
 use Rattle.panel_step.proofs.extent.panel_refusal.Tie as tie
 

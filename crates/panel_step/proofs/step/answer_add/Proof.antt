@@ -3,7 +3,7 @@
 use borrow.Author.Needs.{needs}
 use denote.Ref.{now}
 use mir.Facts.{toZ-ofZ}
-use Rattle.univmon.specs.Slices.{Lent, lent}
+use Rattle.layout.specs.Slices.{Lent, lent}
 use Rattle.panel_step.specs.Panel.{addCall}
 use Rattle.panel_step.proofs.Replies.{reply-put}
 use Rattle.panel_step.proofs.step.answer_add.Statement.{statement}

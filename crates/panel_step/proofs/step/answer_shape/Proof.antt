@@ -2,7 +2,7 @@
 -- Written by tools/places.py from answers.txt; assumes nothing.
 use borrow.Author.Needs.{needs}
 use denote.Ref.{now}
-use Rattle.univmon.specs.Slices.{Lent, lent}
+use Rattle.layout.specs.Slices.{Lent, lent}
 use Rattle.panel_step.specs.Panel.{shapeCall}
 use Rattle.panel_step.proofs.Replies.{reply-put}
 use Rattle.panel_step.proofs.step.answer_shape.Statement.{statement}

@@ -3,7 +3,7 @@
 use native.Mathlib.Omega.{arith}
 use borrow.Author.Needs.{needs}
 use denote.Ref.{now}
-use Rattle.univmon.specs.Slices.{Lent, lent}
+use Rattle.layout.specs.Slices.{Lent, lent}
 use Rattle.panel_step.specs.Panel.{showLine}
 use Rattle.panel_step.proofs.Replies.{ended, text-put}
 use Rattle.panel_step.proofs.step.answer_show.Statement.{statement}

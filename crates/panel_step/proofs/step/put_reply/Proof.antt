@@ -6,7 +6,7 @@ use lib.Seq.{sets}
 use native.Mathlib.Omega.{arith}
 use borrow.Author.Needs.{needs}
 use denote.Ref.{now}
-use Rattle.univmon.specs.Calls.{left}
+use Rattle.layout.specs.Outcomes.{left}
 use Rattle.panel_step.specs.Panel.{replyText}
 use Rattle.panel_step.proofs.Replies.{ended, reply-ok, reply-no}
 use Rattle.panel_step.proofs.step.put_reply.Statement.{statement}

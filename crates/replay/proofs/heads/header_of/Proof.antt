@@ -2,14 +2,15 @@
 -- Written by tools/places.py from answers.txt; assumes nothing.
 use Prim.Native.Nat.{_-_, _≤_}
 use borrow.Author.Needs.{needs}
+use Rattle.header.specs.Shape.{maxLayers}
 use Rattle.replay.proofs.heads.header_of.Statement.{statement}
 use Rattle.replay.proofs.heads.header_of.Tie as tie
 
 abbrev Inv-loop : tie.InvT-loop
-Inv-loop xs at lens₀ flags₀ l₀ lens flags l = l ≤ 19
+Inv-loop xs at lens₀ flags₀ l₀ lens flags l = l ≤ maxLayers
 
 abbrev μ-loop : tie.MeasureT-loop
-μ-loop xs at lens₀ flags₀ l₀ lens flags l = 19 - l
+μ-loop xs at lens₀ flags₀ l₀ lens flags l = maxLayers - l
 
 loop-holds : tie.Need-loop-holds Inv-loop μ-loop
 loop-holds c = search needs

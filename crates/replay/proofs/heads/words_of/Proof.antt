@@ -2,14 +2,15 @@
 -- Written by tools/places.py from answers.txt; assumes nothing.
 use Prim.Native.Nat.{_-_, _≤_}
 use borrow.Author.Needs.{needs}
+use Rattle.header.specs.Shape.{maxLayers}
 use Rattle.replay.proofs.heads.words_of.Statement.{statement}
 use Rattle.replay.proofs.heads.words_of.Tie as tie
 
 abbrev Inv-loop : tie.InvT-loop
-Inv-loop lens flags words₀ l₀ words l = l ≤ 19
+Inv-loop lens flags words₀ l₀ words l = l ≤ maxLayers
 
 abbrev μ-loop : tie.MeasureT-loop
-μ-loop lens flags words₀ l₀ words l = 19 - l
+μ-loop lens flags words₀ l₀ words l = maxLayers - l
 
 array-write-words : tie.Need-array-write-words Inv-loop μ-loop
 array-write-words c = search needs

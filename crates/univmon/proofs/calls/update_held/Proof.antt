@@ -4,12 +4,14 @@ use mathlib.Core.Path.{_≡_, sym, ap, _∙_}
 use borrow.Author.Needs.{needs}
 use denote.Ref.{now}
 use mir.Facts.{toZ-ofZ}
-use Rattle.header.specs.Header.{headOf, beginHeader, beginOf, fixedOf}
-use Rattle.univmon.specs.Slices.{lent, Lent}
-use Rattle.univmon.specs.Calls.{left, leftBy, updateCall, lentUpdateCall}
+use Rattle.header.specs.Header.{headOf, beginHeader, beginTests, scalarsOf}
+use Rattle.layout.specs.Slices.{lent, Lent}
+use Rattle.layout.specs.Outcomes.{left, leftBy}
+use Rattle.univmon.specs.Calls.{updateCall, lentUpdateCall}
 use Rattle.univmon.specs.Needs.{sentAfter}
 use Rattle.header.specs.declared.Answered.{Answered}
-use Rattle.header.proofs.Steps.{header-begun, begin-light}
+use Rattle.words.specs.Tests.{number}
+use Rattle.header.proofs.Steps.{header-begun, header-number, begin-light}
 use Rattle.univmon.specs.Updates.{modeOf}
 use Rattle.univmon.proofs.Updating.{call-refused, call-done, placed-call}
 use Rattle.univmon.proofs.calls.update_held.Statement.{statement}
@@ -21,8 +23,8 @@ mode-of-requires c κs = search needs
 begin-update-requires : tie.Need-begin-update-requires
 begin-update-requires c κs = search needs
 
-fixed-requires : tie.Need-fixed-requires
-fixed-requires c κs = search needs
+scalars-requires : tie.Need-scalars-requires
+scalars-requires c κs = search needs
 
 slice-aggregate-update : tie.Need-slice-aggregate-update
 slice-aggregate-update c = let h = c .before .before .before .before .before .before .before .before .before .good .1 .0 in search (needs, h .1 .1 .1 .1 .1 .0 .1 .0 .1)
@@ -38,12 +40,11 @@ lent-of c = lent (c .args .header) (now (c .args .counters)) (now (c .args .norm
 begins : (c : tie.After-begin-update) → c .begin-update .result ≡ beginHeader (c .before .before .before .before .before .args .header) (c .before .before .before .before .before .args .weight) (modeOf (c .before .before .before .before .before .args .kind))
 begins c = rw (toZ-ofZ (c .before .before .before .before .before .fits .weight), c .before .mode-of .ensures) at (c .begin-update .ensures)
 
-number : (c : tie.After-begin-update) → c .begin-update .result .refusal ≡ beginOf (fixedOf (c .before .before .before .before .before .args .header)) (c .before .before .before .before .before .args .weight) (modeOf (c .before .before .before .before .before .args .kind)) .refusal
-unfolding beginHeader
-number c = ap (λ (b : Answered). b .refusal) (begins c)
+number-is : (c : tie.After-begin-update) → c .begin-update .result .refusal ≡ number (beginTests (scalarsOf (c .before .before .before .before .before .args .header)) (c .before .before .before .before .before .args .weight) (modeOf (c .before .before .before .before .before .args .kind)))
+number-is c = let a = c .before .before .before .before .before .args in ap (λ (b : Answered). b .refusal) (begins c) ∙ header-number (a .header) (a .weight) (modeOf (a .kind))
 
 update-requires : tie.Need-update-requires
-update-requires c κs = λ z. let a = c .before .before .before .before .before .before .before .before .before .before .before .before .before .before .args in rw (toZ-ofZ (c .before .before .before .before .before .before .before .before .before .before .before .before .before .before .fits .weight)) (begin-light (fixedOf (a .header)) (a .weight) (modeOf (a .kind)) (sym (number (c .before .before .before .before .before .before .before .before .before)) ∙ z))
+update-requires c κs = λ z. let a = c .before .before .before .before .before .before .before .before .before .before .before .before .before .before .args in rw (toZ-ofZ (c .before .before .before .before .before .before .before .before .before .before .before .before .before .before .fits .weight)) (begin-light (scalarsOf (a .header)) (a .weight) (modeOf (a .kind)) (sym (number-is (c .before .before .before .before .before .before .before .before .before)) ∙ z))
 
 with-layers-requires : tie.Need-with-layers-requires
 with-layers-requires c κs = search needs
@@ -62,13 +63,13 @@ same-length-4 c = search needs
 
 -- what all but the beginning left
 left-is : (c : tie.After-update) → let a = c .before .before .before .before .before .before .before .before .before .before .before .before .before .before .before .args in let l = c .update .last in
-    left (c .update .result) (lent (headOf (fixedOf (a .header)) (l .1 .1 .1 .0) (l .1 .1 .1 .1 .0)) (l .1 .1 .1 .1 .1 .0) (l .1 .1 .1 .1 .1 .1 .0) (l .1 .1 .1 .1 .1 .1 .1 .0) (l .1 .1 .1 .1 .1 .1 .1 .1 .0))
-    ≡ sentAfter (a .kind) (beginOf (fixedOf (a .header)) (a .weight) (modeOf (a .kind)) .refusal) (now (a .words)) (a .weight) (lent-of (c .before .before .before .before .before .before .before .before .before .before .before .before .before .before .before))
-left-is c = rw (toZ-ofZ (c .before .before .before .before .before .before .before .before .before .before .before .before .before .before .before .fits .weight), c .before .before .before .before .before .before .before .fixed .ensures, number (c .before .before .before .before .before .before .before .before .before .before)) at (c .update .ensures)
+    left (c .update .result) (lent (headOf (scalarsOf (a .header)) (l .1 .1 .1 .0) (l .1 .1 .1 .1 .0)) (l .1 .1 .1 .1 .1 .0) (l .1 .1 .1 .1 .1 .1 .0) (l .1 .1 .1 .1 .1 .1 .1 .0) (l .1 .1 .1 .1 .1 .1 .1 .1 .0))
+    ≡ sentAfter (a .kind) (number (beginTests (scalarsOf (a .header)) (a .weight) (modeOf (a .kind)))) (now (a .words)) (a .weight) (lent-of (c .before .before .before .before .before .before .before .before .before .before .before .before .before .before .before))
+left-is c = rw (toZ-ofZ (c .before .before .before .before .before .before .before .before .before .before .before .before .before .before .before .fits .weight), c .before .before .before .before .before .before .before .scalars .ensures, number-is (c .before .before .before .before .before .before .before .before .before .before)) at (c .update .ensures)
 
 -- the header has 19 lengths and flags
 same-call : (c : tie.After-lens2) → let a = c .before .before .before .before .before .before .before .before .before .before .args in leftBy (lent-of (c .before .before .before .before .before .before .before .before .before .before)) (lentUpdateCall (a .kind) (lent-of (c .before .before .before .before .before .before .before .before .before .before)) (now (a .words)) (a .weight)) ≡ leftBy (lent-of (c .before .before .before .before .before .before .before .before .before .before)) (updateCall (a .kind) (lent-of (c .before .before .before .before .before .before .before .before .before .before)) (now (a .words)) (a .weight))
-same-call c = let a = c .before .before .before .before .before .before .before .before .before .before .args in sym (placed-call (a .kind) (lent-of (c .before .before .before .before .before .before .before .before .before .before)) (now (a .words)) (a .weight) (sym (slice-aggregate-update-2 c)) (sym (slice-aggregate-update (c .before))))
+same-call c = let a = c .before .before .before .before .before .before .before .before .before .before .args in placed-call (a .kind) (lent-of (c .before .before .before .before .before .before .before .before .before .before)) (now (a .words)) (a .weight) (sym (slice-aggregate-update-2 c)) (sym (slice-aggregate-update (c .before)))
 
 returns : tie.Need-returns
 returns c =
@@ -95,8 +96,8 @@ returns-2 : tie.Need-returns-2
 returns-2 c =
     let a = c .before .before .before .before .before .before .before .before .before .before .before .before .before .before .before .before .before .before .before .before .before .before .before .before .before .before .args in
     let q = call-done (a .kind) (lent-of (c .before .before .before .before .before .before .before .before .before .before .before .before .before .before .before .before .before .before .before .before .before .before .before .before .before .before)) (now (a .words)) (a .weight) (c .before .before .before .before .before .before .before .before .before .before .before .update .result) _ (left-is (c .before .before .before .before .before .before .before .before .before .before .before)) (c .before .before .if1 .left) in
-    let z : c .before .before .before .before .before .before .before .before .before .before .before .before .before .before .before .before .before .before .before .before .before .begin-update .result .refusal ≡ 0 = number (c .before .before .before .before .before .before .before .before .before .before .before .before .before .before .before .before .before .before .before .before .before) ∙ q .0 in
+    let z : c .before .before .before .before .before .before .before .before .before .before .before .before .before .before .before .before .before .before .before .before .before .begin-update .result .refusal ≡ 0 = number-is (c .before .before .before .before .before .before .before .before .before .before .before .before .before .before .before .before .before .before .before .before .before) ∙ q .0 in
     rw (c .with-layers2 .ensures, header-begun (a .header) (a .weight) (modeOf (a .kind)) (c .before .before .before .before .before .before .before .before .before .before .before .before .before .before .before .before .before .before .before .before .before .begin-update .result) (begins (c .before .before .before .before .before .before .before .before .before .before .before .before .before .before .before .before .before .before .before .before .before)) z) (q .1 ∙ same-call (c .before .before .before .before .before .before .before .before .before .before .before .before .before .before .before .before))
 
 pub update-held-spec : {M : Type 1} → statement M
-update-held-spec = tie.close (tie.spec mode-of-requires begin-update-requires fixed-requires slice-aggregate-update slice-aggregate-update-2 update-requires with-layers-requires same-length same-length-2 same-length-3 same-length-4 returns with-layers-requires-2 same-length-5 same-length-6 same-length-7 same-length-8 returns-2)
+update-held-spec = tie.close (tie.spec mode-of-requires begin-update-requires scalars-requires slice-aggregate-update slice-aggregate-update-2 update-requires with-layers-requires same-length same-length-2 same-length-3 same-length-4 returns with-layers-requires-2 same-length-5 same-length-6 same-length-7 same-length-8 returns-2)

@@ -10,9 +10,10 @@ use denote.Ref.{now}
 use Rattle.header.specs.declared.Shape.{Shape}
 use Rattle.header.specs.Shape.{shapeRefusal}
 use Rattle.header.proofs.Refusals.{accepted-of, checked-good, checked-refused}
-use Rattle.univmon.specs.Slices.{lengthsOk}
-use Rattle.univmon.specs.Calls.{left, newCall}
-use Rattle.univmon.proofs.Lengths.{sizes-of, zeroed}
+use Rattle.layout.specs.Slices.{lengthsOk}
+use Rattle.layout.specs.Outcomes.{left}
+use Rattle.univmon.specs.Calls.{newCall}
+use Rattle.layout.proofs.Lengths.{sizes-of, zeroed}
 use Rattle.univmon.proofs.fresh.new.Statement.{statement}
 use Rattle.univmon.proofs.fresh.new.Tie as tie
 

@@ -7,12 +7,13 @@ use native.Mathlib.Omega.{arith}
 use borrow.Author.Tests.{not-true, not-false}
 use denote.Ref.{now}
 use Rattle.header.specs.Header.{headOf}
-use Rattle.univmon.specs.Slices.{lent, view, Lent}
-use Rattle.univmon.specs.Calls.{left}
+use Rattle.layout.specs.Slices.{lent, view, Lent}
+use Rattle.layout.specs.Outcomes.{left}
 use Rattle.univmon.specs.Needs.{readyAt}
 use Rattle.words.proofs.Scans.{Scan, scan-start, scan-on, scan-stop, scan-end}
-use Rattle.univmon.specs.State.{allLayers}
-use Rattle.univmon.proofs.Judging.{layers-step, layers-none, judge-one}
+use Rattle.layout.specs.State.{allLayers}
+use Rattle.layout.proofs.States.{layers-step, layers-none}
+use Rattle.univmon.proofs.Judging.{judge-one}
 use Rattle.univmon.proofs.judge.all_ready.Statement.{statement}
 use Rattle.univmon.proofs.judge.all_ready.Tie as tie
 

@@ -3,8 +3,8 @@
 use mathlib.Core.Path.{sym, _∙_}
 use denote.Ref.{now}
 use Rattle.header.specs.Header.{headOf}
-use Rattle.univmon.specs.Slices.{lent, view, Lent}
-use Rattle.univmon.specs.Calls.{left}
+use Rattle.layout.specs.Slices.{lent, view, Lent}
+use Rattle.layout.specs.Outcomes.{left}
 use Rattle.univmon.proofs.Judging.{judge-light, judged-ready, judged-unfit, judged-unread}
 use Rattle.univmon.proofs.judge.judge_layers.Statement.{statement}
 use Rattle.univmon.proofs.judge.judge_layers.Tie as tie

@@ -1,104 +1,70 @@
 -- `univmon::judge::ready_at` meets its contract.
 -- Written by tools/places.py from answers.txt; assumes nothing.
-use Prim.Native.Nat.{_-_, _≤_, _<_}
-use mathlib.Core.Path.{_∙_}
+use Prim.Native.Nat.{_*_, _<_}
+use mathlib.Core.Path.{sym, ap, _∙_}
 use mathlib.Core.Bool.{false}
-use lib.ListN.{length, getD}
+use lib.ListN.{getD}
 use native.Mathlib.Omega.{arith}
 use borrow.Author.Needs.{needs}
 use denote.Ref.{now}
 use Rattle.header.specs.Header.{headOf}
-use Rattle.univmon.specs.Slices.{lent, Lent}
-use Rattle.univmon.proofs.Offsets.{norm-off, cand-off, cells-are, rows-few, seats-few, cells-few}
+use Rattle.layout.specs.Slices.{lent, Lent}
+use Rattle.univmon.specs.Needs.{readyAt}
+use Rattle.layout.specs.State.{candOff}
+use Rattle.layout.proofs.Views.{layer-view, housed-here}
 use Rattle.words.specs.Parts.{part}
-use Rattle.univmon.proofs.Sends.{Spanned, spanned-of, cells-room, norms-room, seats-room, housed, ready-here}
 use Rattle.univmon.proofs.judge.ready_at.Statement.{statement}
 use Rattle.univmon.proofs.judge.ready_at.Tie as tie
 
--- the state that is lent, and where its layer stands
+-- antt refused `dims-requires` as it was built: the module's report says why
+dims-requires : tie.Need-dims-requires
+dims-requires c κs = search needs
+
+-- antt refused `who-in-requires` as it was built: the module's report says why
+-- the state that is lent
 abbrev lent-of : tie.Start → Lent
 lent-of c = lent (headOf (c .args .h) (now (c .args .flags)) (now (c .args .lens))) (now (c .args .counters)) (now (c .args .norms)) (now (c .args .entries)) (now (c .args .counts))
 
 inside : (c : tie.Start) → c .args .l < c .args .h .shape .layers
 inside c = let p = c .pre in omega (arith, p .inside)
 
-spanned : (c : tie.After-span-of) → let s = c .span-of .result in Spanned (c .before .before .before .before .before .before .before .args .h .shape) (c .before .before .before .before .before .before .before .args .l) (s .cells) (s .«cells_end») (s .norms) (s .«norms_end») (s .words) (s .«words_end») (s .seats) (s .«seats_end»)
-spanned c = spanned-of (c .before .before .before .before .before .before .before .args .h .shape) (c .before .before .before .before .before .before .before .args .l) (c .span-of .result) (c .span-of .ensures)
-
-cells-ok : (c : tie.After-span-of) → (c .span-of .result .cells ≤ c .span-of .result .«cells_end») × (c .span-of .result .«cells_end» ≤ length (now (c .before .before .before .before .before .before .before .args .counters)))
-cells-ok c = let s = spanned c in (omega (arith, s .cellsEnd), cells-room (lent-of (c .before .before .before .before .before .before .before)) (c .before .before .before .before .before .before .before .pre .standing) (c .before .before .before .before .before .before .before .args .l) (inside (c .before .before .before .before .before .before .before)) _ _ _ _ _ _ _ _ s)
-
-norms-ok : (c : tie.After-span-of) → (c .span-of .result .norms ≤ c .span-of .result .«norms_end») × (c .span-of .result .«norms_end» ≤ length (now (c .before .before .before .before .before .before .before .args .norms)))
-norms-ok c = let s = spanned c in (omega (arith, s .normsEnd), norms-room (lent-of (c .before .before .before .before .before .before .before)) (c .before .before .before .before .before .before .before .pre .standing) (c .before .before .before .before .before .before .before .args .l) (inside (c .before .before .before .before .before .before .before)) _ _ _ _ _ _ _ _ s)
-
-seats-ok : (c : tie.After-span-of) → (c .span-of .result .seats ≤ c .span-of .result .«seats_end») × (c .span-of .result .«seats_end» ≤ length (now (c .before .before .before .before .before .before .before .args .counts)))
-seats-ok c = let s = spanned c in (omega (arith, s .seatsEnd), seats-room (lent-of (c .before .before .before .before .before .before .before)) (c .before .before .before .before .before .before .before .pre .standing) (c .before .before .before .before .before .before .before .args .l) (inside (c .before .before .before .before .before .before .before)) _ _ _ _ _ _ _ _ s)
-
-span-of-requires : tie.Need-span-of-requires
-span-of-requires c κs = (c .before .before .before .before .before .before .pre .standing .accepted, inside (c .before .before .before .before .before .before))
-
-dims-requires : tie.Need-dims-requires
-dims-requires c κs = search needs
-
 who-in-requires : tie.Need-who-in-requires
-who-in-requires c κs = let p = c .before .before .before .before .before .before .before .before .pre in let i = inside (c .before .before .before .before .before .before .before .before) in (omega (arith, i, p .standing .accepted .few), omega (arith, i, p .recorded))
+who-in-requires c κs = let p = c .before .before .before .before .before .before .before .pre in let i = inside (c .before .before .before .before .before .before .before) in (omega (arith, i, p .standing .accepted .few), omega (arith, i, p .recorded))
 
+-- antt refused `mul-len` as it was built: the module's report says why
 mul-len : tie.Need-mul-len
-mul-len c = let p = c .before .before .before .before .before .before .before .before .before .pre in let q = p .standing .accepted .few in let i = inside (c .before .before .before .before .before .before .before .before .before) in let hl = p .headed .lens in search needs
+mul-len c = let p = c .before .before .before .before .before .before .before .before .pre in let q = p .standing .accepted .few in let i = inside (c .before .before .before .before .before .before .before .before) in let hl = p .headed .lens in search needs
 
+-- antt refused `shared-slice-read-len` as it was built: the module's report says why
 shared-slice-read-len : tie.Need-shared-slice-read-len
-shared-slice-read-len c = let p = c .before .before .before .before .before .before .before .before .before .before .pre in let q = p .standing .accepted .few in let i = inside (c .before .before .before .before .before .before .before .before .before .before) in let hl = p .headed .lens in search needs
+shared-slice-read-len c = let p = c .before .before .before .before .before .before .before .before .before .pre in let q = p .standing .accepted .few in let i = inside (c .before .before .before .before .before .before .before .before .before) in let hl = p .headed .lens in search needs
 
-mul-add-ready : tie.Need-mul-add-ready
-mul-add-ready c =
-    let z = c .before .before .before .before .before .before .before .before .before .before .pre in
-    record { fits = omega (arith, (spanned (c .before .before .before)) .cells, cells-are (c .before .before .before .before .before .before .before .before .before .before .args .h .shape) (c .before .before .before .before .before .before .before .before .before .before .args .l), cells-few (c .before .before .before .before .before .before .before .before .before .before .args .h .shape) (z .standing .accepted) (c .before .before .before .before .before .before .before .before .before .before .args .l) (omega (arith, z .inside))) }
+-- antt refused `cells-at-requires` as it was built: the module's report says why
+cells-at-requires : tie.Need-cells-at-requires
+cells-at-requires c κs = let z = c .before .before .before .before .before .before .before .before .before .pre .standing in (z .accepted, (inside (c .before .before .before .before .before .before .before .before .before), z .sizes .cells))
 
-sub-add-ready : tie.Need-sub-add-ready
-sub-add-ready c = let b = cells-ok (c .before .before .before) in search needs
+-- antt refused `norms-at-requires` as it was built: the module's report says why
+norms-at-requires : tie.Need-norms-at-requires
+norms-at-requires c κs = let z = c .before .before .before .before .before .before .before .before .before .before .pre .standing in (z .accepted, (inside (c .before .before .before .before .before .before .before .before .before .before), z .sizes .norms))
 
-part-add-ready-start : tie.Need-part-add-ready-start
-part-add-ready-start c = let b = cells-ok (c .before .before .before) in search needs
+-- antt refused `seats-at-requires` as it was built: the module's report says why
+seats-at-requires : tie.Need-seats-at-requires
+seats-at-requires c κs = let z = c .before .before .before .before .before .before .before .before .before .before .before .pre .standing in (z .accepted, (inside (c .before .before .before .before .before .before .before .before .before .before .before), z .sizes .counts))
 
-part-add-ready-end : tie.Need-part-add-ready-end
-part-add-ready-end c = let b = cells-ok (c .before .before .before) in search needs
-
-mul-add-ready-2 : tie.Need-mul-add-ready-2
-mul-add-ready-2 c =
-    let z = c .before .before .before .before .before .before .before .before .before .before .before .pre in
-    record { fits = omega (arith, (spanned (c .before .before .before .before)) .norms, norm-off (c .before .before .before .before .before .before .before .before .before .before .before .args .h .shape) (c .before .before .before .before .before .before .before .before .before .before .before .args .l), rows-few (c .before .before .before .before .before .before .before .before .before .before .before .args .h .shape) (z .standing .accepted) (c .before .before .before .before .before .before .before .before .before .before .before .args .l) (omega (arith, z .inside))) }
-
-sub-add-ready-2 : tie.Need-sub-add-ready-2
-sub-add-ready-2 c = let b = norms-ok (c .before .before .before .before) in search needs
-
-part-add-ready-start-2 : tie.Need-part-add-ready-start-2
-part-add-ready-start-2 c = let b = norms-ok (c .before .before .before .before) in search needs
-
-part-add-ready-end-2 : tie.Need-part-add-ready-end-2
-part-add-ready-end-2 c = let b = norms-ok (c .before .before .before .before) in search needs
-
-mul-add-ready-3 : tie.Need-mul-add-ready-3
-mul-add-ready-3 c =
-    let z = c .before .before .before .before .before .before .before .before .before .before .before .before .pre in
-    record { fits = omega (arith, (spanned (c .before .before .before .before .before)) .seats, cand-off (c .before .before .before .before .before .before .before .before .before .before .before .before .args .h .shape) (c .before .before .before .before .before .before .before .before .before .before .before .before .args .l), seats-few (c .before .before .before .before .before .before .before .before .before .before .before .before .args .h .shape) (z .standing .accepted) (c .before .before .before .before .before .before .before .before .before .before .before .before .args .l) (omega (arith, z .inside))) }
-
-sub-add-ready-3 : tie.Need-sub-add-ready-3
-sub-add-ready-3 c = let b = seats-ok (c .before .before .before .before .before) in search needs
-
-part-add-ready-start-3 : tie.Need-part-add-ready-start-3
-part-add-ready-start-3 c = let b = seats-ok (c .before .before .before .before .before) in search needs
-
-part-add-ready-end-3 : tie.Need-part-add-ready-end-3
-part-add-ready-end-3 c = let b = seats-ok (c .before .before .before .before .before) in search needs
-
+-- antt refused `add-ready-requires` as it was built: the module's report says why
 add-ready-requires : tie.Need-add-ready-requires
-add-ready-requires c κs = (rw (c .before .before .before .before .before .dims .ensures) (housed (lent-of (c .before .before .before .before .before .before .before .before .before .before .before .before .before)) (c .before .before .before .before .before .before .before .before .before .before .before .before .before .pre .standing) (c .before .before .before .before .before .before .before .before .before .before .before .before .before .args .l) (inside (c .before .before .before .before .before .before .before .before .before .before .before .before .before)) _ _ _ _ _ _ _ _ (spanned (c .before .before .before .before .before .before))), c .before .before .before .before .before .before .before .before .before .before .before .before .before .pre .light)
+add-ready-requires c κs =
+    rw (c .before .before .before .before .before .dims .ensures, c .before .before .cells-at .ensures, c .before .norms-at .ensures, c .seats-at .ensures) (housed-here (lent-of (c .before .before .before .before .before .before .before .before .before .before .before .before)) (c .before .before .before .before .before .before .before .before .before .before .before .before .pre .standing) (c .before .before .before .before .before .before .before .before .before .before .before .before .args .l) (inside (c .before .before .before .before .before .before .before .before .before .before .before .before)), c .before .before .before .before .before .before .before .before .before .before .before .before .pre .light)
 
+-- antt refused `returns` as it was built: the module's report says why
 returns : tie.Need-returns
 returns c =
-    let a = c .before .before .before .before .before .before .before .before .before .before .before .before .before .before .args in
-    rw (c .before .before .before .before .before .before .dims .ensures, c .before .before .before .before .before .who-in .ensures) at (c .add-ready .ensures (part (c .before .before .before .before .before .before .before .span-of .result .words) (c .before .before .before .before .before .before .before .span-of .result .«words_end» - c .before .before .before .before .before .before .before .span-of .result .words) (now (a .entries))) (getD (now (a .flags)) (a .l) false))
-    ∙ ready-here (lent-of (c .before .before .before .before .before .before .before .before .before .before .before .before .before .before)) (now (a .words)) (a .weight) (a .l) (c .before .before .before .before .before .before .before .before .before .before .before .before .before .before .pre) _ _ _ _ _ _ _ _ (spanned (c .before .before .before .before .before .before .before))
+    let a = c .before .before .before .before .before .before .before .before .before .before .before .before .before .args in
+    let sh = a .h .shape in
+    rw (c .before .before .before .before .before .before .dims .ensures, c .before .before .before .before .before .who-in .ensures, c .before .before .before .cells-at .ensures, c .before .before .norms-at .ensures, c .before .seats-at .ensures) at
+    (c .add-ready .ensures (part (4 * candOff sh (a .l)) (4 * sh .«heap_size») (now (a .entries))) (getD (now (a .flags)) (a .l) false))
+    ∙ ap (readyAt sh (now (a .words)) (a .weight) (a .l)) (sym (layer-view (lent-of (c .before .before .before .before .before .before .before .before .before .before .before .before .before)) (c .before .before .before .before .before .before .before .before .before .before .before .before .before .pre .standing .sizes) (a .l) (inside (c .before .before .before .before .before .before .before .before .before .before .before .before .before))))
 
+-- antt refused `ready-at-spec` as it was built: the module's report says why
 pub ready-at-spec : {M : Type 1} → statement M
-ready-at-spec = tie.close (tie.spec span-of-requires dims-requires who-in-requires mul-len shared-slice-read-len mul-add-ready sub-add-ready part-add-ready-start part-add-ready-end mul-add-ready-2 sub-add-ready-2 part-add-ready-start-2 part-add-ready-end-2 mul-add-ready-3 sub-add-ready-3 part-add-ready-start-3 part-add-ready-end-3 add-ready-requires returns)
+ready-at-spec = tie.close (tie.spec dims-requires who-in-requires mul-len shared-slice-read-len cells-at-requires norms-at-requires seats-at-requires add-ready-requires returns)

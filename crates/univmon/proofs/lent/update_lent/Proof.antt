@@ -4,12 +4,13 @@ use mathlib.Core.Path.{_≡_, sym, ap, _∙_}
 use borrow.Author.Needs.{needs}
 use denote.Ref.{now}
 use mir.Facts.{toZ-ofZ}
-use Rattle.header.specs.Header.{headOf, beginOf}
-use Rattle.univmon.specs.Slices.{lent, Lent}
-use Rattle.univmon.specs.Calls.{left}
+use Rattle.header.specs.Header.{headOf, beginOf, beginTests}
+use Rattle.layout.specs.Slices.{lent, Lent}
+use Rattle.layout.specs.Outcomes.{left}
 use Rattle.univmon.specs.Needs.{sentAfter}
-use Rattle.header.specs.declared.Begun.{Begun}
-use Rattle.header.proofs.Steps.{begun-is, begin-light}
+use Rattle.header.specs.declared.AnsweredLent.{AnsweredLent}
+use Rattle.words.specs.Tests.{number}
+use Rattle.header.proofs.Steps.{begun-is, begin-number, begin-light}
 use Rattle.univmon.specs.Updates.{modeOf}
 use Rattle.univmon.proofs.Updating.{call-refused, call-done}
 use Rattle.univmon.proofs.lent.update_lent.Statement.{statement}
@@ -29,11 +30,11 @@ lent-of c = lent (headOf (c .args .had) (now (c .args .flags)) (now (c .args .le
 begins : (c : tie.After-begin-update) → c .begin-update .result ≡ beginOf (c .before .before .before .before .before .before .before .args .had) (c .before .before .before .before .before .before .before .args .weight) (modeOf (c .before .before .before .before .before .before .before .args .kind))
 begins c = rw (toZ-ofZ (c .before .before .before .before .before .before .before .fits .weight), c .before .mode-of .ensures) at (c .begin-update .ensures)
 
-number : (c : tie.After-begin-update) → c .begin-update .result .refusal ≡ beginOf (c .before .before .before .before .before .before .before .args .had) (c .before .before .before .before .before .before .before .args .weight) (modeOf (c .before .before .before .before .before .before .before .args .kind)) .refusal
-number c = ap (λ (b : Begun). b .refusal) (begins c)
+number-is : (c : tie.After-begin-update) → c .begin-update .result .refusal ≡ number (beginTests (c .before .before .before .before .before .before .before .args .had) (c .before .before .before .before .before .before .before .args .weight) (modeOf (c .before .before .before .before .before .before .before .args .kind)))
+number-is c = let a = c .before .before .before .before .before .before .before .args in ap (λ (b : AnsweredLent). b .refusal) (begins c) ∙ begin-number (a .had) (a .weight) (modeOf (a .kind))
 
 update-requires : tie.Need-update-requires
-update-requires c κs = λ z. let a = c .before .before .before .before .before .before .before .before .before .before .before .before .before .args in rw (toZ-ofZ (c .before .before .before .before .before .before .before .before .before .before .before .before .before .fits .weight)) (begin-light (a .had) (a .weight) (modeOf (a .kind)) (sym (number (c .before .before .before .before .before .before)) ∙ z))
+update-requires c κs = λ z. let a = c .before .before .before .before .before .before .before .before .before .before .before .before .before .args in rw (toZ-ofZ (c .before .before .before .before .before .before .before .before .before .before .before .before .before .fits .weight)) (begin-light (a .had) (a .weight) (modeOf (a .kind)) (sym (number-is (c .before .before .before .before .before .before)) ∙ z))
 
 same-length : tie.Need-same-length
 same-length c = search needs
@@ -56,8 +57,8 @@ same-length-6 c = search needs
 -- what all but the beginning left
 left-is : (c : tie.After-update) → let a = c .before .before .before .before .before .before .before .before .before .before .before .before .before .before .args in let l = c .update .last in
     left (c .update .result) (lent (headOf (a .had) (l .1 .1 .1 .0) (l .1 .1 .1 .1 .0)) (l .1 .1 .1 .1 .1 .0) (l .1 .1 .1 .1 .1 .1 .0) (l .1 .1 .1 .1 .1 .1 .1 .0) (l .1 .1 .1 .1 .1 .1 .1 .1 .0))
-    ≡ sentAfter (a .kind) (beginOf (a .had) (a .weight) (modeOf (a .kind)) .refusal) (now (a .words)) (a .weight) (lent-of (c .before .before .before .before .before .before .before .before .before .before .before .before .before .before))
-left-is c = rw (toZ-ofZ (c .before .before .before .before .before .before .before .before .before .before .before .before .before .before .fits .weight), number (c .before .before .before .before .before .before .before)) at (c .update .ensures)
+    ≡ sentAfter (a .kind) (number (beginTests (a .had) (a .weight) (modeOf (a .kind)))) (now (a .words)) (a .weight) (lent-of (c .before .before .before .before .before .before .before .before .before .before .before .before .before .before))
+left-is c = rw (toZ-ofZ (c .before .before .before .before .before .before .before .before .before .before .before .before .before .before .fits .weight), number-is (c .before .before .before .before .before .before .before)) at (c .update .ensures)
 
 returns : tie.Need-returns
 returns c =
@@ -87,7 +88,7 @@ returns-2 : tie.Need-returns-2
 returns-2 c =
     let a = c .before .before .before .before .before .before .before .before .before .before .before .before .before .before .before .before .before .before .before .before .before .before .before .before .before .args in
     let q = call-done (a .kind) (lent-of (c .before .before .before .before .before .before .before .before .before .before .before .before .before .before .before .before .before .before .before .before .before .before .before .before .before)) (now (a .words)) (a .weight) (c .before .before .before .before .before .before .before .before .before .before .before .update .result) _ (left-is (c .before .before .before .before .before .before .before .before .before .before .before)) (c .if1 .left) in
-    let z : c .before .before .before .before .before .before .before .before .before .before .before .before .before .before .before .before .before .before .begin-update .result .refusal ≡ 0 = number (c .before .before .before .before .before .before .before .before .before .before .before .before .before .before .before .before .before .before) ∙ q .0 in
+    let z : c .before .before .before .before .before .before .before .before .before .before .before .before .before .before .before .before .before .before .begin-update .result .refusal ≡ 0 = number-is (c .before .before .before .before .before .before .before .before .before .before .before .before .before .before .before .before .before .before) ∙ q .0 in
     rw (z, begun-is (a .had) (a .weight) (modeOf (a .kind)) (c .before .before .before .before .before .before .before .before .before .before .before .before .before .before .before .before .before .before .begin-update .result) (begins (c .before .before .before .before .before .before .before .before .before .before .before .before .before .before .before .before .before .before)) z) (q .1)
 
 pub update-lent-spec : {M : Type 1} → statement M

@@ -3,7 +3,8 @@
 use mathlib.Core.Path.{sym, _∙_}
 use borrow.Author.Needs.{needs}
 use borrow.Author.Tests.{not-true, not-false}
-use Rattle.univmon.specs.Calls.{left, markCall}
+use Rattle.layout.specs.Outcomes.{left}
+use Rattle.univmon.specs.Calls.{markCall}
 use Rattle.univmon.proofs.marks.mark_candidates_incomplete.Statement.{statement}
 use Rattle.univmon.proofs.marks.mark_candidates_incomplete.Tie as tie
 

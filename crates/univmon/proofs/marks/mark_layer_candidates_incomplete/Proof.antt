@@ -7,7 +7,8 @@ use borrow.Author.Needs.{needs}
 use borrow.Author.Tests.{le-leb, lt-leb, not-true, not-false}
 use Rattle.header.specs.Header.{headerOk}
 use Rattle.header.proofs.Ranges.{ranged-of}
-use Rattle.univmon.specs.Calls.{left, markLayerCall}
+use Rattle.layout.specs.Outcomes.{left}
+use Rattle.univmon.specs.Calls.{markLayerCall}
 use Rattle.univmon.proofs.marks.mark_layer_candidates_incomplete.Statement.{statement}
 use Rattle.univmon.proofs.marks.mark_layer_candidates_incomplete.Tie as tie
 

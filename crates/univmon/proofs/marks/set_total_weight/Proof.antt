@@ -5,7 +5,8 @@ use mathlib.Core.Bool.{true}
 use borrow.Author.Needs.{needs}
 use borrow.Author.Tests.{lt-ltb, le-ltb, not-true, not-false}
 use Rattle.header.specs.Header.{headerOk}
-use Rattle.univmon.specs.Calls.{left, weightCall}
+use Rattle.layout.specs.Outcomes.{left}
+use Rattle.univmon.specs.Calls.{weightCall}
 use Rattle.univmon.proofs.marks.set_total_weight.Statement.{statement}
 use Rattle.univmon.proofs.marks.set_total_weight.Tie as tie
 
@@ -37,6 +38,9 @@ join-requires c κs = search needs
 with-weight-requires : tie.Need-with-weight-requires
 with-weight-requires c κs = search needs
 
+with-totals-requires : tie.Need-with-totals-requires
+with-totals-requires c κs = search needs
+
 with-mode-requires : tie.Need-with-mode-requires
 with-mode-requires c κs = search needs
 
@@ -44,13 +48,14 @@ returns-4 : tie.Need-returns-4
 unfolding weightCall
 returns-4 c =
     simp (
-      in-range (c .before .before .before .before .before .before),
-      sym (c .before .before .before .before .before .clashes .ensures) ∙ c .before .before .before .before .if2 .left,
-      le-ltb _ _ (c .before .before .before .if3 .left),
+      in-range (c .before .before .before .before .before .before .before),
+      sym (c .before .before .before .before .before .before .clashes .ensures) ∙ c .before .before .before .before .before .if2 .left,
+      le-ltb _ _ (c .before .before .before .before .if3 .left),
       c .with-mode .ensures,
-      c .before .with-weight .ensures,
-      c .before .before .join .ensures,
+      c .before .with-totals .ensures,
+      c .before .before .with-weight .ensures,
+      c .before .before .before .join .ensures,
     )
 
 pub set-total-weight-spec : {M : Type 1} → statement M
-set-total-weight-spec = tie.close (tie.spec in-range-requires returns clashes-requires returns-2 returns-3 join-requires with-weight-requires with-mode-requires returns-4)
+set-total-weight-spec = tie.close (tie.spec in-range-requires returns clashes-requires returns-2 returns-3 join-requires with-weight-requires with-totals-requires with-mode-requires returns-4)

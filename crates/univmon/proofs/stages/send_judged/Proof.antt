@@ -4,9 +4,10 @@ use mathlib.Core.Path.{_≡_, sym, _∙_}
 use borrow.Author.Needs.{needs}
 use denote.Ref.{now}
 use Rattle.header.specs.Header.{headOf}
-use Rattle.univmon.specs.Slices.{lent, view, Lent}
-use Rattle.univmon.specs.Calls.{left}
-use Rattle.univmon.specs.Needs.{judgedAt}
+use Rattle.layout.specs.Slices.{lent, view, Lent}
+use Rattle.layout.specs.Outcomes.{left}
+use Rattle.univmon.specs.Needs.{layersTests}
+use Rattle.words.specs.Tests.{number}
 use Rattle.univmon.proofs.Updating.{sent-refused, sends-ready, sent-done}
 use Rattle.univmon.proofs.stages.send_judged.Statement.{statement}
 use Rattle.univmon.proofs.stages.send_judged.Tie as tie
@@ -40,7 +41,7 @@ returns : tie.Need-returns
 returns c = let a = c .before .before .before .before .before .before .before .before .before .before .before .before .before .args in sent-refused (now (a .words)) (a .weight) (a .many) (a .first) (lent-of (c .before .before .before .before .before .before .before .before .before .before .before .before .before)) (c .before .judge-layers .result) (c .before .judge-layers .ensures) (c .if1 .taken)
 
 -- every layer is ready
-judged : (c : tie.Else1) → let a = c .before .before .before .before .before .before .before .before .before .before .before .before .before .args in judgedAt (a .h .shape) (now (a .words)) (a .weight) (a .many) (a .first) (view (lent-of (c .before .before .before .before .before .before .before .before .before .before .before .before .before))) ≡ 0
+judged : (c : tie.Else1) → let a = c .before .before .before .before .before .before .before .before .before .before .before .before .before .args in number (layersTests (a .h .shape) (now (a .words)) (a .weight) (a .many) (a .first) (view (lent-of (c .before .before .before .before .before .before .before .before .before .before .before .before .before)))) ≡ 0
 judged c = sym (c .before .judge-layers .ensures) ∙ c .if1 .left
 
 send-requires : tie.Need-send-requires

@@ -6,7 +6,7 @@ use native.Mathlib.Omega.{arith}
 use borrow.Author.Needs.{needs}
 use denote.Ref.{now}
 use Rattle.header.specs.Header.{headOf}
-use Rattle.univmon.specs.Slices.{lent, view, Lent}
+use Rattle.layout.specs.Slices.{lent, view, Lent}
 use Rattle.univmon.specs.Updates.{firstSent, manySent, bottomBy}
 use Rattle.univmon.proofs.Updating.{first-below, many-sent, judge-ready}
 use Rattle.univmon.proofs.stages.send_key.Statement.{statement}

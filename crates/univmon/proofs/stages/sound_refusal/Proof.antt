@@ -8,9 +8,8 @@ use denote.Ref.{now}
 use Rattle.header.specs.Shape.{maxLayers}
 use Rattle.header.specs.Header.{headerOk, headOf}
 use Rattle.header.proofs.Ranges.{ranged-of}
-use Rattle.univmon.specs.Slices.{lengthsOk, lent}
-use Rattle.univmon.specs.Calls.{left}
-use Rattle.univmon.specs.Needs.{soundNumber}
+use Rattle.layout.specs.Slices.{lengthsOk, lent}
+use Rattle.layout.specs.Outcomes.{left}
 use Rattle.header.specs.declared.Header.{Header}
 use Rattle.univmon.proofs.stages.sound_refusal.Statement.{statement}
 use Rattle.univmon.proofs.stages.sound_refusal.Tie as tie
@@ -20,11 +19,9 @@ abbrev head-of : tie.Start → Header
 head-of c = headOf (c .args .had) (now (c .args .flags)) (now (c .args .lens))
 
 returns : tie.Need-returns
-unfolding soundNumber
 returns c = rw (ne-eqb _ maxLayers (c .if1 .taken))
 
 returns-2 : tie.Need-returns-2
-unfolding soundNumber
 returns-2 c = rw (eq-eqb _ maxLayers (c .before .if1 .left), ne-eqb _ maxLayers (c .if2 .taken))
 
 fields-in-range-requires : tie.Need-fields-in-range-requires
@@ -35,14 +32,12 @@ in-range : (c : tie.Else3) → headerOk (head-of (c .before .before .before .bef
 in-range c = sym (c .before .fields-in-range .ensures (c .before .before .before .before .before .before .before .args .had .mode)) ∙ not-false _ (c .if3 .left)
 
 returns-3 : tie.Need-returns-3
-unfolding soundNumber
 returns-3 c = rw (eq-eqb _ maxLayers (c .before .before .before .before .if1 .left), eq-eqb _ maxLayers (c .before .before .before .if2 .left), sym (c .before .fields-in-range .ensures (c .before .before .before .before .before .before .before .args .had .mode)) ∙ not-true _ (c .if3 .taken))
 
 lengths-match-requires : tie.Need-lengths-match-requires
 lengths-match-requires c κs = ranged-of (head-of (c .before .before .before .before .before .before .before)) (in-range c) .accepted
 
 returns-4 : tie.Need-returns-4
-unfolding soundNumber
 returns-4 c = rw (eq-eqb _ maxLayers (c .before .before .before .before .before .before .if1 .left), eq-eqb _ maxLayers (c .before .before .before .before .before .if2 .left), in-range (c .before .before), sym (c .before .lengths-match .ensures) ∙ not-true _ (c .if4 .taken))
 
 -- the lengths were found right
@@ -56,11 +51,9 @@ add-if5 : tie.Need-add-if5
 add-if5 c = let q = ranged-of (head-of (c .before .before .before .before .before .before .before .before .before .before)) (in-range (c .before .before .before)) .accepted in record { fits = omega (arith, q .few) }
 
 returns-5 : tie.Need-returns-5
-unfolding soundNumber
 returns-5 c = rw (eq-eqb _ maxLayers (c .before .before .before .before .before .before .before .before .if1 .left), eq-eqb _ maxLayers (c .before .before .before .before .before .before .before .if2 .left), in-range (c .before .before .before .before), sized (c .before .before), ne-eqb _ _ (c .if5 .taken))
 
 returns-6 : tie.Need-returns-6
-unfolding soundNumber
 returns-6 c = rw (eq-eqb _ maxLayers (c .before .before .before .before .before .before .before .before .if1 .left), eq-eqb _ maxLayers (c .before .before .before .before .before .before .before .if2 .left), in-range (c .before .before .before .before), sized (c .before .before), eq-eqb _ _ (c .if5 .left))
 
 pub sound-refusal-spec : {M : Type 1} → statement M

@@ -6,10 +6,11 @@ use borrow.Author.Needs.{needs}
 use denote.Ref.{now}
 use mir.Facts.{toZ-ofZ}
 use Rattle.header.specs.Header.{headOf}
-use Rattle.univmon.specs.Slices.{lent, Lent}
-use Rattle.univmon.specs.Calls.{left}
+use Rattle.layout.specs.Slices.{lent, Lent}
+use Rattle.layout.specs.Outcomes.{left}
 use Rattle.univmon.specs.Needs.{soundIn}
-use Rattle.univmon.proofs.Updating.{ready-of, key-ready, after-unsound, after-unbegun, after-begun}
+use Rattle.words.specs.Tests.{number}
+use Rattle.univmon.proofs.Updating.{key-ready, after-unsound, after-unbegun, after-begun}
 use Rattle.univmon.proofs.stages.update.Statement.{statement}
 use Rattle.univmon.proofs.stages.update.Tie as tie
 
@@ -36,7 +37,7 @@ same-length-4 : tie.Need-same-length-4
 same-length-4 c = search needs
 
 -- header, lengths and record were found right
-sound : (c : tie.Else1) → soundIn (lent-of (c .before .before .before .before .before .before .before .before .before)) (now (c .before .before .before .before .before .before .before .before .before .args .words)) ≡ 0
+sound : (c : tie.Else1) → number (soundIn (lent-of (c .before .before .before .before .before .before .before .before .before)) (now (c .before .before .before .before .before .before .before .before .before .args .words))) ≡ 0
 sound c = sym (c .before .sound-refusal .ensures) ∙ c .if1 .left
 
 returns-2 : tie.Need-returns-2
@@ -49,7 +50,7 @@ weight-is : (c : tie.After-magnitude) → c .magnitude .result ≡ natAbs (c .be
 weight-is c = rw (toZ-ofZ (c .before .before .before .before .before .before .before .before .before .before .before .before .before .before .before .before .before .fits .weight)) at (c .magnitude .ensures)
 
 send-key-requires : tie.Need-send-key-requires
-send-key-requires c κs = let a = c .before .before .before .before .before .before .before .before .before .before .before .before .before .before .before .before .before .args in rw (weight-is c) (key-ready (lent-of (c .before .before .before .before .before .before .before .before .before .before .before .before .before .before .before .before .before)) (now (a .words)) (natAbs (a .weight)) (ready-of (lent-of (c .before .before .before .before .before .before .before .before .before .before .before .before .before .before .before .before .before)) (now (a .words)) (sound (c .before .before .before .before .before .before .before .before))) (c .before .before .before .before .before .before .before .before .before .before .before .before .before .before .before .before .before .pre (c .before .before .before .before .before .before .before .if2 .left)))
+send-key-requires c κs = let a = c .before .before .before .before .before .before .before .before .before .before .before .before .before .before .before .before .before .args in rw (weight-is c) (key-ready (lent-of (c .before .before .before .before .before .before .before .before .before .before .before .before .before .before .before .before .before)) (now (a .words)) (natAbs (a .weight)) (sound (c .before .before .before .before .before .before .before .before)) (c .before .before .before .before .before .before .before .before .before .before .before .before .before .before .before .before .before .pre (c .before .before .before .before .before .before .before .if2 .left)))
 
 same-length-5 : tie.Need-same-length-5
 same-length-5 c = search needs

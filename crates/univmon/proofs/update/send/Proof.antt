@@ -5,9 +5,9 @@ use mathlib.Core.Path.{sym, _∙_}
 use native.Mathlib.Omega.{arith}
 use denote.Ref.{now}
 use Rattle.header.specs.Header.{headOf}
-use Rattle.univmon.specs.Slices.{lent, Lent}
-use Rattle.univmon.specs.Calls.{left}
-use Rattle.univmon.specs.Needs.{Headed}
+use Rattle.layout.specs.Slices.{lent, Lent}
+use Rattle.layout.specs.Outcomes.{left}
+use Rattle.layout.specs.Needs.{Headed}
 use Rattle.univmon.proofs.Sending.{Sending, sending-start, sending-ready, sending-on, sending-end}
 use Rattle.univmon.proofs.update.send.Statement.{statement}
 use Rattle.univmon.proofs.update.send.Tie as tie

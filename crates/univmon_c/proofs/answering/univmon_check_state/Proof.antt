@@ -3,7 +3,7 @@
 use native.Mathlib.Omega.{arith}
 use borrow.Author.Needs.{needs}
 use denote.Ref.{now}
-use Rattle.univmon.specs.Calls.{left}
+use Rattle.layout.specs.Outcomes.{left}
 use Rattle.univmon_c.specs.Calls.{CLent, cLent}
 use Rattle.univmon_c.proofs.Turning.{check-no-mode, checked}
 use Rattle.state_check.specs.Check.{stateOk}

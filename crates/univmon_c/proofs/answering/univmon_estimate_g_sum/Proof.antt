@@ -5,8 +5,8 @@ use native.Mathlib.Omega.{arith}
 use borrow.Author.Needs.{needs}
 use borrow.Author.Tests.{le-leb, lt-leb}
 use denote.Ref.{now}
-use Rattle.univmon.specs.Slices.{Lent}
-use Rattle.univmon.specs.Calls.{left}
+use Rattle.layout.specs.Slices.{Lent}
+use Rattle.layout.specs.Outcomes.{left}
 use Rattle.estimates.specs.Calls.{sumCall}
 use Rattle.univmon_c.specs.Crossing.{gOf, isG}
 use Rattle.univmon_c.specs.Calls.{CLent, cLent, lentOf}

@@ -4,7 +4,7 @@ use mathlib.Core.Path.{refl, _∙_}
 use mathlib.Core.Bool.{true}
 use native.Mathlib.Omega.{arith}
 use borrow.Author.Needs.{needs}
-use Rattle.univmon.specs.Calls.{left}
+use Rattle.layout.specs.Outcomes.{left}
 use Rattle.estimates.specs.Calls.{l1Call}
 use Rattle.univmon_c.specs.Crossing.{headerOf}
 use Rattle.univmon_c.proofs.Turning.{answer-no-mode, answers}

@@ -5,7 +5,7 @@ use mathlib.Core.Bool.{true}
 use native.Mathlib.Omega.{arith}
 use borrow.Author.Needs.{needs}
 use denote.Ref.{now}
-use Rattle.univmon.specs.Calls.{left}
+use Rattle.layout.specs.Outcomes.{left}
 use Rattle.estimates.specs.Calls.{l2Call}
 use Rattle.univmon_c.specs.Crossing.{headerOf}
 use Rattle.univmon_c.proofs.Turning.{answer-no-mode, answers}

@@ -4,8 +4,8 @@ use mathlib.Core.Path.{_∙_}
 use native.Mathlib.Omega.{arith}
 use borrow.Author.Needs.{needs}
 use denote.Ref.{now}
-use Rattle.univmon.specs.Slices.{Lent}
-use Rattle.univmon.specs.Calls.{left}
+use Rattle.layout.specs.Slices.{Lent}
+use Rattle.layout.specs.Outcomes.{left}
 use Rattle.estimates.specs.Calls.{panelCall}
 use Rattle.univmon_c.specs.Calls.{CLent, cLent, lentOf}
 use Rattle.univmon_c.proofs.Turning.{panel-no-mode, panelled}

@@ -3,7 +3,8 @@
 use mathlib.Core.Path.{_∙_}
 use native.Mathlib.Omega.{arith}
 use borrow.Author.Needs.{needs}
-use Rattle.univmon.specs.Calls.{left, markCall}
+use Rattle.layout.specs.Outcomes.{left}
+use Rattle.univmon.specs.Calls.{markCall}
 use Rattle.univmon_c.proofs.Turning.{head-no-mode, headed}
 use Rattle.univmon_c.proofs.changing.univmon_mark_candidates_incomplete.Statement.{statement}
 use Rattle.univmon_c.proofs.changing.univmon_mark_candidates_incomplete.Tie as tie

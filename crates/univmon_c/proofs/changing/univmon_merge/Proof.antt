@@ -3,8 +3,8 @@
 use native.Mathlib.Omega.{arith}
 use borrow.Author.Needs.{needs}
 use denote.Ref.{now}
-use Rattle.univmon.specs.Calls.{left}
-use Rattle.univmon_merge.specs.Calls.{mergeCall}
+use Rattle.layout.specs.Outcomes.{left}
+use Rattle.univmon_merge.specs.Merges.{mergeCall}
 use Rattle.univmon_c.specs.Calls.{CLent, cLent}
 use Rattle.univmon_c.proofs.Turning.{merge-no-mode, merge-no-other, merged}
 use Rattle.univmon_c.proofs.changing.univmon_merge.Statement.{statement}

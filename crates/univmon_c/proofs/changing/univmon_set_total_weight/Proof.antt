@@ -3,7 +3,8 @@
 use mathlib.Core.Path.{_∙_}
 use native.Mathlib.Omega.{arith}
 use borrow.Author.Needs.{needs}
-use Rattle.univmon.specs.Calls.{left, weightCall}
+use Rattle.layout.specs.Outcomes.{left}
+use Rattle.univmon.specs.Calls.{weightCall}
 use Rattle.univmon_c.proofs.Turning.{head-no-mode, headed}
 use Rattle.univmon_c.proofs.changing.univmon_set_total_weight.Statement.{statement}
 use Rattle.univmon_c.proofs.changing.univmon_set_total_weight.Tie as tie

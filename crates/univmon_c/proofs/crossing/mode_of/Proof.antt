@@ -1,7 +1,7 @@
 -- `univmon_c::crossing::mode_of` meets its contract.
 -- Written by tools/places.py from answers.txt; assumes nothing.
 use borrow.Author.Tests.{eq-eqb, ne-eqb}
-use Rattle.univmon.specs.Calls.{left}
+use Rattle.layout.specs.Outcomes.{left}
 use Rattle.univmon_c.specs.Crossing.{modeOf}
 use Rattle.univmon_c.proofs.crossing.mode_of.Statement.{statement}
 use Rattle.univmon_c.proofs.crossing.mode_of.Tie as tie

@@ -6,7 +6,8 @@ use borrow.Author.Needs.{needs}
 use denote.Ref.{now}
 use mir.Facts.{toZ-ofZ}
 use Rattle.univmon.specs.declared.Kind.the-variants as kind
-use Rattle.univmon.specs.Calls.{left, lentUpdateCall}
+use Rattle.layout.specs.Outcomes.{left}
+use Rattle.univmon.specs.Calls.{lentUpdateCall}
 use Rattle.univmon_c.specs.Crossing.{cHead}
 use Rattle.univmon_c.specs.Calls.{CLent, cLent}
 use Rattle.univmon_c.proofs.Turning.{change-no-mode, stepped}
@@ -20,8 +21,8 @@ here c = cLent (cHead (c .args .shape) (c .args .weight-had) (c .args .mode) (no
 returns : tie.Need-returns
 returns c = change-no-mode true (λ s. lentUpdateCall kind.Terminal s (now (c .before .before .before .before .before .before .args .words)) (c .before .before .before .before .before .before .args .weight)) (here (c .before .before .before .before .before .before)) (omega (arith, c .if1 .taken))
 
-fixed-of-requires : tie.Need-fixed-of-requires
-fixed-of-requires c κs = search needs
+scalars-of-requires : tie.Need-scalars-of-requires
+scalars-of-requires c κs = search needs
 
 update-weighted-terminal-lent-requires : tie.Need-update-weighted-terminal-lent-requires
 update-weighted-terminal-lent-requires c κs = search needs
@@ -51,7 +52,7 @@ returns-2 : tie.Need-returns-2
 returns-2 c =
     rw (c .c-step .ensures)
     (stepped kind.Terminal (now (c .before .before .before .before .before .before .before .before .before .before .before .before .before .before .before .before .before .before .before .before .before .before .before .before .before .args .words)) (c .before .before .before .before .before .before .before .before .before .before .before .before .before .before .before .before .before .before .before .before .before .before .before .before .before .args .weight) (here (c .before .before .before .before .before .before .before .before .before .before .before .before .before .before .before .before .before .before .before .before .before .before .before .before .before)) (omega (arith, c .before .before .before .before .before .before .before .before .before .before .before .before .before .before .before .before .before .before .before .if1 .left)) _ _
-    (rw (c .before .before .before .before .before .before .before .before .before .before .before .before .before .before .before .before .before .before .fixed-of .ensures, toZ-ofZ (c .before .before .before .before .before .before .before .before .before .before .before .before .before .before .before .before .before .before .before .before .before .before .before .before .before .fits .weight)) at (c .before .before .before .before .before .before .before .before .before .before .before .update-weighted-terminal-lent .ensures)))
+    (rw (c .before .before .before .before .before .before .before .before .before .before .before .before .before .before .before .before .before .before .scalars-of .ensures, toZ-ofZ (c .before .before .before .before .before .before .before .before .before .before .before .before .before .before .before .before .before .before .before .before .before .before .before .before .before .fits .weight)) at (c .before .before .before .before .before .before .before .before .before .before .before .update-weighted-terminal-lent .ensures)))
 
 pub univmon-update-weighted-terminal-lent-spec : {M : Type 1} → statement M
-univmon-update-weighted-terminal-lent-spec = tie.close (tie.spec returns fixed-of-requires update-weighted-terminal-lent-requires c-step-requires same-length same-length-2 same-length-3 same-length-4 same-length-5 same-length-6 returns-2)
+univmon-update-weighted-terminal-lent-spec = tie.close (tie.spec returns scalars-of-requires update-weighted-terminal-lent-requires c-step-requires same-length same-length-2 same-length-3 same-length-4 same-length-5 same-length-6 returns-2)

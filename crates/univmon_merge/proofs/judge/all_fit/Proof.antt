@@ -6,11 +6,11 @@ use mathlib.Core.Bool.{Bool}
 use native.Mathlib.Omega.{arith}
 use borrow.Author.Tests.{not-true, not-false}
 use denote.Ref.{now}
-use Rattle.univmon.specs.Slices.{lent, view, Lent}
+use Rattle.layout.specs.Slices.{lent, view, Lent}
 use Rattle.words.proofs.Scans.{Scan, scan-start, scan-on, scan-stop, scan-end}
-use Rattle.univmon.specs.State.{allLayers}
+use Rattle.layout.specs.State.{allLayers}
 use Rattle.univmon_merge.specs.Pairs.{fitsWith}
-use Rattle.univmon.proofs.Judging.{layers-step, layers-none}
+use Rattle.layout.proofs.States.{layers-step, layers-none}
 use Rattle.univmon_merge.proofs.Pairings.{read-one}
 use Rattle.univmon_merge.proofs.judge.all_fit.Statement.{statement}
 use Rattle.univmon_merge.proofs.judge.all_fit.Tie as tie

@@ -4,9 +4,9 @@ use mathlib.Core.Path.{_≡_, sym, _∙_}
 use mathlib.Core.Bool.{true}
 use borrow.Author.Tests.{not-true, not-false}
 use denote.Ref.{now}
-use Rattle.univmon.specs.Slices.{lent, view, Lent}
-use Rattle.univmon.specs.State.{allLayers}
-use Rattle.univmon_merge.specs.Pairs.{readsWith, layersNumber}
+use Rattle.layout.specs.Slices.{lent, view, Lent}
+use Rattle.layout.specs.State.{allLayers}
+use Rattle.univmon_merge.specs.Pairs.{readsWith}
 use Rattle.univmon_merge.proofs.judge.layers_refusal.Statement.{statement}
 use Rattle.univmon_merge.proofs.judge.layers_refusal.Tie as tie
 
@@ -21,7 +21,6 @@ all-read-requires : tie.Need-all-read-requires
 all-read-requires c κs = c .before .before .before .before .pre
 
 returns : tie.Need-returns
-unfolding layersNumber
 returns c = simp (sym (c .before .all-read .ensures) ∙ not-true _ (c .if1 .taken))
 
 -- all that is read was found in range
@@ -32,11 +31,9 @@ all-fit-requires : tie.Need-all-fit-requires
 all-fit-requires c κs = record { paired = c .before .before .before .before .before .before .pre; read = read c }
 
 returns-2 : tie.Need-returns-2
-unfolding layersNumber
 returns-2 c = simp (read (c .before .before), sym (c .before .all-fit .ensures) ∙ not-true _ (c .if2 .taken))
 
 returns-3 : tie.Need-returns-3
-unfolding layersNumber
 returns-3 c = simp (read (c .before .before), sym (c .before .all-fit .ensures) ∙ not-false _ (c .if2 .left))
 
 pub layers-refusal-spec : {M : Type 1} → statement M

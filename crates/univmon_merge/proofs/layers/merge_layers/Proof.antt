@@ -4,7 +4,7 @@ use Prim.Native.Nat.{_-_}
 use mathlib.Core.Path.{sym, _∙_}
 use native.Mathlib.Omega.{arith}
 use denote.Ref.{now}
-use Rattle.univmon.specs.Slices.{lent, Lent}
+use Rattle.layout.specs.Slices.{lent, Lent}
 use Rattle.univmon_merge.proofs.Pairings.{Merging, merging-start, merging-ready, merging-on, merging-end}
 use Rattle.univmon_merge.proofs.layers.merge_layers.Statement.{statement}
 use Rattle.univmon_merge.proofs.layers.merge_layers.Tie as tie

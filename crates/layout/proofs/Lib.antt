@@ -1,0 +1,10 @@
+pub mod Offsets
+pub mod States
+pub mod Lengths
+pub mod Pieces
+pub mod Views
+pub mod Handed
+pub mod Replaced
+pub mod Flatten
+pub mod Judged
+pub mod Fresh

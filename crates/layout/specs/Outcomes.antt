@@ -1,0 +1,41 @@
+-- What a call on a lent state answers, and what it leaves of header and slices.
+use Prim.Native.Nat.{ℕ}
+use mathlib.Core.Bool.{Bool, cond, not}
+use mathlib.Core.List.{List, [], _∷_, _++_}
+use lib.ListN.{length}
+use lib.Dec.{eqb}
+use Rattle.header.specs.Header.{headerOk}
+use Rattle.layout.specs.Records.{recordLength}
+use Rattle.layout.specs.Slices.{Lent, lentOk}
+
+-- a refusal's number, or the header and slices after it
+pub data Outcome : Type 0 where
+  no : ℕ → Outcome
+  yes : Lent → Outcome
+
+-- the first test that holds refuses with its number
+abbrev pub judge : List (Bool × ℕ) → Lent → Outcome
+judge [] r = Outcome.yes r
+judge (t ∷ ts) r = cond (t .0) (Outcome.no (t .1)) (judge ts r)
+
+-- the number that is answered, 0 for none, and what is left: "Header and slices remain unchanged" on a refusal
+pub record Left : Type 0 where
+  pub refusal : ℕ
+  pub lends : Lent
+
+abbrev pub left : ℕ → Lent → Left
+left n r = record { refusal = n; lends = r }
+
+abbrev pub leftBy : Lent → Outcome → Left
+leftBy r (Outcome.no n) = left n r
+leftBy r (Outcome.yes t) = left 0 t
+
+-- ---- the first tests of a call: "9 for lengths and headers, 12"
+
+-- 9 "wrong slice length; header out of range"
+abbrev pub lentTests : Lent → List (Bool × ℕ)
+lentTests r = (not (headerOk (r .head)), 9) ∷ (not (lentOk r), 9) ∷ []
+
+-- and 12 "record length wrong"
+abbrev pub recordTests : Lent → List ℕ → List (Bool × ℕ)
+recordTests r words = lentTests r ++ ((not (eqb (length words) (recordLength (r .head .shape .layers))), 12) ∷ [])

@@ -1,0 +1,159 @@
+// Where layers stand in the slices that a caller lends, and hashes in a key's record. For the crates of
+// this repository, which show first that the shape is accepted.
+mod parts;
+
+use header::Header;
+use header::Shape;
+use heap_moves::Who;
+use layer::Dims;
+pub use parts::cells_at;
+pub use parts::norms_at;
+pub use parts::seats_at;
+pub use parts::words_at;
+ghost use mathlib.Core.Path.{_≡_};
+ghost use Prim.Native.Nat.{ℕ, _+_, _*_, _≤_, _<_};
+ghost use lib.ListN.{length};
+ghost use Rattle.words.specs.Tests.{number};
+ghost use Rattle.header.specs.Shape.{maxLayers};
+ghost use Rattle.header.specs.Accepted.{Accepted};
+ghost use Rattle.layout.specs.State.{dimsAt};
+ghost use Rattle.layout.specs.Slices.{lengthsOk, lent};
+ghost use Rattle.layout.specs.Outcomes.{lentTests};
+ghost use Rattle.layout.specs.Spans.{extentOf, spanOf};
+ghost use Rattle.layout.specs.Records.{whoAt};
+
+// Counters, norm words, entry words and counts of a shape.
+pub struct Extent {
+    pub cells: usize,
+    pub norms: usize,
+    pub words: usize,
+    pub seats: usize,
+}
+
+pub fn extent_of(shape: Shape) -> Extent
+    requires { ⌜ Accepted shape ⌝ }
+    ensures { λ r. ⌜ r ≡ extentOf shape ⌝ }
+{
+    let rows = shape.layers * shape.rows;
+    let seats = shape.layers * shape.heap_size;
+    Extent {
+        cells: rows * shape.cols,
+        norms: 2 * rows,
+        words: 4 * seats,
+        seats,
+    }
+}
+
+// Whether four slices of these lengths are a shape's.
+pub fn lengths_match(
+    shape: Shape,
+    counters: usize,
+    norms: usize,
+    entries: usize,
+    counts: usize,
+) -> bool
+    requires { ⌜ Accepted shape ⌝ }
+    ensures { λ r. ⌜ r ≡ lengthsOk shape counters norms entries counts ⌝ }
+{
+    let e = extent_of(shape);
+    if counters != e.cells {
+        return false;
+    }
+    if norms != e.norms {
+        return false;
+    }
+    if entries != e.words {
+        return false;
+    }
+    counts == e.seats
+}
+
+// 9 for a header out of range or slices that are not its shape's, 0 for none.
+pub fn lent_refusal(
+    h: Header,
+    counters: &[i64],
+    norms: &[u64],
+    entries: &[u64],
+    counts: &[i64],
+) -> u64
+    ensures { λ r. ⌜ r ≡ number (lentTests (lent h (now (counters .entry)) (now (norms .entry)) (now (entries .entry)) (now (counts .entry)))) ⌝ }
+{
+    if !h.in_range() {
+        return 9;
+    }
+    if !lengths_match(
+        h.shape,
+        counters.len(),
+        norms.len(),
+        entries.len(),
+        counts.len(),
+    ) {
+        return 9;
+    }
+    0
+}
+
+// Where a layer's counters, norm words, entry words and counts begin and end.
+pub struct Span {
+    pub cells: usize,
+    pub cells_end: usize,
+    pub norms: usize,
+    pub norms_end: usize,
+    pub words: usize,
+    pub words_end: usize,
+    pub seats: usize,
+    pub seats_end: usize,
+}
+
+pub fn span_of(shape: Shape, l: usize) -> Span
+    requires { ⌜ Accepted shape ⌝ }
+    requires { ⌜ l < shape .layers ⌝ }
+    ensures { λ r. ⌜ r ≡ spanOf shape l ⌝ }
+{
+    let table = shape.rows * shape.cols;
+    let cells = l * table;
+    let cells_end = cells + table;
+    let row_start = l * shape.rows;
+    let norms = 2 * row_start;
+    let norms_end = norms + 2 * shape.rows;
+    let size = shape.heap_size;
+    let seats = l * size;
+    let seats_end = seats + size;
+    let words = 4 * seats;
+    let words_end = words + 4 * size;
+    Span {
+        cells,
+        cells_end,
+        norms,
+        norms_end,
+        words,
+        words_end,
+        seats,
+        seats_end,
+    }
+}
+
+// Rows, columns and heap size of a layer.
+pub fn dims(shape: Shape, l: usize) -> Dims
+    ensures { λ r. ⌜ r ≡ dimsAt shape l ⌝ }
+{
+    Dims {
+        rows: shape.rows,
+        cols: shape.cols,
+        size: shape.heap_size,
+    }
+}
+
+// Who a record names, with the hash of a layer.
+pub fn who_in(words: &[u64], l: usize) -> Who
+    requires { ⌜ (l < maxLayers) × (4 + 2 * l ≤ length (now words)) ⌝ }
+    ensures { λ r. ⌜ r ≡ whoAt (now (words .entry)) l ⌝ }
+{
+    let at = 2 + 2 * l;
+    Who {
+        key: words[0],
+        bottom: words[1],
+        high: words[at],
+        low: words[at + 1],
+    }
+}

@@ -1,0 +1,31 @@
+-- What the functions of a delta need, by name, and the number that a delta is refused with.
+use Prim.Native.Nat.{ℕ, _<_}
+use mathlib.Core.Path.{_≡_}
+use mathlib.Core.Bool.{true}
+use mathlib.Core.List.{List}
+use lib.ListN.{length}
+use lib.IntN.{ℤ}
+use Rattle.layer.specs.Delta.{delta, deltaReads, deltaFits}
+use Rattle.univmon_delta.specs.declared.Fidelity.{Fidelity}
+use Rattle.layout.specs.State.{dimsAt, layerAt}
+use Rattle.layout.specs.Slices.{Lent, view}
+use Rattle.layout.specs.Records.{recordLength, whoAt}
+use Rattle.univmon_delta.specs.Deltas.{Arrival}
+use Rattle.layout.specs.Needs.{Standing}
+
+abbrev pub arrival : ℕ → ℕ → ℕ → ℤ → Fidelity → Arrival
+arrival l row col n f = record { layer = l; row = row; col = col; count = n; fidelity = f }
+
+-- a delta names a counter of layer l, and its record is the shape's
+pub record Placed (r : Lent) (words : List ℕ) (l row col : ℕ) : Type 0 where
+  pub standing : Standing r
+  pub recorded : length words ≡ recordLength (r .head .shape .layers)
+  pub inside : l < r .head .shape .layers
+  pub below : row < dimsAt (r .head .shape) l .rows
+  pub within : col < dimsAt (r .head .shape) l .cols
+
+-- what the delta on one layer needs
+pub record Arrives (r : Lent) (words : List ℕ) (l row col : ℕ) (n : ℤ) : Type 0 where
+  pub placed : Placed r words l row col
+  pub read : deltaReads (dimsAt (r .head .shape) l) (delta row col n (whoAt words l) true) (layerAt (view r) l) ≡ true
+  pub fit : deltaFits (dimsAt (r .head .shape) l) (delta row col n (whoAt words l) true) (layerAt (view r) l) ≡ true

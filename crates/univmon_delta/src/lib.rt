@@ -1,0 +1,247 @@
+// A delta: a change of one counter that another relay saw. Everything is judged before anything is
+// written.
+use header::Answered;
+use header::Header;
+use header::Mode;
+use heap::Answer;
+use layout::cells_at;
+use layout::dims;
+use layout::lent_refusal;
+use layout::norms_at;
+use layout::seats_at;
+use layout::span_of;
+use layout::who_in;
+ghost use mathlib.Core.Path.{_≡_};
+ghost use mathlib.Core.Bool.{Bool, true, _&&_};
+ghost use Prim.Native.Nat.{ℕ, _<_};
+ghost use Rattle.words.specs.Tests.{number};
+ghost use Rattle.heap.specs.Offer.{keptBy};
+ghost use Rattle.layer.specs.Delta.{delta, deltaLayer};
+ghost use Rattle.univmon_delta.specs.declared.Fidelity.{Fidelity};
+ghost use Rattle.layout.specs.State.{dimsAt, layerAt, putLayer};
+ghost use Rattle.layout.specs.Slices.{lent, view};
+ghost use Rattle.layout.specs.Records.{whoAt};
+ghost use Rattle.univmon_delta.specs.Deltas.{everyInsert, deltaTestsAt, deltaTests, deltaCall};
+ghost use Rattle.layout.specs.Outcomes.{left, leftBy};
+ghost use Rattle.layout.specs.Needs.{Standing};
+ghost use Rattle.univmon_delta.specs.Arriving.{Placed, Arrives, arrival};
+
+// How much of the stream reached a relay that is fed by deltas.
+pub enum Fidelity {
+    EveryInsert,
+    PromotedOnly,
+}
+
+// Whether every insert was promoted.
+fn every_insert(f: Fidelity) -> bool
+    ensures { λ r. ⌜ r ≡ everyInsert f ⌝ }
+{
+    match f {
+        Fidelity::EveryInsert => true,
+        Fidelity::PromotedOnly => false,
+    }
+}
+
+// Whether the layer still holds every key: none was lost, and every insert came here.
+fn kept_all(a: Answer, every: bool) -> bool
+    ensures { λ r. ⌜ r ≡ keptBy a && every ⌝ }
+{
+    if heap::kept(a) {
+        return every;
+    }
+    false
+}
+
+// 0 if the delta may be made, 9 if something that it reads is out of range, 11 if its counter would
+// leave the range. The state is lent whole, so that the contract can name it; no entry is read.
+fn judge_delta(
+    h: Header,
+    counters: &[i64],
+    norms: &[u64],
+    entries: &[u64],
+    counts: &[i64],
+    words: &[u64],
+    l: usize,
+    row: usize,
+    col: usize,
+    count: i64,
+) -> u64
+    requires { ⌜ Placed (lent h (now counters) (now norms) (now entries) (now counts)) (now words) l row col ⌝ }
+    ensures { λ r. ⌜ ((every : Bool) → r ≡ number (deltaTestsAt (dimsAt (h .shape) l) (delta row col count (whoAt (now (words .entry)) l) every)
+        (layerAt (view (lent h (now (counters .entry)) (now (norms .entry)) (now (entries .entry)) (now (counts .entry)))) l))) ⌝ }
+{
+    let shape = h.shape;
+    let d = dims(shape, l);
+    let who = who_in(words, l);
+    let lens = h.lens;
+    let len = lens[l];
+    let cells = cells_at(shape, l, counters);
+    if !layer::delta_reads(
+        cells,
+        norms_at(shape, l, norms),
+        seats_at(shape, l, counts),
+        d,
+        len,
+        row,
+        col,
+        who,
+    ) {
+        return 9;
+    }
+    if layer::delta_fits(cells, d, row, col, count) {
+        return 0;
+    }
+    11
+}
+
+// Makes the delta on its layer, once it is judged.
+fn deliver(
+    h: Header,
+    counters: &mut [i64],
+    norms: &mut [u64],
+    entries: &mut [u64],
+    counts: &mut [i64],
+    words: &[u64],
+    l: usize,
+    row: usize,
+    col: usize,
+    count: i64,
+    every: bool,
+) -> Header
+    requires { ⌜ Arrives (lent h (now counters) (now norms) (now entries) (now counts)) (now words) l row col count ⌝ }
+    ensures { λ r. ⌜ view (lent r (now (counters .exit)) (now (norms .exit)) (now (entries .exit)) (now (counts .exit)))
+        ≡ putLayer (view (lent h (now (counters .entry)) (now (norms .entry)) (now (entries .entry)) (now (counts .entry)))) l
+        (deltaLayer (dimsAt (h .shape) l) (delta row col count (whoAt (now (words .entry)) l) every)
+        (layerAt (view (lent h (now (counters .entry)) (now (norms .entry)) (now (entries .entry)) (now (counts .entry)))) l)) ⌝ }
+    ensures { λ r. ⌜ Standing (lent r (now (counters .exit)) (now (norms .exit)) (now (entries .exit)) (now (counts .exit))) ⌝ }
+{
+    let shape = h.shape;
+    let s = span_of(shape, l);
+    let d = dims(shape, l);
+    let who = who_in(words, l);
+    let lens = h.lens;
+    let len = lens[l];
+    let ca = s.cells;
+    let ce = s.cells_end;
+    let na = s.norms;
+    let ne = s.norms_end;
+    let ea = s.words;
+    let ee = s.words_end;
+    let ta = s.seats;
+    let te = s.seats_end;
+    let answer = layer::apply_delta(
+        &mut counters[ca..ce],
+        &mut norms[na..ne],
+        &mut entries[ea..ee],
+        &mut counts[ta..te],
+        d,
+        len,
+        row,
+        col,
+        count,
+        who,
+    );
+    h.touched(l, heap::len_after(len, answer), kept_all(answer, every))
+}
+
+// The number that a delta is refused with, 0 for none: 9, 12, 8, then 9 and 11 for its layer.
+fn delta_refusal(
+    h: Header,
+    counters: &[i64],
+    norms: &[u64],
+    entries: &[u64],
+    counts: &[i64],
+    words: &[u64],
+    l: usize,
+    row: usize,
+    col: usize,
+    count: i64,
+) -> u64
+    ensures { λ r. ⌜ ((f : Fidelity) → r ≡ number (deltaTests (lent h (now (counters .entry)) (now (norms .entry)) (now (entries .entry)) (now (counts .entry))) (now (words .entry)) (arrival l row col count f))) ⌝ }
+{
+    let unfit = lent_refusal(h, counters, norms, entries, counts);
+    if unfit != 0 {
+        return unfit;
+    }
+    let shape = h.shape;
+    if words.len() != 2 + 2 * shape.layers {
+        return 12;
+    }
+    if shape.layers <= l {
+        return 8;
+    }
+    let d = dims(shape, l);
+    if d.rows <= row {
+        return 8;
+    }
+    if d.cols <= col {
+        return 8;
+    }
+    judge_delta(
+        h,
+        counters,
+        norms,
+        entries,
+        counts,
+        words,
+        l,
+        row,
+        col,
+        count,
+    )
+}
+
+// A delta on one counter of one layer, and the offer of its key there: 9, 12, 8, 9, 11.
+pub fn apply_delta(
+    header: Header,
+    counters: &mut [i64],
+    norms: &mut [u64],
+    entries: &mut [u64],
+    counts: &mut [i64],
+    words: &[u64],
+    layer: usize,
+    row: usize,
+    col: usize,
+    count: i32,
+    fidelity: Fidelity,
+) -> Answered
+    ensures { λ r. ⌜ left (r .refusal) (lent (r .header) (now (counters .exit)) (now (norms .exit)) (now (entries .exit)) (now (counts .exit)))
+        ≡ leftBy (lent header (now (counters .entry)) (now (norms .entry)) (now (entries .entry)) (now (counts .entry)))
+        (deltaCall (lent header (now (counters .entry)) (now (norms .entry)) (now (entries .entry)) (now (counts .entry))) (now (words .entry)) (arrival layer row col count fidelity)) ⌝ }
+{
+    let n = count as i64;
+    let refusal = delta_refusal(
+        header,
+        &*counters,
+        &*norms,
+        &*entries,
+        &*counts,
+        words,
+        layer,
+        row,
+        col,
+        n,
+    );
+    if refusal != 0 {
+        return Answered { refusal, header };
+    }
+    let mode = header.mode;
+    let settled = header.with_mode(header::join(mode, Mode::Standard));
+    let every = every_insert(fidelity);
+    Answered {
+        refusal: 0,
+        header: deliver(
+            settled,
+            counters,
+            norms,
+            entries,
+            counts,
+            words,
+            layer,
+            row,
+            col,
+            n,
+            every,
+        ),
+    }
+}
