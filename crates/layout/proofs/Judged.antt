@@ -52,7 +52,7 @@ judge-number ts r n = go (eqb (number ts) 0) refl
 
 -- ---- tests and then others
 
-judge-rest : (ts us : List (Bool × ℕ)) (r : Lent) → Off ts → judge (ts ++ us) r ≡ judge us r
+pub judge-rest : (ts us : List (Bool × ℕ)) (r : Lent) → Off ts → judge (ts ++ us) r ≡ judge us r
 judge-rest [] us r h = refl
 judge-rest (t ∷ ts) us r h = rw (h .0) (judge-rest ts us r (h .1))
 

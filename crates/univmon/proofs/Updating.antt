@@ -24,7 +24,7 @@ use Rattle.layout.specs.Outcomes.{judge, Left, left, leftBy}
 use Rattle.layout.specs.Needs.{Standing}
 use Rattle.layout.proofs.Lengths.{standing-of}
 use Rattle.layout.proofs.Flatten.{lent-is}
-use Rattle.layout.proofs.Judged.{left-refused, left-done, judge-told, left-by}
+use Rattle.layout.proofs.Judged.{judge-rest, judge-told, left-refused, left-done, left-by}
 use Rattle.univmon.specs.Updates.{modeOf, firstSent, manySent, bottomBy, sentTests, updateTests, updated}
 use Rattle.univmon.specs.Calls.{updateCall, placeTests, lentUpdateCall}
 use Rattle.univmon.proofs.Touched.{sent-room}
