@@ -17,7 +17,7 @@ use Rattle.structure_utils.specs.Median.{sortZ, middle}
 use Rattle.structure_utils.proofs.Sorting.{all-sort}
 use Rattle.countsketch_l2_norm.specs.Estimate.{estimates, estimateOf}
 use Rattle.countsketch_l2_norm.specs.Merge.{rowNorms, sumBelow, squaresFrom}
-use Rattle.countsketch_l2_norm.specs.L2.{normsIn}
+use Rattle.countsketch_l2_norm.specs.L2.{normsInRange}
 use Rattle.countsketch_l2_norm.proofs.Merges.{squares-most, length-rowNorms, row-at}
 use Rattle.countsketch_l2_norm.proofs.After.{all-cells}
 use Rattle.countsketch_l2_norm.proofs.Estimates.{all-estimates}
@@ -50,8 +50,8 @@ count-in rows cols h cells a =
 
 -- ---- the norms
 
-pub norms-are : (cols : ℕ) (cells : List ℤ) (k r : ℕ) → normsIn cols (rowNorms cols cells k r) ≡ true
-unfolding normsIn rowNorms
+pub norms-are : (cols : ℕ) (cells : List ℤ) (k r : ℕ) → normsInRange cols (rowNorms cols cells k r) ≡ true
+unfolding normsInRange rowNorms
 norms-are cols cells zero r = refl
 norms-are cols cells (suc k) r = both (le-leb _ (cols * squareCap) (squares-most (r * cols) cols cells)) (norms-are cols cells k (suc r))
 

@@ -15,21 +15,21 @@ use Rattle.structure_utils.specs.Median.{sortZ, middle, middleF}
 use Rattle.structure_utils.proofs.Sorting.{all-sort}
 use Rattle.structure_utils.proofs.Floats.{median-ints, count-is}
 use Rattle.countsketch_l2_norm.specs.Sketch.{cellOf, cellAt}
-use Rattle.countsketch_l2_norm.specs.Estimate.{estimates, estimateF, estimateOf, cellsIn}
+use Rattle.countsketch_l2_norm.specs.Estimate.{estimates, estimateF, estimateOf, cellsInRange}
 
 in-signed : (h r : ℕ) (v : ℤ) → inRange v ≡ true → inRange (signed h r v) ≡ true
 unfolding inRange
 in-signed h r v e = ap (λ (n : ℕ). leb n top) (abs-signed h r v) ∙ e
 
-pub all-estimates : (cols h : ℕ) (xs : List ℤ) (k r : ℕ) → cellsIn cols h xs k r ≡ true → allIn (estimates cols h xs k r) ≡ true
-unfolding cellsIn estimates allIn
+pub all-estimates : (cols h : ℕ) (xs : List ℤ) (k r : ℕ) → cellsInRange cols h xs k r ≡ true → allIn (estimates cols h xs k r) ≡ true
+unfolding cellsInRange estimates allIn
 all-estimates cols h xs zero r e = refl
 all-estimates cols h xs (suc k) r e =
-    both (in-signed h r (cellAt xs (cellOf cols h r)) (and-left (inRange (cellAt xs (cellOf cols h r))) (cellsIn cols h xs k (suc r)) e))
-    (all-estimates cols h xs k (suc r) (and-right (inRange (cellAt xs (cellOf cols h r))) (cellsIn cols h xs k (suc r)) e))
+    both (in-signed h r (cellAt xs (cellOf cols h r)) (and-left (inRange (cellAt xs (cellOf cols h r))) (cellsInRange cols h xs k (suc r)) e))
+    (all-estimates cols h xs k (suc r) (and-right (inRange (cellAt xs (cellOf cols h r))) (cellsInRange cols h xs k (suc r)) e))
 
 -- "A count is the estimate cut toward zero."
-pub count-cut : (rows cols h : ℕ) (xs : List ℤ) → cellsIn cols h xs rows 0 ≡ true → toSigned 63 (estimateF rows cols h xs) ≡ estimateOf rows cols h xs
+pub count-cut : (rows cols h : ℕ) (xs : List ℤ) → cellsInRange cols h xs rows 0 ≡ true → toSigned 63 (estimateF rows cols h xs) ≡ estimateOf rows cols h xs
 unfolding estimateF estimateOf
 count-cut rows cols h xs e = count-is (estimates cols h xs rows 0) (all-estimates cols h xs rows 0 e)
 
@@ -43,19 +43,19 @@ pub estimates-more : (cols h : ℕ) (xs : List ℤ) (n r : ℕ) (v : ℤ) → v 
 unfolding estimates
 estimates-more cols h xs n r v e = ap (λ (z : ℤ). z ∷ estimates cols h xs n (suc r)) (sym e)
 
-pub sorted-in : (rows cols h : ℕ) (xs buf : List ℤ) → take rows buf ≡ sortZ (estimates cols h xs rows 0) → cellsIn cols h xs rows 0 ≡ true → allIn (take rows buf) ≡ true
+pub sorted-in : (rows cols h : ℕ) (xs buf : List ℤ) → take rows buf ≡ sortZ (estimates cols h xs rows 0) → cellsInRange cols h xs rows 0 ≡ true → allIn (take rows buf) ≡ true
 sorted-in rows cols h xs buf e i = rw e (all-sort (estimates cols h xs rows 0) (all-estimates cols h xs rows 0 i))
 
 pub sorted-count : (rows cols h : ℕ) (xs buf : List ℤ) → take rows buf ≡ sortZ (estimates cols h xs rows 0) → middle (take rows buf) ≡ estimateOf rows cols h xs
 unfolding estimateOf
 sorted-count rows cols h xs buf e = ap middle e
 
-pub sorted-float : (rows cols h : ℕ) (xs buf : List ℤ) → take rows buf ≡ sortZ (estimates cols h xs rows 0) → cellsIn cols h xs rows 0 ≡ true → middleF (map (ofInt binary64) (take rows buf)) ≡ estimateF rows cols h xs
+pub sorted-float : (rows cols h : ℕ) (xs buf : List ℤ) → take rows buf ≡ sortZ (estimates cols h xs rows 0) → cellsInRange cols h xs rows 0 ≡ true → middleF (map (ofInt binary64) (take rows buf)) ≡ estimateF rows cols h xs
 unfolding estimateF
 sorted-float rows cols h xs buf e i = ap (λ (l : List ℤ). middleF (map (ofInt binary64) l)) e ∙ sym (median-ints (estimates cols h xs rows 0) (all-estimates cols h xs rows 0 i))
 
 -- the same, in the rows' order
-pub counted-in : (rows cols h : ℕ) (xs es : List ℤ) → es ≡ estimates cols h xs rows 0 → cellsIn cols h xs rows 0 ≡ true → allIn es ≡ true
+pub counted-in : (rows cols h : ℕ) (xs es : List ℤ) → es ≡ estimates cols h xs rows 0 → cellsInRange cols h xs rows 0 ≡ true → allIn es ≡ true
 counted-in rows cols h xs es e i = rw e (all-estimates cols h xs rows 0 i)
 
 pub counted : (rows cols h : ℕ) (xs es : List ℤ) → es ≡ estimates cols h xs rows 0 → middle (sortZ es) ≡ estimateOf rows cols h xs

@@ -14,7 +14,7 @@ use Rattle.words.proofs.Bools.{and-left, and-right, both}
 use Rattle.matrix_storage.specs.Bits.{column, signed}
 use Rattle.matrix_storage.proofs.Cells.{column-lt}
 use Rattle.countsketch_l2_norm.specs.Sketch.{Sketch, cellOf, cellAt, addCell, addRow, addRows, rowsRead}
-use Rattle.countsketch_l2_norm.specs.Estimate.{cellsIn}
+use Rattle.countsketch_l2_norm.specs.Estimate.{cellsInRange}
 use Rattle.countsketch_l2_norm.specs.Merge.{sumBelow, squaresFrom, rowNorm, rowNorms}
 use Rattle.countsketch_l2_norm.proofs.Places.{place-lt, same-row, same-col}
 use Rattle.countsketch_l2_norm.proofs.Merges.{length-rowNorms, row-at, squares-most}
@@ -123,13 +123,13 @@ kept-rows rows cols h w (suc k) r s p l room e =
     (kept-cell rows cols r (column cols h r) (signed h r (pos w)) s (omega arith) (column-lt cols h r p) room e)
 
 -- ---- norms that are kept are in range: what an update reads is in range where the counters are
-pub kept-read : (rows cols h : ℕ) (s : Sketch) (k r : ℕ) → 1 ≤ cols → k + r ≤ rows → Kept rows cols s → cellsIn cols h (s .cells) k r ≡ true → rowsRead cols h s k r ≡ true
-unfolding cellsIn rowsRead
+pub kept-read : (rows cols h : ℕ) (s : Sketch) (k r : ℕ) → 1 ≤ cols → k + r ≤ rows → Kept rows cols s → cellsInRange cols h (s .cells) k r ≡ true → rowsRead cols h s k r ≡ true
+unfolding cellsInRange rowsRead
 kept-read rows cols h s zero r p l e i = refl
 kept-read rows cols h s (suc k) r p l e i =
     let x = cellAt (s .cells) (cellOf cols h r) in
     let n : getD (s .norms) r 0 ≡ rowNorm cols (s .cells) r = ap (λ (ns : List ℕ). getD ns r 0) e ∙ row-at cols (s .cells) rows r (omega arith) in
-    both (both (both (and-left (inRange x) (cellsIn cols h (s .cells) k (suc r)) i)
+    both (both (both (and-left (inRange x) (cellsInRange cols h (s .cells) k (suc r)) i)
     (le-leb (getD (s .norms) r 0) (cols * squareCap) (omega (arith, n, squares-most (r * cols) cols (s .cells)))))
     (le-leb (capped x) (getD (s .norms) r 0) (omega (arith, n, norm-holds cols r (column cols h r) (s .cells) (column-lt cols h r p)))))
-    (kept-read rows cols h s k (suc r) p (omega arith) e (and-right (inRange x) (cellsIn cols h (s .cells) k (suc r)) i))
+    (kept-read rows cols h s k (suc r) p (omega arith) e (and-right (inRange x) (cellsInRange cols h (s .cells) k (suc r)) i))

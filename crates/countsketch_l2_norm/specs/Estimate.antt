@@ -23,6 +23,6 @@ unfoldable pub estimateOf : ℕ → ℕ → ℕ → List ℤ → ℤ
 estimateOf rows cols h cells = middle (sortZ (estimates cols h cells rows 0))
 
 -- the counters that a hash names are in range: what an estimate reads
-unfoldable pub cellsIn : ℕ → ℕ → List ℤ → ℕ → ℕ → Bool
-cellsIn cols h cells zero r = true
-cellsIn cols h cells (suc k) r = inRange (cellAt cells (cellOf cols h r)) && cellsIn cols h cells k (suc r)
+unfoldable pub cellsInRange : ℕ → ℕ → List ℤ → ℕ → ℕ → Bool
+cellsInRange cols h cells zero r = true
+cellsInRange cols h cells (suc k) r = inRange (cellAt cells (cellOf cols h r)) && cellsInRange cols h cells k (suc r)

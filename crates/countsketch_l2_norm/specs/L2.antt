@@ -19,9 +19,9 @@ unfoldable pub l2Of : List ℕ → Float
 l2Of norms = root (l2Squared norms)
 
 -- "A norm's range is 0 to cols × 2^63."
-unfoldable pub normsIn : ℕ → List ℕ → Bool
-normsIn cols [] = true
-normsIn cols (n ∷ ns) = leb n (cols * squareCap) && normsIn cols ns
+unfoldable pub normsInRange : ℕ → List ℕ → Bool
+normsInRange cols [] = true
+normsInRange cols (n ∷ ns) = leb n (cols * squareCap) && normsInRange cols ns
 
 -- a norm "clamped to 2^63 − 1", as the whole number that it is before it becomes a float
 abbrev pub clamped : ℕ → ℤ

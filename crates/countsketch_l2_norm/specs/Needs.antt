@@ -35,15 +35,15 @@ pub record RowAdded (cols h w r : ℕ) (xs : List ℤ) (ws : List ℕ) (ys : Lis
   pub estimate : v ≡ signed h r (cellAt ys (cellOf cols h r))
 
 -- a row and a column within the counters
-pub record Placed (rows cols row col : ℕ) (xs : List ℤ) : Type 0 where
+pub record CellPlaced (rows cols row col : ℕ) (xs : List ℤ) : Type 0 where
   pub shaped : Shaped rows cols
   pub room : rows * cols ≤ length xs
   pub below : row < rows
   pub inside : col < cols
 
 -- of a delta there
-pub record DeltaReady (rows cols row col : ℕ) (d : ℤ) (xs : List ℤ) (ws : List ℕ) : Type 0 where
-  pub placed : Placed rows cols row col xs
+pub record CellDeltaReady (rows cols row col : ℕ) (d : ℤ) (xs : List ℤ) (ws : List ℕ) : Type 0 where
+  pub placed : CellPlaced rows cols row col xs
   pub pairs : 2 * rows ≤ length ws
   pub read : cellRead cols (row * cols + col) row (sketchOf xs ws rows) ≡ true
   pub fit : cellFits (row * cols + col) d xs ≡ true

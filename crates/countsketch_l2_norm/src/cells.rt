@@ -9,7 +9,7 @@ ghost use Rattle.words.specs.Wide.{valueOf};
 ghost use Rattle.matrix_storage.specs.Bits.{maxRows, maxCols};
 ghost use Rattle.countsketch_l2_norm.specs.Norms.{normAt, setNorm};
 ghost use Rattle.countsketch_l2_norm.specs.Sketch.{sketchOf, cellAt, addCell, rowRead, cellRead, cellFits};
-ghost use Rattle.countsketch_l2_norm.specs.Needs.{CellReady, Placed, DeltaReady};
+ghost use Rattle.countsketch_l2_norm.specs.Needs.{CellReady, CellPlaced, CellDeltaReady};
 use words::Wide;
 
 // The index of a row's column among the counters.
@@ -85,7 +85,7 @@ pub fn cell_read(
     row: usize,
     col: usize,
 ) -> bool
-    requires { ⌜ Placed rows cols row col (now counters) ⌝ }
+    requires { ⌜ CellPlaced rows cols row col (now counters) ⌝ }
     requires { ⌜ 2 * rows ≤ length (now norms) ⌝ }
     ensures { λ b. ⌜ b ≡ cellRead cols (row * cols + col) row (sketchOf (now (counters .entry)) (now (norms .entry)) rows) ⌝ }
 {
@@ -114,7 +114,7 @@ pub fn cell_fits(
     col: usize,
     count: i64,
 ) -> bool
-    requires { ⌜ Placed rows cols row col (now counters) ⌝ }
+    requires { ⌜ CellPlaced rows cols row col (now counters) ⌝ }
     requires { ⌜ inRange (cellAt (now counters) (row * cols + col)) ≡ true ⌝ }
     ensures { λ b. ⌜ b ≡ cellFits (row * cols + col) count (now (counters .entry)) ⌝ }
 {
@@ -132,7 +132,7 @@ pub fn apply_delta(
     col: usize,
     count: i64,
 )
-    requires { ⌜ DeltaReady rows cols row col count (now counters) (now norms) ⌝ }
+    requires { ⌜ CellDeltaReady rows cols row col count (now counters) (now norms) ⌝ }
     ensures { λ _. ⌜ sketchOf (now (counters .exit)) (now (norms .exit)) rows
         ≡ addCell (row * cols + col) row count (sketchOf (now (counters .entry)) (now (norms .entry)) rows) ⌝ }
 {

@@ -9,7 +9,7 @@ ghost use Rattle.words.specs.Num.{top, squareCap, inRange};
 ghost use Rattle.words.specs.Wide.{valueOf};
 ghost use Rattle.matrix_storage.specs.Bits.{maxRows, maxCols, hashBits, maskBits, signed, hashOf, Shaped};
 ghost use Rattle.countsketch_l2_norm.specs.Sketch.{sketchOf, cellOf, addRows, rowRead, rowsRead, rowsFit, rowsReady};
-ghost use Rattle.countsketch_l2_norm.specs.Estimate.{estimates, estimateOf, cellsIn};
+ghost use Rattle.countsketch_l2_norm.specs.Estimate.{estimates, estimateOf, cellsInRange};
 ghost use Rattle.countsketch_l2_norm.specs.Needs.{Ready, CellReady, RowAdded};
 use crate::cells::add_cell;
 use crate::cells::index_of;
@@ -199,7 +199,7 @@ pub fn rows_fit(
 ) -> bool
     requires { ⌜ Shaped rows cols ⌝ }
     requires { ⌜ (rows * cols ≤ length (now counters)) × (weight ≤ top) ⌝ }
-    requires { ⌜ cellsIn cols (hashOf high low) (now counters) rows 0 ≡ true ⌝ }
+    requires { ⌜ cellsInRange cols (hashOf high low) (now counters) rows 0 ≡ true ⌝ }
     ensures { λ b. ⌜ b ≡ rowsFit cols (hashOf high low) weight (now (counters .entry)) rows 0 ⌝ }
 {
     let bits = matrix_storage::mask_bits(cols);

@@ -7,8 +7,8 @@ use Rattle.float64.specs.Norm.{normRead}
 use Rattle.float64.specs.Root.{root}
 use Rattle.matrix_storage.specs.Bits.{log2In, log2, maskBits, hashOf, column, signed}
 use Rattle.structure_utils.specs.Median.{insertBy, sortBy, middleF, median, middle}
-use Rattle.countsketch_l2_norm.specs.Estimate.{estimates, estimateF, estimateOf, cellsIn}
-use Rattle.countsketch_l2_norm.specs.L2.{l2Squared, l2Of, normsIn}
+use Rattle.countsketch_l2_norm.specs.Estimate.{estimates, estimateF, estimateOf, cellsInRange}
+use Rattle.countsketch_l2_norm.specs.L2.{l2Squared, l2Of, normsInRange}
 use Rattle.countsketch_l2_norm.specs.Merge.{sumBelow, squaresFrom}
 use Rattle.countsketch_l2_norm.specs.Norms.{normsOf, wordsOf}
 use Rattle.countsketch_l2_norm.specs.Sketch.{addCell, addRows, rowsRead, rowsFit}
@@ -31,5 +31,5 @@ use Rattle.estimates.specs.Sums.{ownAt, gSumOf, whosRead, layerReads}
 use Rattle.figures.specs.Figures.{same, allHold, relay, afterA, afterB, figures}
 
 pub figures-hold : allHold figures ≡ true
-unfolding ofInt ofBits toBits sub mul div le inRange capped allIn normRead root log2In log2 maskBits hashOf column signed insertBy sortBy middleF median middle estimates estimateF estimateOf cellsIn l2Squared l2Of normsIn sumBelow squaresFrom normsOf wordsOf addCell addRows rowsRead rowsFit up candsOf entriesOf find seat offer freshHeader lensFrom headerOk shapeRefusal bottomFrom bottomOf bottomLayer addSketch addLayer addReads addFits whos newCall updateCall lengthsOk view flat freshLent rowsAt colsAt cellOff normOff candOff layerAt putLayer overLayers allLayers updateTests updated gSum standardSum gOf factor counted addTerm sumOver l2Call sumCall l2OfState ownAt gSumOf whosRead layerReads same allHold relay afterA afterB figures
+unfolding ofInt ofBits toBits sub mul div le inRange capped allIn normRead root log2In log2 maskBits hashOf column signed insertBy sortBy middleF median middle estimates estimateF estimateOf cellsInRange l2Squared l2Of normsInRange sumBelow squaresFrom normsOf wordsOf addCell addRows rowsRead rowsFit up candsOf entriesOf find seat offer freshHeader lensFrom headerOk shapeRefusal bottomFrom bottomOf bottomLayer addSketch addLayer addReads addFits whos newCall updateCall lengthsOk view flat freshLent rowsAt colsAt cellOff normOff candOff layerAt putLayer overLayers allLayers updateTests updated gSum standardSum gOf factor counted addTerm sumOver l2Call sumCall l2OfState ownAt gSumOf whosRead layerReads same allHold relay afterA afterB figures
 figures-hold = refl

@@ -53,8 +53,8 @@ layerBy (bottom.At l) = pos 0 ∷ pos l ∷ []
 layerBy (bottom.Refused n) = pos n ∷ []
 
 -- a refusal's number, 0 for none, and the float's bits
-abbrev pub answered : Answer → List ℤ
-answered a = pos (a .refusal) ∷ bits (a .value) ∷ []
+abbrev pub answerWords : Answer → List ℤ
+answerWords a = pos (a .refusal) ∷ bits (a .value) ∷ []
 
 -- "heap size 2, 2 layers"; "4 cols, 2 rows"
 abbrev pub shape : Shape
@@ -105,12 +105,12 @@ figures =
     }
     ∷ record { given = map pos (normsOf (afterA .norms) 4); said = pos 25 ∷ pos 25 ∷ pos 0 ∷ pos 0 ∷ [] }
     ∷ record { given = bits (estimateF 2 4 (hashOf high low) (afterA .counters)) ∷ []; said = pos 0x4014000000000000 ∷ [] }
-    ∷ record { given = answered (l2Call (afterA .head) (afterA .norms)); said = pos 0 ∷ pos 0x4014000000000000 ∷ [] }
+    ∷ record { given = answerWords (l2Call (afterA .head) (afterA .norms)); said = pos 0 ∷ pos 0x4014000000000000 ∷ [] }
     -- "Capped square of 3,037,000,499: 9,223,372,030,926,249,001. Of 3,037,000,500: 2^63."
     ∷ record { given = pos (capped (pos 3037000499)) ∷ pos (capped (pos 3037000500)) ∷ []; said = pos 9223372030926249001 ∷ pos (2 ^ 63) ∷ [] }
     -- "Norm 2^53 + 1 reads as 2^53. Two capped cells read as 2^63."
     ∷ record { given = bits (normRead 9007199254740993) ∷ []; said = pos 0x4340000000000000 ∷ [] }
     ∷ record { given = bits (normRead (rowNorm 2 (pos 3037000500 ∷ negsuc 3037000499 ∷ []) 0)) ∷ []; said = pos 0x43E0000000000000 ∷ [] }
     -- "Standard mode, heap size 2, 2 layers, key A with bottom hash 0, key B with 2: cardinality 2."
-    ∷ record { given = answered (cardinalityCall afterB); said = pos 0 ∷ pos 0x4000000000000000 ∷ [] }
+    ∷ record { given = answerWords (cardinalityCall afterB); said = pos 0 ∷ pos 0x4000000000000000 ∷ [] }
     ∷ []

@@ -12,7 +12,7 @@ use Rattle.words.specs.Num.{top}
 use Rattle.words.proofs.Bools.{and-left, and-right}
 use Rattle.header.specs.Shape.{maxLayers, shapeRefusal}
 use Rattle.header.specs.Totals.{totalsOk}
-use Rattle.header.specs.Header.{layerOk, lensFrom, headerOk}
+use Rattle.header.specs.Header.{lengthOk, lensFrom, headerOk}
 use Rattle.header.specs.declared.Header.{Header}
 use Rattle.header.specs.Accepted.{Accepted}
 use Rattle.header.proofs.Refusals.{accepted-of}
@@ -38,10 +38,10 @@ unfolding lensFrom
 lens-at layers size lens flags zero i j h l e = absurd (omega arith)
 lens-at layers size lens flags (suc k) i zero h l e =
     let q : i + 0 ≡ i = omega arith in
-    rw q (leb-true (getD lens i 0) size (rw (lt-ltb i layers (omega arith)) at (and-left (layerOk i layers size (getD lens i 0) (getD flags i false)) (lensFrom layers size lens flags k (suc i)) e)))
+    rw q (leb-true (getD lens i 0) size (rw (lt-ltb i layers (omega arith)) at (and-left (lengthOk i layers size (getD lens i 0) (getD flags i false)) (lensFrom layers size lens flags k (suc i)) e)))
 lens-at layers size lens flags (suc k) i (suc j) h l e =
     let q : i + suc j ≡ suc i + j = omega arith in
-    rw q (lens-at layers size lens flags k (suc i) j (omega arith) (omega arith) (and-right (layerOk i layers size (getD lens i 0) (getD flags i false)) (lensFrom layers size lens flags k (suc i)) e))
+    rw q (lens-at layers size lens flags k (suc i) j (omega arith) (omega arith) (and-right (lengthOk i layers size (getD lens i 0) (getD flags i false)) (lensFrom layers size lens flags k (suc i)) e))
 
 pub len-few : (h : Header) → Ranged h → (l : ℕ) → l < h .shape .layers → getD (h .lens) l 0 ≤ h .shape .«heap_size»
 len-few h r l p = rw (zero-add l) at (lens-at (h .shape .layers) (h .shape .«heap_size») (h .lens) (h .flags) maxLayers 0 l (omega (arith, r .accepted .few)) (omega arith) (r .lens))

@@ -16,7 +16,7 @@ use Rattle.words.specs.Tests.{number}
 use Rattle.words.proofs.Bools.{never}
 use Rattle.words.proofs.Tests.{number-off, off-number}
 use Rattle.header.proofs.Sweeps.{and-assoc}
-use Rattle.header.specs.Header.{withTotals, withMode, withFlags, withLens, withLayer, headOf, scalarsOf, begun, begunScalars, beginTests, beginOf, beginHeader, layerOk, lensFrom}
+use Rattle.header.specs.Header.{withTotals, withMode, withFlags, withLens, withLayer, headOf, scalarsOf, begun, begunScalars, beginTests, beginOf, beginHeader, lengthOk, lensFrom}
 use Rattle.header.specs.Totals.{updateTotals, totalsTests}
 use Rattle.header.specs.declared.Shape.{Shape}
 use Rattle.header.specs.declared.Header.{Header}
@@ -149,7 +149,7 @@ module _ {A : Type 0} (a b : A) where
 -- ---- lengths in range
 
 pub lens-step : (layers size : ℕ) (lens : List ℕ) (flags : List Bool) (k l : ℕ)
-    → lensFrom layers size lens flags (suc k) l ≡ layerOk l layers size (getD lens l 0) (getD flags l false) && lensFrom layers size lens flags k (suc l)
+    → lensFrom layers size lens flags (suc k) l ≡ lengthOk l layers size (getD lens l 0) (getD flags l false) && lensFrom layers size lens flags k (suc l)
 unfolding lensFrom
 lens-step layers size lens flags k l = refl
 
@@ -175,6 +175,6 @@ lens-split layers size lens flags zero b l = rw (zero-add b, zero-add l, lens-no
 lens-split layers size lens flags (suc a) b l =
     let p : suc a + b ≡ suc (a + b) = omega arith in
     let q : suc a + l ≡ a + suc l = omega arith in
-    let t = layerOk l layers size (getD lens l 0) (getD flags l false) in
+    let t = lengthOk l layers size (getD lens l 0) (getD flags l false) in
     rw (p, q, lens-step layers size lens flags (a + b) l, lens-step layers size lens flags a l, lens-split layers size lens flags a b (suc l))
     (sym (and-assoc t (lensFrom layers size lens flags a (suc l)) (lensFrom layers size lens flags b (a + suc l))))

@@ -119,13 +119,13 @@ beginHeader h w m =
 -- lengths are 0 and flags false."
 
 -- of layer l
-abbrev pub layerOk : ℕ → ℕ → ℕ → ℕ → Bool → Bool
-layerOk l layers size len flag = cond (ltb l layers) (leb len size) (eqb len 0 && not flag)
+abbrev pub lengthOk : ℕ → ℕ → ℕ → ℕ → Bool → Bool
+lengthOk l layers size len flag = cond (ltb l layers) (leb len size) (eqb len 0 && not flag)
 
 -- of k layers from l on
 unfoldable pub lensFrom : ℕ → ℕ → List ℕ → List Bool → ℕ → ℕ → Bool
 lensFrom layers size lens flags zero l = true
-lensFrom layers size lens flags (suc k) l = layerOk l layers size (getD lens l 0) (getD flags l false) && lensFrom layers size lens flags k (suc l)
+lensFrom layers size lens flags (suc k) l = lengthOk l layers size (getD lens l 0) (getD flags l false) && lensFrom layers size lens flags k (suc l)
 
 unfoldable pub headerOk : Header → Bool
 headerOk h = eqb (shapeRefusal (h .shape)) 0 && totalsOk (h .totals) && lensFrom (h .shape .layers) (h .shape .«heap_size») (h .lens) (h .flags) maxLayers 0

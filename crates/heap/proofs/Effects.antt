@@ -14,7 +14,7 @@ use Rattle.heap_moves.specs.Totals.{total, Moved}
 use Rattle.heap_moves.proofs.Moved.{total-set, total-next, up-moved, down-moved, update-moved}
 use Rattle.heap.specs.declared.Answer.the-variants.{Rescored, Seated, Displaced, TurnedAway}
 use Rattle.heap.specs.Offer.{Table, Offered, find, placeOf, rescore, seat, replaceRoot, offer}
-use Rattle.heap.specs.Keys.{hit, keyHit, held, KeysOnce, gainedBy, lostBy}
+use Rattle.heap.specs.Keys.{hit, keyHit, timesHeld, KeysOnce, gainedBy, lostBy}
 use Rattle.heap.proofs.Cases.{offer-cases}
 
 -- ---- the first match
@@ -43,16 +43,16 @@ find-miss k (suc n) (c ∷ cs) l h = go (find-miss k n cs (omega arith)) (eqb (c
 
 -- The entries in use are those before, with one count changed, one entry added, or the root replaced; then they only change places.
 pub data Effect (size : ℕ) (t : Table) (c : Cand) (o : Offered) : Type 1 where
-  rescored : (i : ℕ) → i < t .len → 0 < held (c .who .key) t → o .answer ≡ Rescored → o .table .len ≡ t .len
+  rescored : (i : ℕ) → i < t .len → 0 < timesHeld (c .who .key) t → o .answer ≡ Rescored → o .table .len ≡ t .len
       → Moved (t .len) (recount (t .cands) i (c .count)) (o .table .cands) → Effect size t c o
-  seated : held (c .who .key) t ≡ 0 → t .len < size → o .answer ≡ Seated → o .table .len ≡ t .len + 1
+  seated : timesHeld (c .who .key) t ≡ 0 → t .len < size → o .answer ≡ Seated → o .table .len ≡ t .len + 1
       → Moved (t .len + 1) (set (t .cands) (t .len) c) (o .table .cands) → Effect size t c o
-  displaced : held (c .who .key) t ≡ 0 → size ≤ t .len → o .answer ≡ Displaced (getD (t .cands) 0 noCand .who .key) → o .table .len ≡ t .len
+  displaced : timesHeld (c .who .key) t ≡ 0 → size ≤ t .len → o .answer ≡ Displaced (getD (t .cands) 0 noCand .who .key) → o .table .len ≡ t .len
       → Moved (t .len) (set (t .cands) 0 c) (o .table .cands) → Effect size t c o
-  turned-away : held (c .who .key) t ≡ 0 → size ≤ t .len → o .answer ≡ TurnedAway → o .table ≡ t → Effect size t c o
+  turned-away : timesHeld (c .who .key) t ≡ 0 → size ≤ t .len → o .answer ≡ TurnedAway → o .table ≡ t → Effect size t c o
 
 pub offer-effect : (size : ℕ) (t : Table) (c : Cand) → 0 < size → length (t .cands) ≡ size → t .len ≤ size → Effect size t c (offer size t c)
-unfolding rescore seat replaceRoot held
+unfolding rescore seat replaceRoot timesHeld
 offer-effect size t c z e l =
     offer-cases size t c (Effect size t c)
     (λ h. rescored i h (find-hit (c .who .key) n cs (omega arith) h) refl refl (update-moved n (recount cs i (c .count)) i h (simp length-set (omega arith))))
@@ -75,8 +75,8 @@ offer-effect size t c z e l =
 -- ---- the keys
 
 module _ (size : ℕ) (t : Table) (c : Cand) (z : 0 < size) (e : length (t .cands) ≡ size) (l : t .len ≤ size) where
-  effect-held : (o : Offered) → Effect size t c o → (k : ℕ) → held k (o .table) + lostBy (o .answer) k ≡ held k t + gainedBy (o .answer) (c .who .key) k
-  unfolding held
+  effect-held : (o : Offered) → Effect size t c o → (k : ℕ) → timesHeld k (o .table) + lostBy (o .answer) k ≡ timesHeld k t + gainedBy (o .answer) (c .who .key) k
+  unfolding timesHeld
   effect-held o (rescored i hi h a n m) k =
       rw a
       (omega (
@@ -105,20 +105,20 @@ module _ (size : ℕ) (t : Table) (c : Cand) (z : 0 < size) (e : length (t .cand
   effect-held o (turned-away h r a q) k = rw (a, q) (omega arith)
 
   -- A known key leaves the keys as they were, a seated one adds exactly itself, one that displaces adds itself and takes out exactly the root's, one turned away changes nothing.
-  pub offer-held : (k : ℕ) → held k (offer size t c .table) + lostBy (offer size t c .answer) k ≡ held k t + gainedBy (offer size t c .answer) (c .who .key) k
+  pub offer-held : (k : ℕ) → timesHeld k (offer size t c .table) + lostBy (offer size t c .answer) k ≡ timesHeld k t + gainedBy (offer size t c .answer) (c .who .key) k
   offer-held = effect-held (offer size t c) (offer-effect size t c z e l)
 
   -- a key comes in only if it was not there
-  effect-new : (o : Offered) → Effect size t c o → (k : ℕ) → held k t ≤ 1 → held k t + gainedBy (o .answer) (c .who .key) k ≤ 1
+  effect-new : (o : Offered) → Effect size t c o → (k : ℕ) → timesHeld k t ≤ 1 → timesHeld k t + gainedBy (o .answer) (c .who .key) k ≤ 1
   effect-new o (rescored i hi h a n m) k u = rw a (omega arith)
   effect-new o (seated h r a n m) k u = rw a (new h (ℕ-discrete (c .who .key) k))
     where
-      new : held (c .who .key) t ≡ 0 → Dec (c .who .key ≡ k) → held k t + hit (c .who .key) k ≤ 1
+      new : timesHeld (c .who .key) t ≡ 0 → Dec (c .who .key ≡ k) → timesHeld k t + hit (c .who .key) k ≤ 1
       new h (yes q) = rw (eq-eqb (c .who .key) k q) (omega (arith, rw q at h))
       new h (no f) = rw (ne-eqb (c .who .key) k f) (omega arith)
   effect-new o (displaced h r a n m) k u = rw a (new h (ℕ-discrete (c .who .key) k))
     where
-      new : held (c .who .key) t ≡ 0 → Dec (c .who .key ≡ k) → held k t + hit (c .who .key) k ≤ 1
+      new : timesHeld (c .who .key) t ≡ 0 → Dec (c .who .key ≡ k) → timesHeld k t + hit (c .who .key) k ≤ 1
       new h (yes q) = rw (eq-eqb (c .who .key) k q) (omega (arith, rw q at h))
       new h (no f) = rw (ne-eqb (c .who .key) k f) (omega arith)
   effect-new o (turned-away h r a q) k u = rw a (omega arith)

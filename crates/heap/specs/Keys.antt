@@ -16,12 +16,12 @@ abbrev pub keyHit : ℕ → Cand → ℕ
 keyHit k c = hit (c .who .key) k
 
 -- how often a key stands among a table's candidates
-unfoldable pub held : ℕ → Table → ℕ
-held k t = total (keyHit k) (t .len) (t .cands)
+unfoldable pub timesHeld : ℕ → Table → ℕ
+timesHeld k t = total (keyHit k) (t .len) (t .cands)
 
 -- no key stands there twice
 abbrev pub KeysOnce : Table → Type 0
-KeysOnce t = (k : ℕ) → held k t ≤ 1
+KeysOnce t = (k : ℕ) → timesHeld k t ≤ 1
 
 -- of the key k: how often it came in when the key j was offered, and how often it went out
 abbrev pub gainedBy : Answer → ℕ → ℕ → ℕ

@@ -10,7 +10,7 @@ use lib.IntN.{ℤ, pos}
 use Rattle.words.specs.Num.{allIn, inRange}
 use Rattle.words.proofs.Bools.{and-left, and-right, both}
 use Rattle.countsketch_l2_norm.specs.Sketch.{sketchOf, cellOf, cellAt, cellRead, rowsRead, rowsFit, rowsReady}
-use Rattle.countsketch_l2_norm.specs.Estimate.{cellsIn}
+use Rattle.countsketch_l2_norm.specs.Estimate.{cellsInRange}
 use Rattle.heap_moves.specs.declared.Who.{Who}
 use Rattle.heap_moves.proofs.Rounds.{counts-cands}
 use Rattle.layer.specs.declared.Dims.{Dims}
@@ -48,18 +48,18 @@ ready-are d who w xs ws es ns len flag =
 
 pub delta-reads-are : (d : Dims) (row col : ℕ) (n : ℤ) (who : Who) (every : Bool) (xs : List ℤ) (ws es : List ℕ) (ns : List ℤ) (len : ℕ) (flag : Bool)
     → deltaReads d (delta row col n who every) (layerOf d xs ws es ns len flag)
-    ≡ cellRead (d .cols) (row * d .cols + col) row (sketchOf xs ws (d .rows)) && cellsIn (d .cols) (hashBy who) xs (d .rows) 0 && allIn (take len ns)
+    ≡ cellRead (d .cols) (row * d .cols + col) row (sketchOf xs ws (d .rows)) && cellsInRange (d .cols) (hashBy who) xs (d .rows) 0 && allIn (take len ns)
 unfolding deltaReads
 delta-reads-are d row col n who every xs ws es ns len flag =
-    ap (λ (l : List ℤ). cellRead (d .cols) (row * d .cols + col) row (sketchOf xs ws (d .rows)) && cellsIn (d .cols) (hashBy who) xs (d .rows) 0 && allIn (take len l)) (counts-cands es ns)
+    ap (λ (l : List ℤ). cellRead (d .cols) (row * d .cols + col) row (sketchOf xs ws (d .rows)) && cellsInRange (d .cols) (hashBy who) xs (d .rows) 0 && allIn (take len l)) (counts-cands es ns)
 
 -- the counters that a hash names stay in range where one counter is set to a value in range
-pub cells-set : (cols h : ℕ) (xs : List ℤ) (at : ℕ) (v : ℤ) (k r : ℕ) → at < length xs → inRange v ≡ true → cellsIn cols h xs k r ≡ true → cellsIn cols h (set xs at v) k r ≡ true
-unfolding cellsIn
+pub cells-set : (cols h : ℕ) (xs : List ℤ) (at : ℕ) (v : ℤ) (k r : ℕ) → at < length xs → inRange v ≡ true → cellsInRange cols h xs k r ≡ true → cellsInRange cols h (set xs at v) k r ≡ true
+unfolding cellsInRange
 cells-set cols h xs at v zero r l p e = refl
 cells-set cols h xs at v (suc k) r l p e =
-    both (go (ℕ-discrete (cellOf cols h r) at)) (cells-set cols h xs at v k (suc r) l p (and-right (inRange (cellAt xs (cellOf cols h r))) (cellsIn cols h xs k (suc r)) e))
+    both (go (ℕ-discrete (cellOf cols h r) at)) (cells-set cols h xs at v k (suc r) l p (and-right (inRange (cellAt xs (cellOf cols h r))) (cellsInRange cols h xs k (suc r)) e))
   where
     go : Dec (cellOf cols h r ≡ at) → inRange (cellAt (set xs at v) (cellOf cols h r)) ≡ true
     go (yes q) = ap (λ (i : ℕ). inRange (getD (set xs at v) i (pos 0))) q ∙ ap inRange (getD-set-same xs at v (pos 0) l) ∙ p
-    go (no q) = ap inRange (getD-set-other xs at (cellOf cols h r) v (pos 0) q) ∙ and-left (inRange (cellAt xs (cellOf cols h r))) (cellsIn cols h xs k (suc r)) e
+    go (no q) = ap inRange (getD-set-other xs at (cellOf cols h r) v (pos 0) q) ∙ and-left (inRange (cellAt xs (cellOf cols h r))) (cellsInRange cols h xs k (suc r)) e

@@ -3,7 +3,7 @@ use Prim.Native.Nat.{ℕ, _+_, _*_}
 use mathlib.Core.Bool.{Bool, _&&_}
 use lib.IntN.{ℤ}
 use Rattle.countsketch_l2_norm.specs.Sketch.{Sketch, addCell, cellRead, cellFits}
-use Rattle.countsketch_l2_norm.specs.Estimate.{cellsIn}
+use Rattle.countsketch_l2_norm.specs.Estimate.{cellsInRange}
 use Rattle.heap_moves.specs.declared.Who.{Who}
 use Rattle.heap.specs.declared.Answer.{Answer}
 use Rattle.heap.specs.Offer.{Offered, kept}
@@ -45,7 +45,7 @@ deltaAnswer d u l = deltaOffer d u l .answer
 -- what it reads is in range: its cell and norm, the cells of the key's estimate, and the candidates
 unfoldable pub deltaReads : Dims → Delta → Layer → Bool
 deltaReads d u l =
-    cellRead (d .cols) (placeBy d u) (u .row) (l .sketch) && cellsIn (d .cols) (hashBy (u .who)) (l .sketch .cells) (d .rows) 0 && countsRead (l .table)
+    cellRead (d .cols) (placeBy d u) (u .row) (l .sketch) && cellsInRange (d .cols) (hashBy (u .who)) (l .sketch .cells) (d .rows) 0 && countsRead (l .table)
 
 -- its counter does not leave the range
 unfoldable pub deltaFits : Dims → Delta → Layer → Bool

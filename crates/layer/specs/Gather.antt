@@ -67,7 +67,7 @@ pub record Front (n : ℕ) (xs ys : List ℕ) : Type 0 where
   pub at : (j : ℕ) → j < n → getD ys j 0 ≡ getD xs j 0
 
 -- counters that any key may be counted in
-pub record Counted (d : Dims) (xs : List ℤ) : Type 0 where
+pub record CountersRead (d : Dims) (xs : List ℤ) : Type 0 where
   pub shaped : Shaped (d .rows) (d .cols)
   pub room : d .rows * d .cols ≤ length xs
   pub read : allIn xs ≡ true
@@ -90,7 +90,7 @@ pub record Sofar (d : Dims) (g : Merged) (most : ℕ) : Type 0 where
   pub few : g .keys ≤ most
 
 -- a layer, the counters of another with its len₂ candidates, and their sums
-pub record MergeReady (d : Dims) (len len₂ : ℕ) (xs : List ℤ) (ws es : List ℕ) (ns xs₂ : List ℤ) (es₂ : List ℕ) : Type 0 where
+pub record LayerMergeReady (d : Dims) (len len₂ : ℕ) (xs : List ℤ) (ws es : List ℕ) (ns xs₂ : List ℤ) (es₂ : List ℕ) : Type 0 where
   pub housed : Housed d (length xs) (length ws) (length ns) len
   pub words : length es ≡ 4 * d .size
   pub cells : length xs₂ ≡ d .rows * d .cols

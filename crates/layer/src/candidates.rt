@@ -11,7 +11,7 @@ ghost use mathlib.Core.List.{_++_};
 ghost use Prim.Native.Nat.{ℕ, _+_, _*_, _≤_, _<_};
 ghost use lib.ListN.{length};
 ghost use Rattle.heap_moves.specs.Cands.{mostCands};
-ghost use Rattle.layer.specs.Gather.{gatheredOf, mergeTable, offerOne, gather, whosOf, keysOf, firstAt, Counted, Seats, Entries, Sofar};
+ghost use Rattle.layer.specs.Gather.{gatheredOf, mergeTable, offerOne, gather, whosOf, keysOf, firstAt, CountersRead, Seats, Entries, Sofar};
 
 // One more key, with its count.
 fn offer_one(
@@ -24,7 +24,7 @@ fn offer_one(
 ) -> Merged
     requires { ⌜ Seats d (length (now entries)) (length (now counts)) ⌝ }
     requires { ⌜ Sofar d g (2 * mostCands) ⌝ }
-    requires { ⌜ Counted d (now counters) ⌝ }
+    requires { ⌜ CountersRead d (now counters) ⌝ }
     ensures { λ r. ⌜ gatheredOf (now (entries .exit)) (now (counts .exit)) r ≡ offerOne d (now (counters .entry)) w (gatheredOf (now (entries .entry)) (now (counts .entry)) g) ⌝ }
 {
     let count = countsketch_l2_norm::count_with_hash(counters, d.rows, d.cols, w.high, w.low);
@@ -51,7 +51,7 @@ fn offer_first(
 ) -> Merged
     requires { ⌜ Seats d (length (now entries)) (length (now counts)) ⌝ }
     requires { ⌜ Sofar d g (2 * mostCands) ⌝ }
-    requires { ⌜ Counted d (now counters) ⌝ }
+    requires { ⌜ CountersRead d (now counters) ⌝ }
     requires { ⌜ Entries (length (now source)) (i + 1) ⌝ }
     requires { ⌜ Entries (length (now before)) m ⌝ }
     ensures { λ r. ⌜ gatheredOf (now (entries .exit)) (now (counts .exit)) r
@@ -83,7 +83,7 @@ fn offer_firsts(
 ) -> Merged
     requires { ⌜ Seats d (length (now entries)) (length (now counts)) ⌝ }
     requires { ⌜ Sofar d start mostCands ⌝ }
-    requires { ⌜ Counted d (now counters) ⌝ }
+    requires { ⌜ CountersRead d (now counters) ⌝ }
     requires { ⌜ Entries (length (now source)) n ⌝ }
     requires { ⌜ Entries (length (now before)) m ⌝ }
     ensures { λ r. ⌜ (gatheredOf (now (entries .exit)) (now (counts .exit)) r
@@ -112,7 +112,7 @@ pub fn merge_candidates(
 ) -> Merged
     requires { ⌜ Seats d (length (now entries)) (length (now counts)) ⌝ }
     requires { ⌜ len ≤ d .size ⌝ }
-    requires { ⌜ Counted d (now counters) ⌝ }
+    requires { ⌜ CountersRead d (now counters) ⌝ }
     requires { ⌜ Entries (length (now other)) «other_len» ⌝ }
     ensures { λ r. ⌜ gatheredOf (now (entries .exit)) (now (counts .exit)) r ≡ mergeTable d (now (counters .entry)) (whosOf (now (entries .entry)) len ++ whosOf (now (other .entry)) «other_len») ⌝ }
 {

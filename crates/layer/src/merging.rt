@@ -14,7 +14,7 @@ ghost use Rattle.words.specs.Num.{allIn};
 ghost use Rattle.layer.specs.declared.Dims.{Dims};
 ghost use Rattle.layer.specs.Layer.{layerOf};
 ghost use Rattle.layer.specs.Merge.{mergeLayer, mergeReads, mergeFits};
-ghost use Rattle.layer.specs.Gather.{MergeReady};
+ghost use Rattle.layer.specs.Gather.{LayerMergeReady};
 
 // Whether all that a merge reads of the two layers is in range: every counter and every candidate.
 pub fn merge_reads(
@@ -64,7 +64,7 @@ pub fn merge(
     other_entries: &[u64],
     other_len: usize,
 ) -> Merged
-    requires { ⌜ MergeReady d len «other_len» (now counters) (now norms) (now entries) (now counts) (now «other_counters») (now «other_entries») ⌝ }
+    requires { ⌜ LayerMergeReady d len «other_len» (now counters) (now norms) (now entries) (now counts) (now «other_counters») (now «other_entries») ⌝ }
     ensures { λ r. ⌜ ((ws₂ : List ℕ) (ns₂ : List ℤ) (flag flag₂ : Bool) → «other_len» ≤ length ns₂
         → layerOf d (now (counters .exit)) (now (norms .exit)) (now (entries .exit)) (now (counts .exit)) (r .len) (flag && flag₂ && leb (r .keys) (d .size))
         ≡ mergeLayer d (layerOf d (now (counters .entry)) (now (norms .entry)) (now (entries .entry)) (now (counts .entry)) len flag)

@@ -11,8 +11,8 @@ use Rattle.float64.specs.Norm.{normRead}
 use Rattle.float64.specs.Root.{rootAt, rootBits, root}
 use Rattle.matrix_storage.specs.Bits.{log2In, log2, maskBits, hashOf, column, signed}
 use Rattle.structure_utils.specs.Median.{insertBy, sortBy, middleF, median, middle}
-use Rattle.countsketch_l2_norm.specs.Estimate.{estimates, estimateOf, cellsIn}
-use Rattle.countsketch_l2_norm.specs.L2.{l2Squared, l2Of, normsIn}
+use Rattle.countsketch_l2_norm.specs.Estimate.{estimates, estimateOf, cellsInRange}
+use Rattle.countsketch_l2_norm.specs.L2.{l2Squared, l2Of, normsInRange}
 use Rattle.countsketch_l2_norm.specs.Merge.{sumBelow}
 use Rattle.countsketch_l2_norm.specs.Norms.{normsOf, wordsOf}
 use Rattle.countsketch_l2_norm.specs.Sketch.{addCell, addRows, rowsRead, rowsFit}
@@ -59,5 +59,5 @@ pub sample : T (answered
     ∷ ("(add 7 5 0000000000000000 (8000000000000000 0000000000000006) (0000000000000000 0000000000000000))"
     ∷ ("(show)" ∷ [])))
     "(ok)\n(ok)\n(show (l1 4014000000000000) (l2 4014000000000000) (keys 3FF0000000000000) (flags 1 1))\n")
-unfolding answered empty same answersOf answerLine answerTo shapeCall addCall panelText showLine replyText roomy panelRefusal shapeRefusal showText flagsText flagDigit hexDigits hexGlyph readOf shapeOf addOf tailAt allPairs pairOkAt halves fieldAt stopped decFrom numFrom isDigit intAt plain hexOk hexFrom isHex nibbleOf isPrefix inRange capped allIn normRead rootAt rootBits root log2In log2 maskBits hashOf column insertBy sortBy middleF median estimates estimateOf cellsIn l2Squared l2Of normsIn sumBelow normsOf addCell addRows rowsRead rowsFit candsOf find seat offer beginOf lensFrom headerOk bottomFrom bottomOf addSketch addLayer addReads addFits updateCall lengthsOk view flat freshLent cellOff normOff candOff layerAt putLayer overLayers allLayers updateTests updated gSum standardSum gOf counted addTerm sumOver l1Call l2Call sumCall panelCall l2OfState ownAt gSumOf whosRead layerReads whos toBits ofInt ofBits add sub mul div rowsAt colsAt freshHeader signed wordsOf entriesOf up middle le factor
+unfolding answered empty same answersOf answerLine answerTo shapeCall addCall panelText showLine replyText roomy panelRefusal shapeRefusal showText flagsText flagDigit hexDigits hexGlyph readOf shapeOf addOf tailAt allPairs pairOkAt halves fieldAt stopped decFrom numFrom isDigit intAt plain hexOk hexFrom isHex nibbleOf isPrefix inRange capped allIn normRead rootAt rootBits root log2In log2 maskBits hashOf column insertBy sortBy middleF median estimates estimateOf cellsInRange l2Squared l2Of normsInRange sumBelow normsOf addCell addRows rowsRead rowsFit candsOf find seat offer beginOf lensFrom headerOk bottomFrom bottomOf addSketch addLayer addReads addFits updateCall lengthsOk view flat freshLent cellOff normOff candOff layerAt putLayer overLayers allLayers updateTests updated gSum standardSum gOf counted addTerm sumOver l1Call l2Call sumCall panelCall l2OfState ownAt gSumOf whosRead layerReads whos toBits ofInt ofBits add sub mul div rowsAt colsAt freshHeader signed wordsOf entriesOf up middle le factor
 sample = tt

@@ -68,12 +68,12 @@ module _ (s : State) (b : Book) (v : shapeRefusal (s .head .shape) ≡ 0) (r : R
   a = accepted-of (s .head .shape) v
 
   -- layer 0's norms are in range
-  norms-of : norm.normsIn (dimsAt (s .head .shape) 0 .cols) (layerAt s 0 .sketch .norms) ≡ true
+  norms-of : norm.normsInRange (dimsAt (s .head .shape) 0 .cols) (layerAt s 0 .sketch .norms) ≡ true
   unfolding layerReads
   norms-of =
       let d : Dims = dimsAt (s .head .shape) 0 in
       let y : Layer = layerAt s 0 in
-      and-right (countsRead (y .table) && whosRead d (y .sketch .cells) (whos (y .table))) (norm.normsIn (d .cols) (y .sketch .norms))
+      and-right (countsRead (y .table) && whosRead d (y .sketch .cells) (whos (y .table))) (norm.normsInRange (d .cols) (y .sketch .norms))
       (sum-reads d (wide (s .head .shape) a 0) (a .seats) true (sent (s .head .shape .layers) 0 b) y (omega (arith, sent-weights (s .head .shape .layers) 0 b, r .light)) (r .layers 0 (a .some)))
 
   -- and the book's
@@ -100,9 +100,9 @@ module _ (sh : Shape) (v : shapeRefusal sh ≡ 0) (b : Book) (x : Lent) (by : Le
   claim : Claimed sh (record { lends = x; book = b; retired = false })
   claim = claimed sh v (record { lends = x; book = b; retired = false }) by
 
-  norms-ok : norm.normsIn (dimsAt (x .head .shape) 0 .cols) (layerAt (view x) 0 .sketch .norms) ≡ true
+  norms-ok : norm.normsInRange (dimsAt (x .head .shape) 0 .cols) (layerAt (view x) 0 .sketch .norms) ≡ true
   unfolding view
-  norms-ok = subst (λ (z : Shape). shapeRefusal z ≡ 0 → RelayBy z b (view x) → norm.normsIn (dimsAt (view x .head .shape) 0 .cols) (layerAt (view x) 0 .sketch .norms) ≡ true) (state .shape) (norms-of (view x) b) v state
+  norms-ok = subst (λ (z : Shape). shapeRefusal z ≡ 0 → RelayBy z b (view x) → norm.normsInRange (dimsAt (view x .head .shape) 0 .cols) (layerAt (view x) 0 .sketch .norms) ≡ true) (state .shape) (norms-of (view x) b) v state
 
   norms-is : layerAt (view x) 0 .sketch .norms ≡ valuesFrom (normBy sh b 0) (rowsAt sh 0) 0
   norms-is = subst (λ (z : Shape). shapeRefusal z ≡ 0 → RelayBy z b (view x) → layerAt (view x) 0 .sketch .norms ≡ valuesFrom (normBy z b 0) (rowsAt z 0) 0) (state .shape) (norms-are (view x) b) v state

@@ -9,10 +9,10 @@ use lib.Ieee.{binary64, ofInt, ofBits, toBits, add, sub, mul, div, le}
 use Rattle.words.specs.Num.{inRange, capped, allIn}
 use Rattle.matrix_storage.specs.Bits.{log2In, log2, maskBits, hashOf, column, signed}
 use Rattle.structure_utils.specs.Median.{insertBy, sortBy, middleF, median, middle}
-use Rattle.countsketch_l2_norm.specs.Estimate.{estimates, estimateF, estimateOf, cellsIn}
+use Rattle.countsketch_l2_norm.specs.Estimate.{estimates, estimateF, estimateOf, cellsInRange}
 use Rattle.countsketch_l2_norm.specs.Merge.{sums, sumBelow, squaresFrom, rowNorms}
 use Rattle.countsketch_l2_norm.specs.Norms.{normsOf, wordsOf}
-use Rattle.countsketch_l2_norm.specs.L2.{l2Squared, l2Of, normsIn}
+use Rattle.countsketch_l2_norm.specs.L2.{l2Squared, l2Of, normsInRange}
 use Rattle.float64.specs.Norm.{normRead}
 use Rattle.float64.specs.Root.{root}
 use Rattle.float64.specs.Cut.{heavyThreshold}
@@ -32,7 +32,7 @@ use Rattle.layout.specs.State.{rowsAt, colsAt, cellOff, normOff, candOff, layer
 use Rattle.univmon.specs.Updates.{updateTests, updated}
 use Rattle.univmon_merge.specs.Merges.{mergeTests, merged, mergeCall}
 use Rattle.sums.specs.Layers.{gSum, standardSum}
-use Rattle.sums.specs.Terminal.{gatherOne, gather, ahead, rankIn, ranked, gathered, terminalSum, flagged, complete, squares}
+use Rattle.sums.specs.Terminal.{gatherOne, gatherEntries, ahead, rankIn, ranked, gathered, terminalSum, flagged, complete, squares}
 use Rattle.sums.specs.Terms.{gOf, factor, counted, addTerm, sumOver}
 use Rattle.estimates.specs.Calls.{sumCall, cardinalityCall}
 use Rattle.estimates.specs.Sums.{ownAt, gSumOf, whosRead, layerReads}
@@ -81,7 +81,7 @@ said cs =
 pub examples : map said (standards ∷ terminals ∷ twoRecords ∷ twoHashes ∷ [])
     ≡ (3 ∷ 8 ∷ 2 ∷ 3 ∷ 0 ∷ 0x4000000000000000 ∷ []) ∷ (3 ∷ 0 ∷ 2 ∷ 3 ∷ 0 ∷ 0x4000000000000000 ∷ []) ∷ (2 ∷ 2 ∷ 1 ∷ 2 ∷ 0 ∷ 0x4008000000000000 ∷ [])
     ∷ (2 ∷ 2 ∷ 1 ∷ 2 ∷ 0 ∷ 0x3FF0000000000000 ∷ []) ∷ []
-unfolding ofInt ofBits toBits add sub mul div le inRange capped allIn log2In log2 maskBits hashOf column signed insertBy sortBy middleF median middle estimates estimateF estimateOf cellsIn sums sumBelow squaresFrom rowNorms normsOf wordsOf addCell addRows rowsRead rowsFit up down updateAt leftOr lower candsOf entriesOf find rescore replaceRoot displace seat offer freshHeader lensFrom headerOk shapeRefusal bottomFrom bottomOf addSketch addLayer addReads addFits hasKey firsts whos offerAll mergeLayer mergeReads mergeFits updateCall lengthsOk view flat freshLent rowsAt colsAt cellOff normOff candOff layerAt putLayer overLayers allLayers updateTests updated mergeTests merged mergeCall called feeds.run gSum standardSum gOf factor counted addTerm sumOver sumCall ownAt gSumOf whosRead layerReads weightOf distinct feeds.accepted normRead root l2Squared l2Of normsIn heavyThreshold gatherOne gather ahead rankIn ranked gathered flagged complete squares terminalSum
+unfolding ofInt ofBits toBits add sub mul div le inRange capped allIn log2In log2 maskBits hashOf column signed insertBy sortBy middleF median middle estimates estimateF estimateOf cellsInRange sums sumBelow squaresFrom rowNorms normsOf wordsOf addCell addRows rowsRead rowsFit up down updateAt leftOr lower candsOf entriesOf find rescore replaceRoot displace seat offer freshHeader lensFrom headerOk shapeRefusal bottomFrom bottomOf addSketch addLayer addReads addFits hasKey firsts whos offerAll mergeLayer mergeReads mergeFits updateCall lengthsOk view flat freshLent rowsAt colsAt cellOff normOff candOff layerAt putLayer overLayers allLayers updateTests updated mergeTests merged mergeCall called feeds.run gSum standardSum gOf factor counted addTerm sumOver sumCall ownAt gSumOf whosRead layerReads weightOf distinct feeds.accepted normRead root l2Squared l2Of normsInRange heavyThreshold gatherOne gatherEntries ahead rankIn ranked gathered flagged complete squares terminalSum
 examples = refl
 
 -- from the list alone: who is retired, and how many updates each book has

@@ -82,7 +82,7 @@ module _ (h : Header) (a : Arrays h) (e : headerOk h ≡ true) where
   past-both : (l : ℕ) → h .shape .layers ≤ l → l < maxLayers → (eqb (getD (h .lens) l 0) 0 && not (getD (h .flags) l false)) ≡ true
   past-both l p q =
       rw (le-ltb l (h .shape .layers) p) at
-      (passed-at (lensFrom (h .shape .layers) (h .shape .«heap_size») (h .lens) (h .flags)) (λ m. head.layerOk m (h .shape .layers) (h .shape .«heap_size») (getD (h .lens) m 0) (getD (h .flags) m false))
+      (passed-at (lensFrom (h .shape .layers) (h .shape .«heap_size») (h .lens) (h .flags)) (λ m. head.lengthOk m (h .shape .layers) (h .shape .«heap_size») (getD (h .lens) m 0) (getD (h .flags) m false))
       (lens-step (h .shape .layers) (h .shape .«heap_size») (h .lens) (h .flags)) maxLayers 0 l (omega arith) (omega arith) (ranged-of h e .lens))
 
   past-lens : (l : ℕ) → h .shape .layers ≤ l → getD (h .lens) l 0 ≡ 0
@@ -129,11 +129,11 @@ module _ (s : State) (w : WholeState s) where
   head-pass =
       both (both (eq-eqb (shapeRefusal (s .head .shape)) 0 (w .shape)) (le-leb (s .head .totals .weight) top (w .light)))
       (passed-all (lensFrom (s .head .shape .layers) (s .head .shape .«heap_size») (s .head .lens) (s .head .flags))
-      (λ l. head.layerOk l (s .head .shape .layers) (s .head .shape .«heap_size») (getD (s .head .lens) l 0) (getD (s .head .flags) l false))
+      (λ l. head.lengthOk l (s .head .shape .layers) (s .head .shape .«heap_size») (getD (s .head .lens) l 0) (getD (s .head .flags) l false))
       (lens-step (s .head .shape .layers) (s .head .shape .«heap_size») (s .head .lens) (s .head .flags)) (lens-none (s .head .shape .layers) (s .head .shape .«heap_size») (s .head .lens) (s .head .flags)) maxLayers 0
       (λ l p q. one l (decLt l (s .head .shape .layers))))
     where
-      one : (l : ℕ) → Dec (l < s .head .shape .layers) → head.layerOk l (s .head .shape .layers) (s .head .shape .«heap_size») (getD (s .head .lens) l 0) (getD (s .head .flags) l false) ≡ true
+      one : (l : ℕ) → Dec (l < s .head .shape .layers) → head.lengthOk l (s .head .shape .layers) (s .head .shape .«heap_size») (getD (s .head .lens) l 0) (getD (s .head .flags) l false) ≡ true
       one l (yes h) = rw (lt-ltb l (s .head .shape .layers) h) (le-leb (getD (s .head .lens) l 0) (s .head .shape .«heap_size») (w .layers l h .table .used))
       one l (no h) = rw (le-ltb l (s .head .shape .layers) (omega arith), w .pastLens l (omega arith), w .pastFlags l (omega arith))
 

@@ -8,7 +8,7 @@ use lib.Ieee.{binary64, add, sub, mul, ofInt, ofBits}
 use Rattle.sums.specs.Entries.{Entry, entry}
 use Rattle.sums.specs.Terms.{gOf, factor, counted, addTerm, sumOver}
 use Rattle.sums.specs.Layers.{gSum, standardSum}
-use Rattle.sums.specs.Terminal.{ahead, rankIn, ranked, gatherOne, gather}
+use Rattle.sums.specs.Terminal.{ahead, rankIn, ranked, gatherOne, gatherEntries}
 use Rattle.sums.specs.declared.G.the-variants.{One}
 
 -- key A (7) with bottom hash 0 at layer 0 alone, key B (8) with 2 at both; weight 0
@@ -21,7 +21,7 @@ unfolding own standardSum gSum sumOver addTerm counted gOf factor add sub mul of
 two-keys = refl
 
 -- a key seen again keeps the deeper bottom hash and the greater count; then greater count, smaller bottom hash, smaller key
-in-order : ranked (gather (entry 1 5 (pos 3) ∷ entry 2 4 (pos 9) ∷ []) (entry 1 6 (pos 9) ∷ entry 3 4 (pos 9) ∷ entry 4 0 (negsuc 0) ∷ []))
+in-order : ranked (gatherEntries (entry 1 5 (pos 3) ∷ entry 2 4 (pos 9) ∷ []) (entry 1 6 (pos 9) ∷ entry 3 4 (pos 9) ∷ entry 4 0 (negsuc 0) ∷ []))
     ≡ entry 2 4 (pos 9) ∷ entry 3 4 (pos 9) ∷ entry 1 5 (pos 9) ∷ entry 4 0 (negsuc 0) ∷ []
-unfolding ranked rankIn ahead gather gatherOne
+unfolding ranked rankIn ahead gatherEntries gatherOne
 in-order = refl

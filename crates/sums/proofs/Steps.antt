@@ -9,9 +9,9 @@ use lib.Dec.{eqb}
 use lib.Ieee.{Float}
 use borrow.Author.Tests.{eq-eqb, ne-eqb, eqb-true, eqb-false}
 use Rattle.sums.specs.Entries.{Entry}
-use Rattle.sums.specs.Terms.{nought, sumOver}
+use Rattle.sums.specs.Terms.{plusZero, sumOver}
 use Rattle.sums.specs.Layers.{ruleAt, gSum, standardSum}
-use Rattle.sums.specs.Up.{joined}
+use Rattle.sums.specs.Up.{joinedSums}
 use Rattle.sums.specs.declared.G.{G}
 
 -- the last layer is the one with none below it
@@ -24,25 +24,25 @@ last-is l n h = go (eqb l n) refl
 
 -- the sum at layer l, with k layers summed; nothing is summed below the last layer
 unfoldable pub summed : G → Bool → (ℕ → List Entry) → ℕ → ℕ → Float
-summed g every own zero l = nought
+summed g every own zero l = plusZero
 summed g every own (suc k) l = gSum g every (λ k l. pos 0) (λ k l. own l) k l
 
 std-step : (g : G) (every : Bool) (own : ℕ → List Entry) (k l : ℕ) (last : Bool) → last ≡ eqb k 0
-    → joined last (summed g every own k (suc l)) (sumOver (ruleAt g every (pos 0) last l) nought (own l)) ≡ summed g every own (suc k) l
-unfolding summed gSum joined
+    → joinedSums last (summed g every own k (suc l)) (sumOver (ruleAt g every (pos 0) last l) plusZero (own l)) ≡ summed g every own (suc k) l
+unfolding summed gSum joinedSums
 std-step g every own zero l last e = rw e
 std-step g every own (suc k) l last e = rw (e ∙ ne-eqb (suc k) 0 (λ z. omega (arith, z)))
 
 -- one turn of a loop that counts l down from n
 pub std-turn : (g : G) (every : Bool) (own : ℕ → List Entry) (n l : ℕ) (y : Float) → 0 < l → l ≤ n → y ≡ summed g every own (n - l) l
-    → joined (eqb l n) y (sumOver (record { g = g; every = every; threshold = pos 0; last = eqb l n; bit = l }) nought (own (l - 1))) ≡ summed g every own (n - (l - 1)) (l - 1)
+    → joinedSums (eqb l n) y (sumOver (record { g = g; every = every; threshold = pos 0; last = eqb l n; bit = l }) plusZero (own (l - 1))) ≡ summed g every own (n - (l - 1)) (l - 1)
 std-turn g every own n zero y h k e = absurd (omega arith)
 std-turn g every own n (suc m) y h k e =
     let z : suc m - 1 ≡ m = omega arith in
     let q : n - m ≡ suc (n - suc m) = omega arith in
     rw (e, z, q) (std-step g every own (n - suc m) m (eqb (suc m) n) (last-is (suc m) n k))
 
-pub std-start : (g : G) (every : Bool) (own : ℕ → List Entry) (n : ℕ) → nought ≡ summed g every own (n - n) n
+pub std-start : (g : G) (every : Bool) (own : ℕ → List Entry) (n : ℕ) → plusZero ≡ summed g every own (n - n) n
 unfolding summed
 std-start g every own n = let e : n - n ≡ 0 = omega arith in rw e
 

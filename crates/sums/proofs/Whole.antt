@@ -14,7 +14,7 @@ use Rattle.float64.specs.Values.{two}
 use Rattle.float64.proofs.Ints.{add-int, term-int, step-int, one-is, nought-is}
 use Rattle.words.proofs.Signed.{abs-add, abs-mul}
 use Rattle.sums.specs.Entries.{Entry}
-use Rattle.sums.specs.Terms.{nought, one, gOf, factor, counted, addTerm, sumOver}
+use Rattle.sums.specs.Terms.{plusZero, one, gOf, factor, counted, addTerm, sumOver}
 use Rattle.sums.specs.Layers.{ruleAt, gSum}
 use Rattle.sums.specs.Whole.{bitOff, bitSum, keySum}
 use Rattle.sums.specs.declared.G.the-variants.{One}
@@ -114,7 +114,7 @@ sum-whole ts cs (suc k) l h b =
     let t = bitSum (suc l) (cs (suc k) l) in
     let p : 2 ^ k ≤ 2 ^ 40 = pow-mono {i = k} {j = 40} (omega arith) in
     let size = key-size cs k (suc l) h in
-    ap (λ (x : Float). add binary64 (mul binary64 two x) (sumOver (ruleAt One true (ts (suc k) l) false l) nought (cs (suc k) l))) (sum-whole ts cs k (suc l) h (omega arith))
+    ap (λ (x : Float). add binary64 (mul binary64 two x) (sumOver (ruleAt One true (ts (suc k) l) false l) plusZero (cs (suc k) l))) (sum-whole ts cs k (suc l) h (omega arith))
     ∙ ap (λ (x : Float). add binary64 (mul binary64 two (ofInt binary64 y)) x)
     (ap (λ (x : Float). sumOver (ruleAt One true (ts (suc k) l) false l) x (cs (suc k) l)) nought-is
     ∙ sum-signs (ts (suc k) l) l (pos 0) (cs (suc k) l) (omega (arith, h (suc k) l))

@@ -12,8 +12,8 @@ use Rattle.sums.specs.declared.G.the-variants.{One, Value, Square}
 use Rattle.sums.specs.declared.Rule.{Rule}
 
 -- +0.0: "An empty sum is +0.0 here"
-abbrev pub nought : Float
-nought = ofBits binary64 0
+abbrev pub plusZero : Float
+plusZero = ofBits binary64 0
 
 abbrev pub one : Float
 one = ofBits binary64 0x3ff0_0000_0000_0000

@@ -5,9 +5,9 @@ ghost use mathlib.Core.Path.{_≡_};
 ghost use mathlib.Core.List.{[]};
 ghost use Prim.Native.Nat.{ℕ, _<_, _≤_};
 ghost use lib.ListN.{length};
-ghost use Rattle.sums.specs.Entries.{space, view};
-ghost use Rattle.sums.specs.Terms.{nought, gOf, factor, counted, addTerm, sumOver};
-ghost use Rattle.sums.specs.Up.{joined};
+ghost use Rattle.sums.specs.Entries.{space, entriesIn};
+ghost use Rattle.sums.specs.Terms.{plusZero, gOf, factor, counted, addTerm, sumOver};
+ghost use Rattle.sums.specs.Up.{joinedSums};
 
 // What is summed of a count.
 pub enum G {
@@ -79,7 +79,7 @@ pub fn add_term(acc: f64, rule: Rule, bottom: u64, count: i64) -> f64
 pub fn layer_sum(bottoms: &[u64], counts: &[i64], n: usize, rule: Rule) -> f64
     requires { ⌜ (n ≤ length (now bottoms)) × (n ≤ length (now counts)) ⌝ }
     requires { ⌜ rule .bit < 64 ⌝ }
-    ensures { λ r. ⌜ r ≡ sumOver rule nought (view (space [] (now (bottoms .entry)) (now (counts .entry))) 0 n) ⌝ }
+    ensures { λ r. ⌜ r ≡ sumOver rule plusZero (entriesIn (space [] (now (bottoms .entry)) (now (counts .entry))) 0 n) ⌝ }
 {
     let mut acc = 0.0;
     let mut i = 0;
@@ -92,7 +92,7 @@ pub fn layer_sum(bottoms: &[u64], counts: &[i64], n: usize, rule: Rule) -> f64
 
 // A layer's own sum, on the sum of the layer below it.
 pub fn join(last: bool, below: f64, own: f64) -> f64
-    ensures { λ r. ⌜ r ≡ joined last below own ⌝ }
+    ensures { λ r. ⌜ r ≡ joinedSums last below own ⌝ }
 {
     if last {
         return own;

@@ -1,16 +1,15 @@
 -- The stages of an update: what each test that passed or failed says of the answer. Assumes nothing.
 use mathlib.Core.Path.{_≡_, refl, sym, ap, _∙_}
-use mathlib.Core.Bool.{Bool, true, false, cond, not}
-use mathlib.Core.List.{List, [], _∷_, _++_}
-use Prim.Native.Nat.{ℕ, zero, suc, _+_, _-_, _≤_, _<_}
-use native.Mathlib.Omega.{arith}
-use borrow.Author.Tests.{eqb-true, eqb-false, eq-eqb, ne-eqb, not-false}
+use mathlib.Core.Bool.{Bool, cond, not}
+use mathlib.Core.List.{List, _∷_, _++_}
+use Prim.Native.Nat.{ℕ, zero, suc, _≤_, _<_}
+use borrow.Author.Tests.{eqb-true, eq-eqb, ne-eqb, not-false}
 use lib.ListN.{length, getD}
 use lib.IntN.{ℤ, natAbs}
 use lib.Dec.{eqb}
 use Rattle.words.specs.Num.{top, wordSize}
-use Rattle.words.specs.Tests.{number, numbered}
-use Rattle.words.proofs.Tests.{Off, number-off, off-number, number-first, number-rest, off-first, off-rest}
+use Rattle.words.specs.Tests.{number}
+use Rattle.words.proofs.Tests.{number-off, off-number, number-first, number-rest, off-first, off-rest}
 use Rattle.header.specs.declared.Mode.{Mode}
 use Rattle.header.specs.declared.Totals.{Totals}
 use Rattle.header.specs.Shape.{maxLayers}
@@ -19,16 +18,16 @@ use Rattle.header.specs.Header.{begun, beginTests, scalarsOf}
 use Rattle.header.proofs.Bottoms.{bottom-lt}
 use Rattle.layer.specs.Layer.{Layer}
 use Rattle.univmon.specs.declared.Kind.{Kind}
-use Rattle.univmon.specs.declared.Kind.the-variants as kind
 use Rattle.layout.specs.State.{State, layerAt, putLayer, overLayers, withHead}
 use Rattle.layout.specs.Slices.{Lent, lent, view, flat}
-use Rattle.layout.specs.Outcomes.{Outcome, judge, Left, left, leftBy}
+use Rattle.layout.specs.Outcomes.{judge, Left, left, leftBy}
 use Rattle.layout.specs.Needs.{Standing}
 use Rattle.layout.proofs.Lengths.{standing-of}
 use Rattle.layout.proofs.Flatten.{lent-is}
-use Rattle.layout.proofs.Judged.{refused, judge-number, left-refused, left-done}
+use Rattle.layout.proofs.Judged.{judge-rest, judge-told, left-refused, left-done, left-by}
 use Rattle.univmon.specs.Updates.{modeOf, firstSent, manySent, bottomBy, sentTests, updateTests, updated}
 use Rattle.univmon.specs.Calls.{updateCall, placeTests, lentUpdateCall}
+use Rattle.univmon.proofs.Touched.{sent-room}
 use Rattle.univmon.specs.Needs.{SendsReady, JudgeReady, KeyReady, addsAt, layersTests, sentBy, keySent, soundIn, sentAfter}
 
 -- ---- a header that begins an update changes no layer, before the layers or after them
@@ -38,42 +37,6 @@ pub sends-kept : (f : ℕ → Layer → Layer) (k l : ℕ) (s : State) (u : Tota
 unfolding overLayers layerAt putLayer
 sends-kept f zero l s u m = refl
 sends-kept f (suc k) l s u m = sends-kept f k (suc l) (putLayer s l (f l (layerAt s l))) u m
-
--- ---- the touched layers
-
-pub first-below : (k : Kind) (b : ℕ) → firstSent k b ≤ b + 1
-first-below kind.Standard b = omega arith
-first-below kind.Terminal b = omega arith
-
-pub many-sent : (k : Kind) (b : ℕ) → b + 1 - firstSent k b ≡ manySent k b
-many-sent kind.Standard b = omega arith
-many-sent kind.Terminal b = omega arith
-
--- ---- tests and then others
-
-judge-rest : (ts us : List (Bool × ℕ)) (r : Lent) → Off ts → judge (ts ++ us) r ≡ judge us r
-judge-rest [] us r h = refl
-judge-rest (t ∷ ts) us r h = rw (h .0) (judge-rest ts us r (h .1))
-
--- tests whose number n is known may stand as one test, between any others
-judge-told : (ts us vs : List (Bool × ℕ)) (r : Lent) (n : ℕ) → numbered us ≡ true → n ≡ number us → judge (ts ++ ((not (eqb n 0), n) ∷ vs)) r ≡ judge (ts ++ (us ++ vs)) r
-judge-told [] us vs r n d e = go (eqb n 0) refl
-  where
-    go : (b : Bool) → eqb n 0 ≡ b → cond (not b) (Outcome.no n) (judge vs r) ≡ judge (us ++ vs) r
-    go true q = sym (judge-rest us vs r (off-number us d (sym e ∙ eqb-true n 0 q)))
-    go false q =
-        let h : number us ≡ 0 → ⊥ = λ z. eqb-false n 0 q (e ∙ z) in
-        let f : number (us ++ vs) ≡ n = number-first us vs h ∙ sym e in
-        sym (refused (us ++ vs) r (λ z. eqb-false n 0 q (sym f ∙ z)) ∙ ap Outcome.no f)
-judge-told (t ∷ ts) us vs r n d e = ap (λ (o : Outcome). cond (t .0) (Outcome.no (t .1)) o) (judge-told ts us vs r n d e)
-
--- the number tells what a call leaves
-left-by : (ts : List (Bool × ℕ)) (r t : Lent) → numbered ts ≡ true → leftBy r (judge ts t) ≡ left (number ts) (cond (eqb (number ts) 0) t r)
-left-by ts r t n = ap (leftBy r) (judge-number ts t n) ∙ go (eqb (number ts) 0) refl
-  where
-    go : (b : Bool) → eqb (number ts) 0 ≡ b → leftBy r (cond b (Outcome.yes t) (Outcome.no (number ts))) ≡ left (number ts) (cond b t r)
-    go true q = ap (λ (k : ℕ). left k t) (sym (eqb-true (number ts) 0 q))
-    go false q = refl
 
 -- ---- tests and sends of many layers
 
@@ -106,13 +69,8 @@ judge-ready k r words w p =
       headed = p .headed;
       recorded = p .recorded;
       light = p .light;
-      inside = inside k (bottom-lt (getD words 1 0) (r .head .shape .layers) (p .standing .accepted .some));
+      inside = sent-room k (bottomBy (view r) words) (r .head .shape .layers) (bottom-lt (getD words 1 0) (r .head .shape .layers) (p .standing .accepted .some));
     }
-  where
-    -- no touched layer lies outside
-    inside : (c : Kind) → bottomBy (view r) words < r .head .shape .layers → firstSent c (bottomBy (view r) words) + manySent c (bottomBy (view r) words) ≤ r .head .shape .layers
-    inside kind.Standard h = omega (arith, h)
-    inside kind.Terminal h = omega (arith, h)
 
 -- ---- all of an update but its beginning, stage by stage
 

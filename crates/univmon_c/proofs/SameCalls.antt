@@ -7,12 +7,12 @@ use Rattle.layout.specs.Slices.{Lent, lent}
 use Rattle.layout.specs.Outcomes.{Outcome, leftBy}
 use Rattle.univmon.specs.Calls.{updateCall, lentUpdateCall}
 use Rattle.univmon_merge.specs.Merges.{mergeCall}
-use Rattle.univmon_c.specs.Crossing.{isMode, modeOf, modeNumber}
+use Rattle.univmon_c.specs.Crossing.{isMode, modeBy, modeNumber}
 use Rattle.univmon_c.specs.Calls.{ofLent, crossed, changeBy, mergeBy}
 use Rattle.univmon_c.specs.SameCalls.{ThereAndBack, FromC}
 
-mode-back : (m : Mode) → modeOf (modeNumber m) ≡ m
-unfolding modeOf
+mode-back : (m : Mode) → modeBy (modeNumber m) ≡ m
+unfolding modeBy
 mode-back mode.Unset = refl
 mode-back mode.Standard = refl
 mode-back mode.Terminal = refl

@@ -121,5 +121,3 @@ check-no-mode f r h = simp (lt-leb _ _ h)
 pub checked : (f : Lent → Bool) (r : CLent) → r .head .mode ≤ 2 → (b : Bool) → b ≡ f (lentOf r) → b ≡ checkBy f r
 unfolding checkBy
 checked f r h b e = e ∙ simp (le-leb _ _ h)
-
--- ---- a refused call gives the header back as it came

@@ -30,8 +30,8 @@ use Rattle.univmon_c.specs.declared.CStep.{CStep}
 abbrev pub isMode : ℕ → Bool
 isMode n = leb n 2
 
-unfoldable pub modeOf : ℕ → Mode
-modeOf n = cond (eqb n 1) mode.Standard (cond (eqb n 2) mode.Terminal mode.Unset)
+unfoldable pub modeBy : ℕ → Mode
+modeBy n = cond (eqb n 1) mode.Standard (cond (eqb n 2) mode.Terminal mode.Unset)
 
 abbrev pub modeNumber : Mode → ℕ
 modeNumber mode.Unset = 0
@@ -42,8 +42,8 @@ modeNumber mode.Terminal = 2
 abbrev pub isG : ℕ → Bool
 isG n = leb n 2
 
-unfoldable pub gOf : ℕ → G
-gOf n = cond (eqb n 1) g.Value (cond (eqb n 2) g.Square g.One)
+unfoldable pub gBy : ℕ → G
+gBy n = cond (eqb n 1) g.Value (cond (eqb n 2) g.Square g.One)
 
 -- 0 every insert, 1 promoted only
 abbrev pub isFidelity : ℕ → Bool
@@ -59,7 +59,7 @@ headerOf h =
     record {
       shape = record { «heap_size» = h .«heap_size»; rows = h .rows; cols = h .cols; layers = h .layers };
       totals = record { weight = h .weight };
-      mode = modeOf (h .mode);
+      mode = modeBy (h .mode);
       flags = h .flags;
       lens = h .lens;
     }
@@ -82,7 +82,7 @@ abbrev pub cHead : CShape → ℕ → ℕ → List ℕ → List Bool → CHeader
 cHead s w m ns fs = record { «heap_size» = s .«heap_size»; rows = s .rows; cols = s .cols; layers = s .layers; weight = w; mode = m; lens = ns; flags = fs }
 
 abbrev pub cScalars : CShape → ℕ → ℕ → Scalars
-cScalars s w m = record { shape = record { «heap_size» = s .«heap_size»; rows = s .rows; cols = s .cols; layers = s .layers }; totals = record { weight = w }; mode = modeOf m }
+cScalars s w m = record { shape = record { «heap_size» = s .«heap_size»; rows = s .rows; cols = s .cols; layers = s .layers }; totals = record { weight = w }; mode = modeBy m }
 
 -- ---- answers
 

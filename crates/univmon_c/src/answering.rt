@@ -14,7 +14,7 @@ ghost use mathlib.Core.Bool.{Bool, true};
 ghost use Prim.Native.Nat.{ℕ};
 ghost use Rattle.estimates.specs.Calls.{l1Call, l2Call, sumCall, cardinalityCall, panelCall};
 ghost use Rattle.state_check.specs.Check.{stateOk};
-ghost use Rattle.univmon_c.specs.Crossing.{isG, gOf, headerOf};
+ghost use Rattle.univmon_c.specs.Crossing.{isG, gBy, headerOf};
 ghost use Rattle.univmon_c.specs.Calls.{cLent, lentOf, answerBy, panelBy, checkBy};
 
 // The greatest number that is a choice of g.
@@ -55,7 +55,7 @@ pub extern "C" fn univmon_estimate_g_sum(
     g: u64,
     count_every_key: bool,
 ) -> CAnswer
-    ensures { λ r. ⌜ r ≡ answerBy (isG g) header (sumCall (gOf g) «count_every_key» (lentOf (cLent header (now (counters .entry)) (now (norms .entry)) (now (entries .entry)) (now (counts .entry))))) ⌝ }
+    ensures { λ r. ⌜ r ≡ answerBy (isG g) header (sumCall (gBy g) «count_every_key» (lentOf (cLent header (now (counters .entry)) (now (norms .entry)) (now (entries .entry)) (now (counts .entry))))) ⌝ }
 {
     if LAST_MODE < header.mode {
         return no_answer();

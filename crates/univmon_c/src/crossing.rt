@@ -23,9 +23,9 @@ ghost use mathlib.Core.Bool.{Bool};
 ghost use Prim.Native.Nat.{ℕ};
 ghost use Rattle.estimates.specs.Calls.{refusedBy, noPanel};
 ghost use Rattle.univmon_c.specs.Crossing.{
-  modeOf,
+  modeBy,
   modeNumber,
-  gOf,
+  gBy,
   fidelityOf,
   headerOf,
   cHeader,
@@ -43,7 +43,7 @@ ghost use Rattle.univmon_c.specs.Crossing.{
 pub const LAST_MODE: u64 = 2;
 
 fn mode_of(n: u64) -> Mode
-    ensures { λ r. ⌜ r ≡ modeOf n ⌝ }
+    ensures { λ r. ⌜ r ≡ modeBy n ⌝ }
 {
     if n == 1 {
         return Mode::Standard;
@@ -65,7 +65,7 @@ fn mode_number(mode: Mode) -> u64
 }
 
 pub fn g_of(n: u64) -> G
-    ensures { λ r. ⌜ r ≡ gOf n ⌝ }
+    ensures { λ r. ⌜ r ≡ gBy n ⌝ }
 {
     if n == 1 {
         return G::Value;

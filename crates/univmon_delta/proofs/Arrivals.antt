@@ -10,7 +10,7 @@ use Rattle.words.specs.Num.{inRange, allIn, squareCap, capped}
 use Rattle.words.specs.Tests.{number}
 use Rattle.words.proofs.Bools.{and-left}
 use Rattle.countsketch_l2_norm.specs.Sketch.{sketchOf, cellAt}
-use Rattle.countsketch_l2_norm.specs.Estimate.{cellsIn}
+use Rattle.countsketch_l2_norm.specs.Estimate.{cellsInRange}
 use Rattle.heap_moves.specs.declared.Who.{Who}
 use Rattle.layer.specs.declared.Dims.{Dims}
 use Rattle.layer.specs.Layer.{Layer, layerOf, hashBy}
@@ -55,7 +55,7 @@ counter-read d row col n who every xs ws es ns len flag e = and-left a b (and-le
     c = leb (capped (cellAt xs (row * d .cols + col))) norm
 
     cells : Bool
-    cells = cellsIn (d .cols) (hashBy who) xs (d .rows) 0
+    cells = cellsInRange (d .cols) (hashBy who) xs (d .rows) 0
 
     counts : Bool
     counts = allIn (take len ns)

@@ -88,7 +88,7 @@ module _ {r t : Lent} {l : ℕ} (p : Paired r t 1 l) where
 
 -- what the merge of one layer needs: the first's parts as a span names them, the second's as functions return them
 pub merge-ready : {r t : Lent} {l : ℕ} {s : Span} → MergeReady r t l → Spanned r l s → let d = dimsAt (shapeBy r) l in
-    gather.MergeReady d (getD (r .head .lens) l 0) (getD (t .head .lens) l 0) (cellPart s (r .counters)) (normPart s (r .norms)) (wordPart s (r .entries)) (seatPart s (r .counts))
+    gather.LayerMergeReady d (getD (r .head .lens) l 0) (getD (t .head .lens) l 0) (cellPart s (r .counters)) (normPart s (r .norms)) (wordPart s (r .entries)) (seatPart s (r .counts))
     (part (cellOff (shapeBy r) l) (d .rows * d .cols) (t .counters)) (part (4 * candOff (shapeBy r) l) (4 * d .size) (t .entries))
 merge-ready {r} {t} {l} {s} p q =
     let w = p .ready .paired in

@@ -10,7 +10,7 @@ use denote.Ref.{now}
 use mir.Facts.{toZ-ofZ}
 use Rattle.matrix_storage.specs.Bits.{Shaped}
 use Rattle.countsketch_l2_norm.specs.Sketch.{sketchOf, cellRead}
-use Rattle.countsketch_l2_norm.specs.Needs.{Placed}
+use Rattle.countsketch_l2_norm.specs.Needs.{CellPlaced}
 use Rattle.countsketch_l2_norm.proofs.After.{read-cell}
 use Rattle.countsketch_test.proofs.delta.Statement.{statement}
 use Rattle.countsketch_test.proofs.delta.Tie as tie
@@ -42,7 +42,7 @@ returns-4 c = search needs
 lent : (c : tie.Else1) → Shaped (c .before .before .before .args .rows) (c .before .before .before .args .cols) × ((c .before .before .before .args .rows * c .before .before .before .args .cols ≤ length (now (c .before .before .before .args .counters))) × (2 * c .before .before .before .args .rows ≤ length (now (c .before .before .before .args .norms))))
 lent c = c .before .held .ensures (not-false _ (c .if1 .left))
 
-placed : (c : tie.Else3) → Placed (c .before .before .before .before .before .args .rows) (c .before .before .before .before .before .args .cols) (c .before .before .before .before .before .args .row) (c .before .before .before .before .before .args .col) (now (c .before .before .before .before .before .args .counters))
+placed : (c : tie.Else3) → CellPlaced (c .before .before .before .before .before .args .rows) (c .before .before .before .before .before .args .cols) (c .before .before .before .before .before .args .row) (c .before .before .before .before .before .args .col) (now (c .before .before .before .before .before .args .counters))
 placed c = let l = lent (c .before .before) in record { shaped = l .0; room = l .1 .0; below = c .before .if2 .left; inside = c .if3 .left }
 
 read : (c : tie.Else5) → let a = c .before .before .before .before .before .before .before .before .before .before .before .args in cellRead (a .cols) (a .row * a .cols + a .col) (a .row) (sketchOf (now (a .counters)) (now (a .norms)) (a .rows)) ≡ true

@@ -8,7 +8,7 @@ use borrow.Author.Needs.{needs}
 use borrow.Author.Tests.{not-false}
 use denote.Ref.{now}
 use Rattle.matrix_storage.specs.Bits.{maxRows, hashOf, Shaped}
-use Rattle.countsketch_l2_norm.specs.Estimate.{cellsIn}
+use Rattle.countsketch_l2_norm.specs.Estimate.{cellsInRange}
 use Rattle.countsketch_test.proofs.estimate.Statement.{statement}
 use Rattle.countsketch_test.proofs.estimate.Tie as tie
 
@@ -21,7 +21,7 @@ returns c = search needs
 lent : (c : tie.Else1) → Shaped (c .before .before .args .rows) (c .before .before .args .cols) × ((c .before .before .args .rows * c .before .before .args .cols ≤ length (now (c .before .before .args .counters))) × (2 * c .before .before .args .rows ≤ 2 * maxRows))
 lent c = c .before .held .ensures (not-false _ (c .if1 .left))
 
-inside : (c : tie.Else2) → cellsIn (c .before .before .before .before .args .cols) (hashOf (c .before .before .before .before .args .high) (c .before .before .before .before .args .low)) (now (c .before .before .before .before .args .counters)) (c .before .before .before .before .args .rows) 0 ≡ true
+inside : (c : tie.Else2) → cellsInRange (c .before .before .before .before .args .cols) (hashOf (c .before .before .before .before .args .high) (c .before .before .before .before .args .low)) (now (c .before .before .before .before .args .counters)) (c .before .before .before .before .args .rows) 0 ≡ true
 inside c = sym (c .before .cells-in .ensures) ∙ not-false _ (c .if2 .left)
 
 cells-in-requires : tie.Need-cells-in-requires

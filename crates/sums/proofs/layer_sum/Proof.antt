@@ -8,7 +8,7 @@ use borrow.Author.Needs.{needs, sfits-of}
 use denote.Ref.{now}
 use mir.Facts.{toZ-ofZ}
 use Rattle.sums.specs.Entries.{space, at}
-use Rattle.sums.specs.Terms.{nought, sumOver}
+use Rattle.sums.specs.Terms.{plusZero, sumOver}
 use Rattle.sums.proofs.Views.{view-listed, Summing, sum-start, sum-on, sum-end}
 use Rattle.sums.proofs.layer_sum.Statement.{statement}
 use Rattle.sums.proofs.layer_sum.Tie as tie
@@ -54,7 +54,7 @@ returns : tie.Need-returns Inv-loop μ-loop
 returns c =
     let a = c .before .before .before .args in
     let s = space [] (now (a .bottoms)) (now (a .counts)) in
-    sum-end (a .rule) (at s) (a .n) (c .before .loop .acc) (c .before .loop .i) (c .before .loop .inv) (omega arith) ∙ ap (sumOver (a .rule) nought) (sym (view-listed s 0 (a .n)))
+    sum-end (a .rule) (at s) (a .n) (c .before .loop .acc) (c .before .loop .i) (c .before .loop .inv) (omega arith) ∙ ap (sumOver (a .rule) plusZero) (sym (view-listed s 0 (a .n)))
 
 pub layer-sum-spec : {M : Type 1} → statement M
 layer-sum-spec = tie.close (tie.spec Inv-loop μ-loop loop-holds mul-add-term shared-slice-read-add-term mul-add-term-2 shared-slice-copy-out-add-term add-term-requires add-i loop-less loop-again returns)

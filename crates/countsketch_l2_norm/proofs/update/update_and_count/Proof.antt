@@ -9,7 +9,7 @@ use mir.Facts.{toZ-ofZ}
 use Rattle.countsketch_l2_norm.proofs.After.{fit-after}
 use Rattle.countsketch_l2_norm.proofs.Estimates.{counted-in, counted}
 use Rattle.countsketch_l2_norm.specs.Sketch.{sketchOf, Sketch}
-use Rattle.countsketch_l2_norm.specs.Estimate.{cellsIn}
+use Rattle.countsketch_l2_norm.specs.Estimate.{cellsInRange}
 use Rattle.matrix_storage.specs.Bits.{hashOf}
 use native.Mathlib.Nat.{zero-add}
 use Rattle.countsketch_l2_norm.proofs.update.update_and_count.Statement.{statement}
@@ -19,11 +19,11 @@ abbrev hash : tie.Start → ℕ
 hash c = hashOf (c .args .high) (c .args .low)
 
 -- the counters after the update are in range
-cells-after : (c : tie.After-update-rows) → cellsIn (c .before .before .before .before .before .before .args .cols) (hash (c .before .before .before .before .before .before)) (c .update-rows .last .1 .0) (c .before .before .before .before .before .before .args .rows) 0 ≡ true
+cells-after : (c : tie.After-update-rows) → cellsInRange (c .before .before .before .before .before .before .args .cols) (hash (c .before .before .before .before .before .before)) (c .update-rows .last .1 .0) (c .before .before .before .before .before .before .args .rows) 0 ≡ true
 cells-after c =
     let a = c .before .before .before .before .before .before .args in
     let p = c .before .before .before .before .before .before .pre in
-    ap (λ (s : Sketch). cellsIn (a .cols) (hash (c .before .before .before .before .before .before)) (s .cells) (a .rows) 0) (c .update-rows .ensures .1 .0)
+    ap (λ (s : Sketch). cellsInRange (a .cols) (hash (c .before .before .before .before .before .before)) (s .cells) (a .rows) 0) (c .update-rows .ensures .1 .0)
     ∙ fit-after (a .cols) (hash (c .before .before .before .before .before .before)) (a .weight) (a .rows) 0 (sketchOf (now (a .counters)) (now (a .norms)) (a .rows)) (p .shaped .some) (rw (zero-add (a .rows)) (p .room)) (p .fit)
 
 update-five-requires : tie.Need-update-five-requires

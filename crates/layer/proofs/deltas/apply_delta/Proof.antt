@@ -14,7 +14,7 @@ use mir.Facts.{toZ-ofZ}
 use Rattle.words.specs.Num.{allIn}
 use Rattle.words.proofs.Bools.{and-left, and-right}
 use Rattle.countsketch_l2_norm.specs.Sketch.{Sketch, sketchOf, cellAt, cellRead, cellFits, addCell}
-use Rattle.countsketch_l2_norm.specs.Estimate.{cellsIn}
+use Rattle.countsketch_l2_norm.specs.Estimate.{cellsInRange}
 use Rattle.layer.specs.Layer.{hashBy}
 use Rattle.layer.specs.Delta.{delta, deltaFits}
 use Rattle.layer.proofs.Tests.{delta-reads-are, cells-set}
@@ -25,21 +25,21 @@ use Rattle.layer.proofs.deltas.apply_delta.Tie as tie
 
 -- the tests of the counter and of the estimate, from those of the layer
 tests : (c : tie.Start) → let a = c .args in
-    cellRead (a .d .cols) (a .row * a .d .cols + a .col) (a .row) (sketchOf (now (a .counters)) (now (a .norms)) (a .d .rows)) && cellsIn (a .d .cols) (hashBy (a .who)) (now (a .counters)) (a .d .rows) 0 ≡ true
+    cellRead (a .d .cols) (a .row * a .d .cols + a .col) (a .row) (sketchOf (now (a .counters)) (now (a .norms)) (a .d .rows)) && cellsInRange (a .d .cols) (hashBy (a .who)) (now (a .counters)) (a .d .rows) 0 ≡ true
 tests c =
     let a = c .args in
-    and-left (cellRead (a .d .cols) (a .row * a .d .cols + a .col) (a .row) (sketchOf (now (a .counters)) (now (a .norms)) (a .d .rows)) && cellsIn (a .d .cols) (hashBy (a .who)) (now (a .counters)) (a .d .rows) 0) (allIn (take (a .len) (now (a .counts))))
+    and-left (cellRead (a .d .cols) (a .row * a .d .cols + a .col) (a .row) (sketchOf (now (a .counters)) (now (a .norms)) (a .d .rows)) && cellsInRange (a .d .cols) (hashBy (a .who)) (now (a .counters)) (a .d .rows) 0) (allIn (take (a .len) (now (a .counts))))
     (sym (delta-reads-are (a .d) (a .row) (a .col) (a .count) (a .who) true (now (a .counters)) (now (a .norms)) (now (a .entries)) (now (a .counts)) (a .len) false) ∙ c .pre .read)
 
 cell-read : (c : tie.Start) → let a = c .args in cellRead (a .d .cols) (a .row * a .d .cols + a .col) (a .row) (sketchOf (now (a .counters)) (now (a .norms)) (a .d .rows)) ≡ true
 cell-read c =
     let a = c .args in
-    and-left (cellRead (a .d .cols) (a .row * a .d .cols + a .col) (a .row) (sketchOf (now (a .counters)) (now (a .norms)) (a .d .rows))) (cellsIn (a .d .cols) (hashBy (a .who)) (now (a .counters)) (a .d .rows) 0) (tests c)
+    and-left (cellRead (a .d .cols) (a .row * a .d .cols + a .col) (a .row) (sketchOf (now (a .counters)) (now (a .norms)) (a .d .rows))) (cellsInRange (a .d .cols) (hashBy (a .who)) (now (a .counters)) (a .d .rows) 0) (tests c)
 
-cells-read : (c : tie.Start) → let a = c .args in cellsIn (a .d .cols) (hashBy (a .who)) (now (a .counters)) (a .d .rows) 0 ≡ true
+cells-read : (c : tie.Start) → let a = c .args in cellsInRange (a .d .cols) (hashBy (a .who)) (now (a .counters)) (a .d .rows) 0 ≡ true
 cells-read c =
     let a = c .args in
-    and-right (cellRead (a .d .cols) (a .row * a .d .cols + a .col) (a .row) (sketchOf (now (a .counters)) (now (a .norms)) (a .d .rows))) (cellsIn (a .d .cols) (hashBy (a .who)) (now (a .counters)) (a .d .rows) 0) (tests c)
+    and-right (cellRead (a .d .cols) (a .row * a .d .cols + a .col) (a .row) (sketchOf (now (a .counters)) (now (a .norms)) (a .d .rows))) (cellsInRange (a .d .cols) (hashBy (a .who)) (now (a .counters)) (a .d .rows) 0) (tests c)
 
 cell-fits : (c : tie.Start) → let a = c .args in cellFits (a .row * a .d .cols + a .col) (a .count) (now (a .counters)) ≡ true
 unfolding deltaFits

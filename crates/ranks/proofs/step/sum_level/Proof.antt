@@ -6,7 +6,7 @@ use borrow.Author.Needs.{needs, sfits-of}
 use denote.Ref.{now}
 use mir.Facts.{toZ-ofZ}
 use Rattle.sums.specs.Entries.{space, at}
-use Rattle.sums.specs.Terms.{nought}
+use Rattle.sums.specs.Terms.{plusZero}
 use Rattle.sums.proofs.Views.{sum-keys}
 use Rattle.ranks.specs.Step.{upOf, ruleOf}
 use Rattle.ranks.proofs.Levels.{level-is}
@@ -32,7 +32,7 @@ returns c =
     let x = rw (toZ-ofZ (sfits-of (c .before .before .threshold-at .ok))) at (c .before .layer-sum .ensures) in (
       λ ks s₀. let s = space ks (now (a .bottoms)) (now (a .counts)) in
           level-is (a .ask) (a .place) s (upOf s₀ (a .below)) (a .all) (a .n) (c .before .before .before .before .before .both .result) t (c .before .layer-sum .result) (c .join .result)
-          (c .before .before .before .before .before .both .ensures) (c .before .before .threshold-at .ensures) (x ∙ sum-keys (ruleOf (a .ask) (a .place) t) nought s [] 0 (a .n)) (c .join .ensures),
+          (c .before .before .before .before .before .both .ensures) (c .before .before .threshold-at .ensures) (x ∙ sum-keys (ruleOf (a .ask) (a .place) t) plusZero s [] 0 (a .n)) (c .join .ensures),
       refl,
     )
 

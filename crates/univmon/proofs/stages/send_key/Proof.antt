@@ -8,7 +8,8 @@ use denote.Ref.{now}
 use Rattle.header.specs.Header.{headOf}
 use Rattle.layout.specs.Slices.{lent, view, Lent}
 use Rattle.univmon.specs.Updates.{firstSent, manySent, bottomBy}
-use Rattle.univmon.proofs.Updating.{first-below, many-sent, judge-ready}
+use Rattle.univmon.proofs.Touched.{first-below, many-sent}
+use Rattle.univmon.proofs.Updating.{judge-ready}
 use Rattle.univmon.proofs.stages.send_key.Statement.{statement}
 use Rattle.univmon.proofs.stages.send_key.Tie as tie
 
