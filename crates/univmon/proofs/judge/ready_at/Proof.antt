@@ -16,11 +16,9 @@ use Rattle.words.specs.Parts.{part}
 use Rattle.univmon.proofs.judge.ready_at.Statement.{statement}
 use Rattle.univmon.proofs.judge.ready_at.Tie as tie
 
--- antt refused `dims-requires` as it was built: the module's report says why
 dims-requires : tie.Need-dims-requires
 dims-requires c κs = search needs
 
--- antt refused `who-in-requires` as it was built: the module's report says why
 -- the state that is lent
 abbrev lent-of : tie.Start → Lent
 lent-of c = lent (headOf (c .args .h) (now (c .args .flags)) (now (c .args .lens))) (now (c .args .counters)) (now (c .args .norms)) (now (c .args .entries)) (now (c .args .counts))
@@ -31,32 +29,25 @@ inside c = let p = c .pre in omega (arith, p .inside)
 who-in-requires : tie.Need-who-in-requires
 who-in-requires c κs = let p = c .before .before .before .before .before .before .before .pre in let i = inside (c .before .before .before .before .before .before .before) in (omega (arith, i, p .standing .accepted .few), omega (arith, i, p .recorded))
 
--- antt refused `mul-len` as it was built: the module's report says why
 mul-len : tie.Need-mul-len
 mul-len c = let p = c .before .before .before .before .before .before .before .before .pre in let q = p .standing .accepted .few in let i = inside (c .before .before .before .before .before .before .before .before) in let hl = p .headed .lens in search needs
 
--- antt refused `shared-slice-read-len` as it was built: the module's report says why
 shared-slice-read-len : tie.Need-shared-slice-read-len
 shared-slice-read-len c = let p = c .before .before .before .before .before .before .before .before .before .pre in let q = p .standing .accepted .few in let i = inside (c .before .before .before .before .before .before .before .before .before) in let hl = p .headed .lens in search needs
 
--- antt refused `cells-at-requires` as it was built: the module's report says why
 cells-at-requires : tie.Need-cells-at-requires
 cells-at-requires c κs = let z = c .before .before .before .before .before .before .before .before .before .pre .standing in (z .accepted, (inside (c .before .before .before .before .before .before .before .before .before), z .sizes .cells))
 
--- antt refused `norms-at-requires` as it was built: the module's report says why
 norms-at-requires : tie.Need-norms-at-requires
 norms-at-requires c κs = let z = c .before .before .before .before .before .before .before .before .before .before .pre .standing in (z .accepted, (inside (c .before .before .before .before .before .before .before .before .before .before), z .sizes .norms))
 
--- antt refused `seats-at-requires` as it was built: the module's report says why
 seats-at-requires : tie.Need-seats-at-requires
 seats-at-requires c κs = let z = c .before .before .before .before .before .before .before .before .before .before .before .pre .standing in (z .accepted, (inside (c .before .before .before .before .before .before .before .before .before .before .before), z .sizes .counts))
 
--- antt refused `add-ready-requires` as it was built: the module's report says why
 add-ready-requires : tie.Need-add-ready-requires
 add-ready-requires c κs =
     rw (c .before .before .before .before .before .dims .ensures, c .before .before .cells-at .ensures, c .before .norms-at .ensures, c .seats-at .ensures) (housed-here (lent-of (c .before .before .before .before .before .before .before .before .before .before .before .before)) (c .before .before .before .before .before .before .before .before .before .before .before .before .pre .standing) (c .before .before .before .before .before .before .before .before .before .before .before .before .args .l) (inside (c .before .before .before .before .before .before .before .before .before .before .before .before)), c .before .before .before .before .before .before .before .before .before .before .before .before .pre .light)
 
--- antt refused `returns` as it was built: the module's report says why
 returns : tie.Need-returns
 returns c =
     let a = c .before .before .before .before .before .before .before .before .before .before .before .before .before .args in
@@ -65,6 +56,5 @@ returns c =
     (c .add-ready .ensures (part (4 * candOff sh (a .l)) (4 * sh .«heap_size») (now (a .entries))) (getD (now (a .flags)) (a .l) false))
     ∙ ap (readyAt sh (now (a .words)) (a .weight) (a .l)) (sym (layer-view (lent-of (c .before .before .before .before .before .before .before .before .before .before .before .before .before)) (c .before .before .before .before .before .before .before .before .before .before .before .before .before .pre .standing .sizes) (a .l) (inside (c .before .before .before .before .before .before .before .before .before .before .before .before .before))))
 
--- antt refused `ready-at-spec` as it was built: the module's report says why
 pub ready-at-spec : {M : Type 1} → statement M
 ready-at-spec = tie.close (tie.spec dims-requires who-in-requires mul-len shared-slice-read-len cells-at-requires norms-at-requires seats-at-requires add-ready-requires returns)

@@ -21,7 +21,6 @@ use Rattle.univmon.proofs.Sends.{send-ready}
 use Rattle.univmon.proofs.update.send_one.Statement.{statement}
 use Rattle.univmon.proofs.update.send_one.Tie as tie
 
--- antt refused `span-of-requires` as it was built: the module's report says why
 -- the state that is lent, and where its layer stands
 abbrev lent-of : tie.Start → Lent
 lent-of c = lent (headOf (c .args .h) (now (c .args .flags)) (now (c .args .lens))) (now (c .args .counters)) (now (c .args .norms)) (now (c .args .entries)) (now (c .args .counts))
@@ -32,127 +31,96 @@ spanned c = record { standing = c .before .before .before .before .before .befor
 span-of-requires : tie.Need-span-of-requires
 span-of-requires c κs = (c .before .before .before .before .before .before .pre .standing .accepted, c .before .before .before .before .before .before .pre .inside)
 
--- antt refused `dims-requires` as it was built: the module's report says why
 dims-requires : tie.Need-dims-requires
 dims-requires c κs = search needs
 
--- antt refused `who-in-requires` as it was built: the module's report says why
 who-in-requires : tie.Need-who-in-requires
 who-in-requires c κs = let p = c .before .before .before .before .before .before .before .before .pre in (omega (arith, p .inside, p .standing .accepted .few), omega (arith, p .inside, p .recorded))
 
--- antt refused `mul-len` as it was built: the module's report says why
 mul-len : tie.Need-mul-len
 mul-len c = let p = c .before .before .before .before .before .before .before .before .before .pre in let q = p .standing .accepted .few in let i = p .inside in let hl = p .headed .lens in let hf = p .headed .flags in search needs
 
--- antt refused `slice-read-len` as it was built: the module's report says why
 slice-read-len : tie.Need-slice-read-len
 slice-read-len c = let p = c .before .before .before .before .before .before .before .before .before .before .pre in let q = p .standing .accepted .few in let i = p .inside in let hl = p .headed .lens in let hf = p .headed .flags in search needs
 
--- antt refused `mul-add` as it was built: the module's report says why
 mul-add : tie.Need-mul-add
 mul-add c = let b = cell-piece (spanned (c .before .before .before)) in search needs
 
--- antt refused `sub-add` as it was built: the module's report says why
 sub-add : tie.Need-sub-add
 sub-add c = let b = cell-piece (spanned (c .before .before .before)) in search needs
 
--- antt refused `part-add-start` as it was built: the module's report says why
 part-add-start : tie.Need-part-add-start
 part-add-start c = let b = cell-piece (spanned (c .before .before .before)) in search needs
 
--- antt refused `part-add-end` as it was built: the module's report says why
 part-add-end : tie.Need-part-add-end
 part-add-end c = let b = cell-piece (spanned (c .before .before .before)) in search needs
 
--- antt refused `mul-add-2` as it was built: the module's report says why
 mul-add-2 : tie.Need-mul-add-2
 mul-add-2 c = let b = norm-piece (spanned (c .before .before .before .before)) in search needs
 
--- antt refused `sub-add-2` as it was built: the module's report says why
 sub-add-2 : tie.Need-sub-add-2
 sub-add-2 c = let b = norm-piece (spanned (c .before .before .before .before)) in search needs
 
--- antt refused `part-add-start-2` as it was built: the module's report says why
 part-add-start-2 : tie.Need-part-add-start-2
 part-add-start-2 c = let b = norm-piece (spanned (c .before .before .before .before)) in search needs
 
--- antt refused `part-add-end-2` as it was built: the module's report says why
 part-add-end-2 : tie.Need-part-add-end-2
 part-add-end-2 c = let b = norm-piece (spanned (c .before .before .before .before)) in search needs
 
--- antt refused `mul-add-3` as it was built: the module's report says why
 mul-add-3 : tie.Need-mul-add-3
 mul-add-3 c = let b = word-piece (spanned (c .before .before .before .before .before)) in search needs
 
--- antt refused `sub-add-3` as it was built: the module's report says why
 sub-add-3 : tie.Need-sub-add-3
 sub-add-3 c = let b = word-piece (spanned (c .before .before .before .before .before)) in search needs
 
--- antt refused `part-add-start-3` as it was built: the module's report says why
 part-add-start-3 : tie.Need-part-add-start-3
 part-add-start-3 c = let b = word-piece (spanned (c .before .before .before .before .before)) in search needs
 
--- antt refused `part-add-end-3` as it was built: the module's report says why
 part-add-end-3 : tie.Need-part-add-end-3
 part-add-end-3 c = let b = word-piece (spanned (c .before .before .before .before .before)) in search needs
 
--- antt refused `mul-add-4` as it was built: the module's report says why
 mul-add-4 : tie.Need-mul-add-4
 mul-add-4 c = let b = seat-piece (spanned (c .before .before .before .before .before .before)) in search needs
 
--- antt refused `sub-add-4` as it was built: the module's report says why
 sub-add-4 : tie.Need-sub-add-4
 sub-add-4 c = let b = seat-piece (spanned (c .before .before .before .before .before .before)) in search needs
 
--- antt refused `part-add-start-4` as it was built: the module's report says why
 part-add-start-4 : tie.Need-part-add-start-4
 part-add-start-4 c = let b = seat-piece (spanned (c .before .before .before .before .before .before)) in search needs
 
--- antt refused `part-add-end-4` as it was built: the module's report says why
 part-add-end-4 : tie.Need-part-add-end-4
 part-add-end-4 c = let b = seat-piece (spanned (c .before .before .before .before .before .before)) in search needs
 
--- antt refused `add-requires` as it was built: the module's report says why
 add-requires : tie.Need-add-requires
 add-requires c κs = rw (c .before .before .before .before .before .before .dims .ensures, c .before .before .before .before .before .who-in .ensures) (send-ready (c .before .before .before .before .before .before .before .before .before .before .before .before .before .before .pre) (spanned (c .before .before .before .before .before .before .before)))
 
--- antt refused `len-after-requires` as it was built: the module's report says why
 len-after-requires : tie.Need-len-after-requires
 len-after-requires c κs = let z = c .before .before .before .before .before .before .before .before .before .before .before .before .before .before .before .before .before .before .before .before .before .pre .standing in omega (arith, z .lens (c .before .before .before .before .before .before .before .before .before .before .before .before .before .before .before .before .before .before .before .before .before .args .l) (c .before .before .before .before .before .before .before .before .before .before .before .before .before .before .before .before .before .before .before .before .before .pre .inside), z .accepted .small)
 
--- antt refused `mul-lens` as it was built: the module's report says why
 mul-lens : tie.Need-mul-lens
 mul-lens c = let p = c .before .before .before .before .before .before .before .before .before .before .before .before .before .before .before .before .before .before .before .before .before .before .pre in let q = p .standing .accepted .few in let i = p .inside in let hl = p .headed .lens in let hf = p .headed .flags in search needs
 
--- antt refused `slice-write-lens` as it was built: the module's report says why
 slice-write-lens : tie.Need-slice-write-lens
 slice-write-lens c = let p = c .before .before .before .before .before .before .before .before .before .before .before .before .before .before .before .before .before .before .before .before .before .before .pre in let q = p .standing .accepted .few in let i = p .inside in let hl = p .headed .lens in let hf = p .headed .flags in search needs
 
--- antt refused `kept-requires` as it was built: the module's report says why
 kept-requires : tie.Need-kept-requires
 kept-requires c κs = search needs
 
--- antt refused `same-length` as it was built: the module's report says why
 same-length : tie.Need-same-length
 same-length c = search needs
 
--- antt refused `same-length-2` as it was built: the module's report says why
 same-length-2 : tie.Need-same-length-2
 same-length-2 c = search needs
 
--- antt refused `same-length-3` as it was built: the module's report says why
 same-length-3 : tie.Need-same-length-3
 same-length-3 c = search needs
 
--- antt refused `same-length-4` as it was built: the module's report says why
 same-length-4 : tie.Need-same-length-4
 same-length-4 c = search needs
 
--- antt refused `same-length-5` as it was built: the module's report says why
 same-length-5 : tie.Need-same-length-5
 same-length-5 c = search needs
 
--- antt refused `returns` as it was built: the module's report says why
 -- the parts that came back
 back : (c : tie.After-counts) → let l = c .before .before .before .before .before .before .add .last in Back (spanned (c .before .before .before .before .before .before .before .before .before .before .before .before .before .before)) (l .0) (l .1 .0) (l .1 .1 .0) (l .1 .1 .1 .0)
 back c = record { cells = c .before .before .before .before .before .counters .given .0; norms = c .before .before .before .before .norms .given .0; words = c .before .before .entries .given .0; seats = c .counts .given .0 }
@@ -195,41 +163,32 @@ returns c = (
   rw (after-kept c) (back-standing (spanned (c .before .before .before .before .before .before .before .before .before .before .before .before .before .before .before .before .before)) _ _ _ _ _ _ (back (c .before .before .before)) (few (c .before .before .before .before .before .before .before .before .before))),
 )
 
--- antt refused `slice-write-flags` as it was built: the module's report says why
 slice-write-flags : tie.Need-slice-write-flags
 slice-write-flags c = let p = c .before .before .before .before .before .before .before .before .before .before .before .before .before .before .before .before .before .before .before .before .before .before .before .before .pre in let q = p .standing .accepted .few in let i = p .inside in let hl = p .headed .lens in let hf = p .headed .flags in search needs
 
--- antt refused `same-length-6` as it was built: the module's report says why
 same-length-6 : tie.Need-same-length-6
 same-length-6 c = search needs
 
--- antt refused `same-length-7` as it was built: the module's report says why
 same-length-7 : tie.Need-same-length-7
 same-length-7 c = search needs
 
--- antt refused `same-length-8` as it was built: the module's report says why
 same-length-8 : tie.Need-same-length-8
 same-length-8 c = search needs
 
--- antt refused `same-length-9` as it was built: the module's report says why
 same-length-9 : tie.Need-same-length-9
 same-length-9 c = search needs
 
--- antt refused `same-length-10` as it was built: the module's report says why
 same-length-10 : tie.Need-same-length-10
 same-length-10 c = search needs
 
--- antt refused `same-length-11` as it was built: the module's report says why
 same-length-11 : tie.Need-same-length-11
 same-length-11 c = search needs
 
--- antt refused `returns-2` as it was built: the module's report says why
 returns-2 : tie.Need-returns-2
 returns-2 c = (
   rw (after-lost c) (back-view (spanned (c .before .before .before .before .before .before .before .before .before .before .before .before .before .before .before .before .before)) _ _ _ _ _ _ _ (back (c .before .before .before)) (layer-now (c .before .before .before .before .before .before .before .before .before))),
   rw (after-lost c) (back-standing (spanned (c .before .before .before .before .before .before .before .before .before .before .before .before .before .before .before .before .before)) _ _ _ _ _ _ (back (c .before .before .before)) (few (c .before .before .before .before .before .before .before .before .before))),
 )
 
--- antt refused `send-one-spec` as it was built: the module's report says why
 pub send-one-spec : {M : Type 1} → statement M
 send-one-spec = tie.close (tie.spec span-of-requires dims-requires who-in-requires mul-len slice-read-len mul-add sub-add part-add-start part-add-end mul-add-2 sub-add-2 part-add-start-2 part-add-end-2 mul-add-3 sub-add-3 part-add-start-3 part-add-end-3 mul-add-4 sub-add-4 part-add-start-4 part-add-end-4 add-requires len-after-requires mul-lens slice-write-lens kept-requires same-length same-length-2 same-length-3 same-length-4 same-length-5 returns slice-write-flags same-length-6 same-length-7 same-length-8 same-length-9 same-length-10 same-length-11 returns-2)
