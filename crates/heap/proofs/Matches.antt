@@ -18,18 +18,18 @@ use Rattle.words.proofs.Bools.{and-left, and-right, not-same}
 use Rattle.heap.specs.Fours.{fourOther}
 use Rattle.heap.specs.Offer.{find}
 
-pub find-first : (k : ℕ) (cs : List Cand) (i : ℕ) → i < length cs → ((j : ℕ) → j < i → getD cs j noCand .who .key ≢ k) → getD cs i noCand .who .key ≡ k → i ≡ find k cs
+pub find-first : (k : ℕ) (cs : List Cand) (i : ℕ) → i < length cs → ((j : ℕ) → j < i → getD cs j noCand .item .key ≢ k) → getD cs i noCand .item .key ≡ k → i ≡ find k cs
 unfolding find
 find-first k [] i l m e = absurd (omega arith)
-find-first k (c ∷ cs) zero l m e = rw (eq-eqb (c .who .key) k e)
+find-first k (c ∷ cs) zero l m e = rw (eq-eqb (c .item .key) k e)
 find-first k (c ∷ cs) (suc i) l m e =
-    rw (ne-eqb (c .who .key) k (m 0 (omega arith))) (ap suc (find-first k cs i (omega arith) (λ j h. m (suc j) (omega arith)) e))
+    rw (ne-eqb (c .item .key) k (m 0 (omega arith))) (ap suc (find-first k cs i (omega arith) (λ j h. m (suc j) (omega arith)) e))
 
-pub find-none : (k : ℕ) (cs : List Cand) → ((j : ℕ) → j < length cs → getD cs j noCand .who .key ≢ k) → length cs ≡ find k cs
+pub find-none : (k : ℕ) (cs : List Cand) → ((j : ℕ) → j < length cs → getD cs j noCand .item .key ≢ k) → length cs ≡ find k cs
 unfolding find
 find-none k [] m = refl
 find-none k (c ∷ cs) m =
-    rw (ne-eqb (c .who .key) k (m 0 (omega arith))) (ap suc (find-none k cs (λ j h. m (suc j) (omega arith))))
+    rw (ne-eqb (c .item .key) k (m 0 (omega arith))) (ap suc (find-none k cs (λ j h. m (suc j) (omega arith))))
 
 -- none of the first i entries has the key
 abbrev pub Missed : List ℕ → ℕ → ℕ → Type 0
@@ -42,9 +42,9 @@ missed-next es k i m h j l = go (ℕ-discrete j i)
     go (yes e) = subst (λ (z : ℕ). getD es (4 * z) 0 ≢ k) (sym e) h
     go (no f) = m j (omega (arith, f))
 
-taken-key : (es : List ℕ) (ns : List ℤ) (n j : ℕ) → j < n → n ≤ length ns → getD (take n (candsOf es ns)) j noCand .who .key ≡ getD es (4 * j) 0
+taken-key : (es : List ℕ) (ns : List ℤ) (n j : ℕ) → j < n → n ≤ length ns → getD (take n (candsOf es ns)) j noCand .item .key ≡ getD es (4 * j) 0
 taken-key es ns n j h l =
-    ap (λ (c : Cand). c .who .key) (getD-take n (candsOf es ns) j noCand h ∙ cand-at es ns j (omega arith))
+    ap (λ (c : Cand). c .item .key) (getD-take n (candsOf es ns) j noCand h ∙ cand-at es ns j (omega arith))
 
 taken-long : (es : List ℕ) (ns : List ℤ) (n : ℕ) → n ≤ length ns → length (take n (candsOf es ns)) ≡ n
 taken-long es ns n l = length-take-le n (candsOf es ns) (subst (λ (z : ℕ). n ≤ z) (sym (length-cands es ns)) l)

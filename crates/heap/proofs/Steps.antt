@@ -11,7 +11,7 @@ use mir.Val.{toZ, ofZ}
 use mir.Facts.{toZ-ofZ}
 use borrow.Author.Needs.{sfits-of}
 use borrow.Author.Tests.{lt-ltb, le-ltb}
-use Rattle.heap_moves.specs.declared.Who.{Who}
+use Rattle.heap_moves.specs.declared.Item.{Item}
 use Rattle.heap_moves.specs.Cands.{Cand, recount, up, down, updateAt}
 use Rattle.heap_moves.specs.Flat.{candsOf, candOf, entriesOf, countsOf}
 use Rattle.heap_moves.proofs.Views.{cand-at, count-at, recount-view}
@@ -31,7 +31,7 @@ rescore-view es ns n i v v′ same cs q =
 table-path : {a b : List Cand} {n : ℕ} {x : Answer} → a ≡ b → _≡_ {A = Offered} (record { table = record { cands = a; len = n }; answer = x }) (record { table = record { cands = b; len = n }; answer = x })
 table-path {a} {b} {n} {x} p = λ i. record { table = record { cands = p i; len = n }; answer = x }
 
-module _ (es : List ℕ) (ns : List ℤ) (len : ℕ) (w : Who) (v v′ : ℤ) (same : v′ ≡ v) where
+module _ (es : List ℕ) (ns : List ℤ) (len : ℕ) (w : Item) (v v′ : ℤ) (same : v′ ≡ v) where
   pub seat-view : (cs ds : List Cand) → cs ≡ set (candsOf es ns) len (candOf w v′) → ds ≡ up len cs len → ds ≡ seat (tableOf es ns len) (candOf w v) .cands
   unfolding seat
   seat-view cs ds p q = q ∙ ap (λ (z : List Cand). up len z len) (p ∙ ap (λ (x : ℤ). set (candsOf es ns) len (candOf w x)) same)

@@ -13,7 +13,7 @@ abbrev pub hit : ℕ → ℕ → ℕ
 hit j k = cond (eqb j k) 1 0
 
 abbrev pub keyHit : ℕ → Cand → ℕ
-keyHit k c = hit (c .who .key) k
+keyHit k c = hit (c .item .key) k
 
 -- how often a key stands among a table's candidates
 unfoldable pub timesHeld : ℕ → Table → ℕ

@@ -3,7 +3,7 @@ use mathlib.Core.Path.{_≡_}
 use Prim.Native.Nat.{ℕ, _*_, _≤_, _<_}
 use mathlib.Core.List.{List}
 use lib.IntN.{ℤ}
-use Rattle.heap_moves.specs.declared.Who.{Who}
+use Rattle.heap_moves.specs.declared.Item.{Item}
 use Rattle.heap_moves.specs.Flat.{candsOf, candOf}
 use Rattle.heap.specs.declared.Answer.{Answer}
 use Rattle.heap.specs.Offer.{Table, Offered, offer, lenBy}
@@ -20,7 +20,7 @@ abbrev pub tableOf : List ℕ → List ℤ → ℕ → Table
 tableOf es ns len = record { cands = candsOf es ns; len = len }
 
 -- what an offer of the key, its hashes and its count makes of it
-abbrev pub offered : List ℕ → List ℤ → ℕ → ℕ → Who → ℤ → Offered
+abbrev pub offered : List ℕ → List ℤ → ℕ → ℕ → Item → ℤ → Offered
 offered es ns size len w v = offer size (tableOf es ns len) (candOf w v)
 
 -- the words and counts after an offer with this answer

@@ -8,9 +8,9 @@ use lib.IntN.{ℤ}
 use Rattle.words.specs.Num.{allIn}
 use Rattle.matrix_storage.specs.Bits.{Shaped}
 use Rattle.countsketch_l2_norm.specs.Merge.{sums}
-use Rattle.heap_moves.specs.declared.Who.{Who}
+use Rattle.heap_moves.specs.declared.Item.{Item}
 use Rattle.heap_moves.specs.Cands.{mostCands}
-use Rattle.heap_moves.specs.Flat.{whoOf}
+use Rattle.heap_moves.specs.Flat.{itemOf}
 use Rattle.heap.specs.Offer.{Table}
 use Rattle.heap.specs.Slices.{tableOf}
 use Rattle.layer.specs.declared.Dims.{Dims}
@@ -19,8 +19,8 @@ use Rattle.layer.specs.Layer.{offerTo, noTable}
 use Rattle.layer.specs.Merge.{hasKey, firsts, offerAll}
 use Rattle.layer.specs.Needs.{Housed}
 
-abbrev pub whoKeys : List Who → List ℕ
-whoKeys ws = map (λ (w : Who). w .key) ws
+abbrev pub itemKeys : List Item → List ℕ
+itemKeys ws = map (λ (w : Item). w .key) ws
 
 -- the table, and the number of distinct keys
 pub record Gathered : Type 0 where
@@ -31,34 +31,34 @@ abbrev pub gatheredOf : List ℕ → List ℤ → Merged → Gathered
 gatheredOf es ns g = record { table = tableOf es ns (g .len); keys = g .keys }
 
 -- each key of a list offered once, to an empty table
-unfoldable pub mergeTable : Dims → List ℤ → List Who → Gathered
+unfoldable pub mergeTable : Dims → List ℤ → List Item → Gathered
 mergeTable d cells ws = record { table = offerAll d cells (firsts [] ws) (noTable (d .size)); keys = length (firsts [] ws) }
 
 -- one key offered
-unfoldable pub offerOne : Dims → List ℤ → Who → Gathered → Gathered
+unfoldable pub offerOne : Dims → List ℤ → Item → Gathered → Gathered
 offerOne d cells w g = record { table = offerTo d w cells (g .table) .table; keys = g .keys + 1 }
 
 -- the first entries of keys not seen offered
-unfoldable pub gather : Dims → List ℤ → List ℕ → List Who → Gathered → Gathered
+unfoldable pub gather : Dims → List ℤ → List ℕ → List Item → Gathered → Gathered
 gather d cells seen ws g = record { table = offerAll d cells (firsts seen ws) (g .table); keys = g .keys + length (firsts seen ws) }
 
 -- n entries of a slice from the i-th on
-unfoldable pub whosFrom : List ℕ → ℕ → ℕ → List Who
-whosFrom es zero i = []
-whosFrom es (suc n) i = whoOf es i ∷ whosFrom es n (suc i)
+unfoldable pub itemsFrom : List ℕ → ℕ → ℕ → List Item
+itemsFrom es zero i = []
+itemsFrom es (suc n) i = itemOf es i ∷ itemsFrom es n (suc i)
 
-abbrev pub whosOf : List ℕ → ℕ → List Who
-whosOf es n = whosFrom es n 0
+abbrev pub itemsOf : List ℕ → ℕ → List Item
+itemsOf es n = itemsFrom es n 0
 
 abbrev pub keysOf : List ℕ → ℕ → List ℕ
-keysOf es n = whoKeys (whosFrom es n 0)
+keysOf es n = itemKeys (itemsFrom es n 0)
 
 -- an entry of the source is offered if its key is not before it there, nor among the m of another slice
 unfoldable pub firstAt : Dims → List ℤ → List ℕ → ℕ → List ℕ → ℕ → Gathered → Gathered
 firstAt d cells before m source i g =
     cond (hasKey (getD source (4 * i) 0) (keysOf before m)) g
     (cond (hasKey (getD source (4 * i) 0) (keysOf source i)) g
-    (offerOne d cells (whoOf source i) g))
+    (offerOne d cells (itemOf source i) g))
 
 -- ---- what the functions need, by name
 

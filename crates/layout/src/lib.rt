@@ -4,7 +4,7 @@ mod parts;
 
 use header::Header;
 use header::Shape;
-use heap_moves::Who;
+use heap_moves::Item;
 use layer::Dims;
 pub use parts::cells_at;
 pub use parts::norms_at;
@@ -20,7 +20,7 @@ ghost use Rattle.layout.specs.State.{dimsAt};
 ghost use Rattle.layout.specs.Slices.{lengthsOk, lent};
 ghost use Rattle.layout.specs.Outcomes.{lentTests};
 ghost use Rattle.layout.specs.Spans.{extentOf, spanOf};
-ghost use Rattle.layout.specs.Records.{whoAt};
+ghost use Rattle.layout.specs.Records.{itemAt};
 
 // Counters, norm words, entry words and counts of a shape.
 pub struct Extent {
@@ -145,12 +145,12 @@ pub fn dims(shape: Shape, l: usize) -> Dims
 }
 
 // Who a record names, with the hash of a layer.
-pub fn who_in(words: &[u64], l: usize) -> Who
+pub fn item_in(words: &[u64], l: usize) -> Item
     requires { ⌜ (l < maxLayers) × (4 + 2 * l ≤ length (now words)) ⌝ }
-    ensures { λ r. ⌜ r ≡ whoAt (now (words .entry)) l ⌝ }
+    ensures { λ r. ⌜ r ≡ itemAt (now (words .entry)) l ⌝ }
 {
     let at = 2 + 2 * l;
-    Who {
+    Item {
         key: words[0],
         bottom: words[1],
         high: words[at],

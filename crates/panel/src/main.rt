@@ -6,7 +6,7 @@ use panel_lines::split::take_line;
 use panel_step::LONGEST;
 use panel_step::MAX_CANDIDATES;
 use panel_step::MAX_COUNTERS;
-use panel_step::Told;
+use panel_step::LineAnswered;
 use panel_step::answer_line;
 ghost use mathlib.Core.Path.{_≡_};
 ghost use Prim.Native.Nat.{ℕ, min, _+_, _≤_};
@@ -23,7 +23,7 @@ const ANSWERS: usize = 16384;
 
 // What is known after a part of a chunk: the header, the bytes held of the line that goes on, the bytes of the answers, and how
 // much of the chunk was taken.
-struct Taken {
+struct ChunkAnswered {
     header: Header,
     held: usize,
     len: usize,
@@ -47,7 +47,7 @@ fn reply(
     counts: &mut [i64],
     out: &mut [u8],
     at: usize,
-) -> Told
+) -> LineAnswered
     requires { ⌜ k ≤ length (now line) ⌝ }
     requires { ⌜ at + longest ≤ length (now out) ⌝ }
     ensures { λ r. ⌜ found (lent (r .header) (now (counters .exit)) (now (norms .exit)) (now (entries .exit)) (now (counts .exit))) (r .len) (now (out .exit))
@@ -64,7 +64,7 @@ fn reply(
         &mut out[at..],
     );
     let next = t.header;
-    Told {
+    LineAnswered {
         header: next,
         len: at + t.len,
     }
@@ -82,7 +82,7 @@ fn take_chunk(
     entries: &mut [u64],
     counts: &mut [i64],
     out: &mut [u8],
-) -> Taken
+) -> ChunkAnswered
     requires { ⌜ held ≤ mostHeld ⌝ }
     requires { ⌜ mostHeld ≤ length (now line) ⌝ }
     requires { ⌜ longest ≤ length (now out) ⌝ }
@@ -113,7 +113,7 @@ fn take_chunk(
             n = k;
         }
     }
-    Taken {
+    ChunkAnswered {
         header: head,
         held: n,
         len,

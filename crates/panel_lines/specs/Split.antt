@@ -32,8 +32,8 @@ lines bs = endedLines [] bs ++ someLast (lastLine [] bs)
 abbrev pub mostHeld : ℕ
 mostHeld = longestLine + 1
 
-abbrev pub held : List ℕ → List ℕ
-held l = take mostHeld l
+abbrev pub heldOf : List ℕ → List ℕ
+heldOf l = take mostHeld l
 
 -- one more byte
 unfoldable pub push : List ℕ → ℕ → List ℕ

@@ -32,10 +32,10 @@ use Rattle.panel_lines.specs.Line.{readOf}
 use Rattle.panel_lines.specs.Answers.{refusedText}
 use Rattle.panel_lines.specs.Split.{lines, wholeOf}
 use Rattle.layout.specs.Spans.{extentOf}
-use Rattle.panel_step.specs.Panel.{inUse, putBack, panelRefusal, paperRefusal, refusalIn, shapeCall, started, backBy, addCall, panelText, showLine, Answer, answerTo, answerLine, answersOf, runOf}
+use Rattle.panel_step.specs.Panel.{inUse, putBack, panelRefusal, paperRefusal, refusalIn, shapeCall, started, backBy, addCall, panelText, showLine, Reply, answerTo, answerLine, answersOf, runOf}
 use Rattle.panel_step.proofs.Rooms.{fit-of, own-refusal}
 use Rattle.panel_step.proofs.Runs.{run-whole}
-use Rattle.panel_stream.specs.PanelStream.{Log, shapeBy, blank, addNumber, logShaped, logAdded, logAfter, logOf, relayIn, Shown, Told, Theorem, Own, Corollary}
+use Rattle.panel_stream.specs.PanelStream.{Log, shapeBy, blank, addNumber, logShaped, logAdded, logAfter, logOf, relayIn, Shown, NextLine, Theorem, Own, Corollary}
 use Rattle.panel_stream.proofs.Backs.{Just, just, back-in, back-room}
 use Rattle.panel_stream.proofs.Adds.{Standards, not-six}
 use Rattle.panel_stream.proofs.Shows.{panel-is, panel-keys, panel-flags}
@@ -84,9 +84,9 @@ module _ (f : Shape → ℕ) (r : Lent) (g : Log) (k : Kept f r g) (sh : Shape) 
   abbrev shaped : ℕ → Left
   shaped n = cond (eqb n 0) (left 0 (putBack (extentOf sh) r (freshLent sh))) (left n r)
 
-  shape-told : shapeCall r sh .refusal ≡ f sh
+  next-shape : shapeCall r sh .refusal ≡ f sh
   unfolding shapeCall
-  shape-told = go (refusalIn r sh) ∙ k .room sh
+  next-shape = go (refusalIn r sh) ∙ k .room sh
     where
       go : (n : ℕ) → shaped n .refusal ≡ n
       go n = two (eqb n 0) refl
@@ -123,9 +123,9 @@ module _ (f : Shape → ℕ) (r : Lent) (g : Log) (k : Kept f r g) (words : List
   answers : g .started ≡ true → Answers (updateCall kind.Standard (inUse r) words w) (feedNumber (g .shape) (g .book) kind.Standard words w)
   answers e = let x : Fed r g = k .fed e in feed-answers (g .shape) (x .good) (g .book) (inUse r) (x .by) kind.Standard words w
 
-  add-told : addCall r words w .refusal ≡ addNumber g words w
+  next-add : addCall r words w .refusal ≡ addNumber g words w
   unfolding addCall addNumber
-  add-told = go (g .started) refl (k .begun)
+  next-add = go (g .started) refl (k .begun)
     where
       two : (o : Outcome) → Answers o number → leftBy r (backBy r o) .refusal ≡ number
       two (Outcome.no n) p = p .0
@@ -210,8 +210,8 @@ module _ (f : Shape → ℕ) (r : Lent) (g : Log) (k : Kept f r g) where
       x : Fed r g
       x = k .fed e
 
-  told : Told f r g
-  told = record { shape = shape-told f r g k; add = add-told f r g k; alike = add-alike f r g k; early = early; show = shown }
+  next-line : NextLine f r g
+  next-line = record { shape = next-shape f r g k; add = next-add f r g k; alike = add-alike f r g k; early = early; show = shown }
 
 -- ---- the theorem
 
@@ -220,7 +220,7 @@ unfolding panelRefusal shapeRefusal
 not-yet r e = record { room = λ sh. refl; begun = ap (λ (h : Header). eqb (refusalIn r (h .shape)) 0) e; fed = λ z. absurd (never z) }
 
 pub panel-stream : Theorem
-panel-stream r e ls = told (refusalIn r) (answersOf r ls .lends) (logOf (refusalIn r) blank ls) (lines-kept (refusalIn r) ls r blank (not-yet r e))
+panel-stream r e ls = next-line (refusalIn r) (answersOf r ls .lends) (logOf (refusalIn r) blank ls) (lines-kept (refusalIn r) ls r blank (not-yet r e))
 
 -- the program's own slices add nothing to the paper's words
 own-is : (r : Lent) → Own r → refusalIn r ≡ paperRefusal
@@ -228,5 +228,5 @@ own-is r o = λ i sh. ((λ j. panelRefusal sh (o .counters j) (o .norms j) (o .e
 
 pub of-any-input : Corollary
 of-any-input r o cs =
-    subst (λ (f : Shape → ℕ). Told f (runOf r [] cs .lends) (logOf f blank (lines (wholeOf cs)))) (own-is r o)
-    (subst (λ (a : Answer). Told (refusalIn r) (a .lends) (logOf (refusalIn r) blank (lines (wholeOf cs)))) (sym (run-whole r cs)) (panel-stream r (o .head) (lines (wholeOf cs))))
+    subst (λ (f : Shape → ℕ). NextLine f (runOf r [] cs .lends) (logOf f blank (lines (wholeOf cs)))) (own-is r o)
+    (subst (λ (a : Reply). NextLine (refusalIn r) (a .lends) (logOf (refusalIn r) blank (lines (wholeOf cs)))) (sym (run-whole r cs)) (panel-stream r (o .head) (lines (wholeOf cs))))

@@ -19,13 +19,13 @@ use Rattle.header.proofs.Refusals.{accepted-of}
 use Rattle.layout.specs.State.{State, rowsAt, colsAt, dimsAt, layerAt}
 use Rattle.layout.specs.Slices.{Lent, normsIn, view}
 use Rattle.estimates.specs.Norms.{l2OfState}
-use Rattle.estimates.specs.Sums.{layerReads, whosRead}
+use Rattle.estimates.specs.Sums.{layerReads, itemsRead}
 use Rattle.estimates.specs.declared.Answer.{Answer}
 use Rattle.estimates.specs.declared.PanelAnswer.{PanelAnswer}
 use Rattle.estimates.specs.Calls.{answer, normState, l2Reads, l1Call, l2Call, cardinalityCall, panelCall}
 use Rattle.layer.specs.declared.Dims.{Dims}
 use Rattle.layer.specs.Layer.{Layer, countsRead}
-use Rattle.layer.specs.Merge.{whos}
+use Rattle.layer.specs.Merge.{items}
 use Rattle.shared_streams.specs.Books.{Book, bookKeys, normBy, flagBy, weightOf, distinct, OneRecord, sent}
 use Rattle.shared_streams.specs.SharedStreams.{Claimed}
 use Rattle.shared_streams.proofs.BookLaws.{sent-weights}
@@ -73,7 +73,7 @@ module _ (s : State) (b : Book) (v : shapeRefusal (s .head .shape) ≡ 0) (r : R
   norms-of =
       let d : Dims = dimsAt (s .head .shape) 0 in
       let y : Layer = layerAt s 0 in
-      and-right (countsRead (y .table) && whosRead d (y .sketch .cells) (whos (y .table))) (norm.normsInRange (d .cols) (y .sketch .norms))
+      and-right (countsRead (y .table) && itemsRead d (y .sketch .cells) (items (y .table))) (norm.normsInRange (d .cols) (y .sketch .norms))
       (sum-reads d (wide (s .head .shape) a 0) (a .seats) true (sent (s .head .shape .layers) 0 b) y (omega (arith, sent-weights (s .head .shape .layers) 0 b, r .light)) (r .layers 0 (a .some)))
 
   -- and the book's

@@ -28,7 +28,7 @@ use Rattle.layout.specs.Needs.{Headed}
 use Rattle.sums.specs.Terminal.{terminalSum, heavy}
 use Rattle.sums.specs.Layers.{standardSum}
 use Rattle.sums.specs.declared.G.the-variants as g
-use Rattle.estimates.specs.Sums.{strataOf, sumBy, headerAlone, gSumOf, cardinalityOf, sumReads}
+use Rattle.estimates.specs.Sums.{terminalInput, sumBy, headerAlone, gSumOf, cardinalityOf, sumReads}
 use Rattle.estimates.specs.declared.Answer.{Answer}
 use Rattle.estimates.specs.Calls.{answer, sumTests, sumCall, cardinalityCall}
 use Rattle.shared_streams.specs.Books.{Book, bookKeys, keysSent, times, distinct, OneRecord, Reordered, Holds, bookMode}
@@ -102,7 +102,7 @@ counts sh w b s r one few = rw (and-false (eqb (s .head .totals .weight) 0)) (go
     go : (m : Mode) → s .head .mode ≡ m → sumBy m g.One true s ≡ ofInt binary64 (pos (distinct (bookKeys b)))
     go mode.Unset e = own (kinds kind.Standard mode.Unset e kind-unset)
     go mode.Standard e = own (kinds kind.Standard mode.Standard e (λ k. same-kind k kind.Standard))
-    go mode.Terminal e = terminal-counts sh v h b s r (kinds kind.Terminal mode.Terminal e (λ k. same-kind k kind.Terminal)) c few (heavy (strataOf s)) (s .head .shape .layers - 1) last
+    go mode.Terminal e = terminal-counts sh v h b s r (kinds kind.Terminal mode.Terminal e (λ k. same-kind k kind.Terminal)) c few (heavy (terminalInput s)) (s .head .shape .layers - 1) last
 
 -- the call: nothing refuses it
 card-call : (sh : Shape) → shapeRefusal sh ≡ 0 → (b : Book) (r : Lent) → LentBy sh b r → cardinalityCall r ≡ answer 0 (cardinalityOf (view r))

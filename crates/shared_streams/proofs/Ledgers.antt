@@ -15,7 +15,7 @@ use Rattle.shared_streams.specs.Books.{Update, Book}
 use Rattle.shared_streams.specs.Feeds.{freshRelay, start, relayAt, feed, join, retirements, joinable, names, fed, joinedTo, called, ifAccepted}
 use Rattle.shared_streams.specs.Feeds as feeds
 use Rattle.shared_streams.specs.Relays.{Feed, updating, Relay, Call, step, run, accepted}
-use Rattle.shared_streams.specs.Ledger.{answeredWith, joinNumber, Answers, Account, opened, accountOf, accountAt, entered, united, booked, gone, bookStep, ledger, books, acceptedOne, acceptedAll}
+use Rattle.shared_streams.specs.Ledger.{answeredWith, joinNumber, Answers, Account, opened, accountOf, accountAt, withEntry, united, booked, gone, bookStep, ledger, books, acceptedOne, acceptedAll}
 use Rattle.shared_streams.proofs.FeedRuns.{live-lt, pair, step-good, start-good}
 use Rattle.shared_streams.proofs.Runs.{kept-by, Every}
 use Rattle.shared_streams.proofs.Calls.{LentBy}
@@ -50,7 +50,7 @@ module _ (sh : Shape) (v : shapeRefusal sh ≡ 0) where
   account-at : (rs : List Relay) (i : ℕ) → accountAt (map accountOf rs) i ≡ accountOf (relayAt sh rs i)
   account-at rs i = List·getD-map accountOf rs i (freshRelay sh)
 
-  fed-account : (r : Relay) (e : Update) (o : Outcome) (n : ℕ) → Answers o n → accountOf (fed r e o) ≡ entered n (accountOf r) e
+  fed-account : (r : Relay) (e : Update) (o : Outcome) (n : ℕ) → Answers o n → accountOf (fed r e o) ≡ withEntry n (accountOf r) e
   fed-account r e (Outcome.no m) n p = rw (ne-eqb n 0 (p .1)) refl
   fed-account r e (Outcome.yes t) n p = rw (eq-eqb n 0 p) refl
 
@@ -84,7 +84,7 @@ module _ (sh : Shape) (v : shapeRefusal sh ≡ 0) where
       let e : Update = updating .enter f in
       let n : ℕ = answeredWith sh (accountAt (map accountOf rs) i .book) f in
       map-set accountOf rs i (fed r e (updating .act f (r .lends)))
-      ∙ ap (λ (a : Account). set (map accountOf rs) i a) (fed-account r e (updating .act f (r .lends)) n (feeds-by rs h i f q) ∙ ap (λ (a : Account). entered n a e) (sym (account-at rs i)))
+      ∙ ap (λ (a : Account). set (map accountOf rs) i a) (fed-account r e (updating .act f (r .lends)) n (feeds-by rs h i f q) ∙ ap (λ (a : Account). withEntry n a e) (sym (account-at rs i)))
   called-accounts rs h (join i j) q =
       let n : ℕ = joinNumber (accountAt (map accountOf rs) i .book) (accountAt (map accountOf rs) j .book) in
       joined-accounts rs i j (relayAt sh rs i) (relayAt sh rs j) (mergeCall (relayAt sh rs i .lends) (relayAt sh rs j .lends)) n (joins rs h i j q)

@@ -71,8 +71,8 @@ abbrev pub accountAt : List Account → ℕ → Account
 accountAt xs i = getD xs i opened
 
 -- "An accepted update adds its kind, record and weight." and "A refused call changes no book.": n is what the call is answered with
-abbrev pub entered : ℕ → Account → Update → Account
-entered n a e = cond (eqb n 0) (record { book = a .book ++ (e ∷ []); retired = a .retired }) a
+abbrev pub withEntry : ℕ → Account → Update → Account
+withEntry n a e = cond (eqb n 0) (record { book = a .book ++ (e ∷ []); retired = a .retired }) a
 
 -- "An accepted merge puts the second's book behind the first's." and "retires the second"
 abbrev pub united : ℕ → List Account → ℕ → ℕ → Account → Account → List Account
@@ -80,7 +80,7 @@ united n xs i j a b =
     cond (eqb n 0) (set (set xs j (record { book = b .book; retired = true })) i (record { book = a .book ++ b .book; retired = a .retired })) xs
 
 unfoldable pub booked : Shape → List Account → Call → List Account
-booked sh xs (feed i f) = set xs i (entered (answeredWith sh (accountAt xs i .book) f) (accountAt xs i) (updating .enter f))
+booked sh xs (feed i f) = set xs i (withEntry (answeredWith sh (accountAt xs i .book) f) (accountAt xs i) (updating .enter f))
 booked sh xs (join i j) = united (joinNumber (accountAt xs i .book) (accountAt xs j .book)) xs i j (accountAt xs i) (accountAt xs j)
 
 -- who is retired

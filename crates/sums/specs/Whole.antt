@@ -25,6 +25,6 @@ onward l [] = []
 onward l (e ∷ es) = cond (bitOff l e) (onward l es) (e ∷ onward l es)
 
 -- how often a key stands in a list
-unfoldable pub times : ℕ → List Entry → ℕ
-times k [] = 0
-times k (e ∷ es) = cond (eqb (e .key) k) (suc (times k es)) (times k es)
+unfoldable pub entryTimes : ℕ → List Entry → ℕ
+entryTimes k [] = 0
+entryTimes k (e ∷ es) = cond (eqb (e .key) k) (suc (entryTimes k es)) (entryTimes k es)

@@ -10,11 +10,11 @@ use Rattle.words.specs.Num.{top}
 use Rattle.header.specs.declared.Shape.{Shape}
 use Rattle.header.specs.declared.Header.{Header}
 use Rattle.header.specs.Header.{headerOk}
-use Rattle.layer.specs.Layer.{Layer, addLayer, addReads, addFits, item}
+use Rattle.layer.specs.Layer.{Layer, addLayer, addReads, addFits, layerUpdate}
 use Rattle.univmon.specs.declared.Kind.{Kind}
 use Rattle.layout.specs.State.{State, dimsAt, layerAt, allLayers, overLayers}
 use Rattle.layout.specs.Slices.{Lent, lengthsOk, view, flat}
-use Rattle.layout.specs.Records.{recordLength, whoAt}
+use Rattle.layout.specs.Records.{recordLength, itemAt}
 use Rattle.layout.specs.Needs.{Standing, Headed}
 use Rattle.layout.specs.Outcomes.{Left, leftBy, judge}
 use Rattle.univmon.specs.Updates.{firstSent, manySent, bottomBy, sentTests}
@@ -27,18 +27,18 @@ pub record SendReady (r : Lent) (words : List ℕ) (w l : ℕ) : Type 0 where
   pub recorded : length words ≡ recordLength (r .head .shape .layers)
   pub light : w ≤ top
   pub inside : l < r .head .shape .layers
-  pub read : addReads (dimsAt (r .head .shape) l) (item (whoAt words l) w) (layerAt (view r) l) ≡ true
-  pub fit : addFits (dimsAt (r .head .shape) l) (item (whoAt words l) w) (layerAt (view r) l) ≡ true
+  pub read : addReads (dimsAt (r .head .shape) l) (layerUpdate (itemAt words l) w) (layerAt (view r) l) ≡ true
+  pub fit : addFits (dimsAt (r .head .shape) l) (layerUpdate (itemAt words l) w) (layerAt (view r) l) ≡ true
 
 -- the tests and the step of an update at each layer, by a shape
 abbrev pub readsAt : Shape → List ℕ → ℕ → ℕ → Layer → Bool
-readsAt sh words w l y = addReads (dimsAt sh l) (item (whoAt words l) w) y
+readsAt sh words w l y = addReads (dimsAt sh l) (layerUpdate (itemAt words l) w) y
 
 abbrev pub fitsAt : Shape → List ℕ → ℕ → ℕ → Layer → Bool
-fitsAt sh words w l y = addFits (dimsAt sh l) (item (whoAt words l) w) y
+fitsAt sh words w l y = addFits (dimsAt sh l) (layerUpdate (itemAt words l) w) y
 
 abbrev pub addsAt : Shape → List ℕ → ℕ → ℕ → Layer → Layer
-addsAt sh words w l y = addLayer (dimsAt sh l) (item (whoAt words l) w) y
+addsAt sh words w l y = addLayer (dimsAt sh l) (layerUpdate (itemAt words l) w) y
 
 -- what the update of many layers from the first on needs
 pub record SendsReady (r : Lent) (words : List ℕ) (w many first : ℕ) : Type 0 where

@@ -8,17 +8,17 @@ use Rattle.header.specs.declared.Mode.the-variants as mode
 use Rattle.header.specs.Shape.{bottomOf}
 use Rattle.header.specs.Totals.{updateTotals}
 use Rattle.header.specs.Header.{scalarsOf, begun, beginTests}
-use Rattle.layer.specs.Layer.{Layer, Item, addLayer, addReads, addFits}
+use Rattle.layer.specs.Layer.{Layer, LayerUpdate, addLayer, addReads, addFits}
 use Rattle.univmon.specs.declared.Kind.{Kind}
 use Rattle.univmon.specs.declared.Kind.the-variants as kind
 use Rattle.layout.specs.State.{State, shapeOf, dimsAt, overLayers, allLayers, withHead}
 use Rattle.layout.specs.Slices.{Lent, view}
-use Rattle.layout.specs.Records.{bottomWord, whoAt}
+use Rattle.layout.specs.Records.{bottomWord, itemAt}
 use Rattle.layout.specs.Outcomes.{recordTests}
 
 -- the update as layer l sees it
-abbrev pub itemAt : List ℕ → ℤ → ℕ → Item
-itemAt words w l = record { who = whoAt words l; weight = natAbs w }
+abbrev pub layerUpdateAt : List ℕ → ℤ → ℕ → LayerUpdate
+layerUpdateAt words w l = record { item = itemAt words l; weight = natAbs w }
 
 abbrev pub modeOf : Kind → Mode
 modeOf kind.Standard = mode.Standard
@@ -43,14 +43,14 @@ sentAll k p s words = allLayers p (manySent k (bottomBy s words)) (firstSent k (
 
 unfoldable pub updated : Kind → State → List ℕ → ℤ → State
 updated k s words w =
-    overLayers (λ l y. addLayer (dimsAt (shapeOf s) l) (itemAt words w l) y) (manySent k (bottomBy s words)) (firstSent k (bottomBy s words))
+    overLayers (λ l y. addLayer (dimsAt (shapeOf s) l) (layerUpdateAt words w l) y) (manySent k (bottomBy s words)) (firstSent k (bottomBy s words))
     (withHead s (begun (s .head) (updateTotals (natAbs w)) (modeOf k)))
 
 -- what is read of the touched layers, and what is added there: 9, 11
 abbrev pub sentTests : Kind → State → List ℕ → ℤ → List (Bool × ℕ)
 sentTests k s words w =
-    (not (sentAll k (λ l y. addReads (dimsAt (shapeOf s) l) (itemAt words w l) y) s words), 9)
-    ∷ (not (sentAll k (λ l y. addFits (dimsAt (shapeOf s) l) (itemAt words w l) y) s words), 11)
+    (not (sentAll k (λ l y. addReads (dimsAt (shapeOf s) l) (layerUpdateAt words w l) y) s words), 9)
+    ∷ (not (sentAll k (λ l y. addFits (dimsAt (shapeOf s) l) (layerUpdateAt words w l) y) s words), 11)
     ∷ []
 
 -- "Other calls: 9 for lengths and headers, 12, 10, 5, 8, 6, 7, 9 for what is read, 11.": here 9, 12; 5, 6, 7; 9, 11

@@ -5,7 +5,7 @@ use layout::cells_at;
 use layout::dims;
 use layout::norms_at;
 use layout::seats_at;
-use layout::who_in;
+use layout::item_in;
 ghost use mathlib.Core.Path.{_≡_};
 ghost use mathlib.Core.Bool.{Bool, true};
 ghost use Prim.Native.Nat.{ℕ, _+_, _<_};
@@ -33,7 +33,7 @@ fn ready_at(
 {
     let shape = h.shape;
     let d = dims(shape, l);
-    let who = who_in(words, l);
+    let item = item_in(words, l);
     let len = lens[l];
     layer::add_ready(
         cells_at(shape, l, counters),
@@ -41,7 +41,7 @@ fn ready_at(
         seats_at(shape, l, counts),
         d,
         len,
-        who,
+        item,
         weight,
     )
 }
@@ -63,7 +63,7 @@ fn reads_at(
 {
     let shape = h.shape;
     let d = dims(shape, l);
-    let who = who_in(words, l);
+    let item = item_in(words, l);
     let len = lens[l];
     layer::add_reads(
         cells_at(shape, l, counters),
@@ -71,7 +71,7 @@ fn reads_at(
         seats_at(shape, l, counts),
         d,
         len,
-        who,
+        item,
     )
 }
 

@@ -3,15 +3,15 @@
 use header::Scalars;
 use layout::dims;
 use layout::span_of;
-use layout::who_in;
+use layout::item_in;
 ghost use mathlib.Core.Path.{_≡_};
 ghost use mathlib.Core.Bool.{Bool};
 ghost use Prim.Native.Nat.{ℕ, _+_};
-ghost use Rattle.layer.specs.Layer.{item, addLayer};
+ghost use Rattle.layer.specs.Layer.{layerUpdate, addLayer};
 ghost use Rattle.header.specs.Header.{headOf};
 ghost use Rattle.layout.specs.State.{dimsAt, layerAt, putLayer, overLayers};
 ghost use Rattle.layout.specs.Slices.{lent, view};
-ghost use Rattle.layout.specs.Records.{whoAt};
+ghost use Rattle.layout.specs.Records.{itemAt};
 ghost use Rattle.layout.specs.Needs.{Standing};
 ghost use Rattle.univmon.specs.Needs.{SendReady, SendsReady, addsAt};
 
@@ -31,13 +31,13 @@ fn send_one(
     requires { ⌜ SendReady (lent (headOf h (now flags) (now lens)) (now counters) (now norms) (now entries) (now counts)) (now words) weight l ⌝ }
     ensures { λ r. ⌜ view (lent (headOf h (now (flags .exit)) (now (lens .exit))) (now (counters .exit)) (now (norms .exit)) (now (entries .exit)) (now (counts .exit)))
         ≡ putLayer (view (lent (headOf h (now (flags .entry)) (now (lens .entry))) (now (counters .entry)) (now (norms .entry)) (now (entries .entry)) (now (counts .entry)))) l
-        (addLayer (dimsAt (h .shape) l) (item (whoAt (now (words .entry)) l) weight) (layerAt (view (lent (headOf h (now (flags .entry)) (now (lens .entry))) (now (counters .entry)) (now (norms .entry)) (now (entries .entry)) (now (counts .entry)))) l)) ⌝ }
+        (addLayer (dimsAt (h .shape) l) (layerUpdate (itemAt (now (words .entry)) l) weight) (layerAt (view (lent (headOf h (now (flags .entry)) (now (lens .entry))) (now (counters .entry)) (now (norms .entry)) (now (entries .entry)) (now (counts .entry)))) l)) ⌝ }
     ensures { λ r. ⌜ Standing (lent (headOf h (now (flags .exit)) (now (lens .exit))) (now (counters .exit)) (now (norms .exit)) (now (entries .exit)) (now (counts .exit))) ⌝ }
 {
     let shape = h.shape;
     let s = span_of(shape, l);
     let d = dims(shape, l);
-    let who = who_in(words, l);
+    let item = item_in(words, l);
     let len = lens[l];
     let ca = s.cells;
     let ce = s.cells_end;
@@ -54,7 +54,7 @@ fn send_one(
         &mut counts[ta..te],
         d,
         len,
-        who,
+        item,
         weight,
     );
     lens[l] = heap::len_after(len, answer);

@@ -9,7 +9,7 @@ use Rattle.layer.specs.Delta.{delta, deltaReads, deltaFits}
 use Rattle.univmon_delta.specs.declared.Fidelity.{Fidelity}
 use Rattle.layout.specs.State.{dimsAt, layerAt}
 use Rattle.layout.specs.Slices.{Lent, view}
-use Rattle.layout.specs.Records.{recordLength, whoAt}
+use Rattle.layout.specs.Records.{recordLength, itemAt}
 use Rattle.univmon_delta.specs.Deltas.{Arrival}
 use Rattle.layout.specs.Needs.{Standing}
 
@@ -27,5 +27,5 @@ pub record Placed (r : Lent) (words : List ℕ) (l row col : ℕ) : Type 0 where
 -- what the delta on one layer needs
 pub record Arrives (r : Lent) (words : List ℕ) (l row col : ℕ) (n : ℤ) : Type 0 where
   pub placed : Placed r words l row col
-  pub read : deltaReads (dimsAt (r .head .shape) l) (delta row col n (whoAt words l) true) (layerAt (view r) l) ≡ true
-  pub fit : deltaFits (dimsAt (r .head .shape) l) (delta row col n (whoAt words l) true) (layerAt (view r) l) ≡ true
+  pub read : deltaReads (dimsAt (r .head .shape) l) (delta row col n (itemAt words l) true) (layerAt (view r) l) ≡ true
+  pub fit : deltaFits (dimsAt (r .head .shape) l) (delta row col n (itemAt words l) true) (layerAt (view r) l) ≡ true

@@ -10,7 +10,7 @@ use layout::lent_refusal;
 use layout::norms_at;
 use layout::seats_at;
 use layout::span_of;
-use layout::who_in;
+use layout::item_in;
 ghost use mathlib.Core.Path.{_≡_};
 ghost use mathlib.Core.Bool.{Bool, true, _&&_};
 ghost use Prim.Native.Nat.{ℕ, _<_};
@@ -20,7 +20,7 @@ ghost use Rattle.layer.specs.Delta.{delta, deltaLayer};
 ghost use Rattle.univmon_delta.specs.declared.Fidelity.{Fidelity};
 ghost use Rattle.layout.specs.State.{dimsAt, layerAt, putLayer};
 ghost use Rattle.layout.specs.Slices.{lent, view};
-ghost use Rattle.layout.specs.Records.{whoAt};
+ghost use Rattle.layout.specs.Records.{itemAt};
 ghost use Rattle.univmon_delta.specs.Deltas.{everyInsert, deltaTestsAt, deltaTests, deltaCall};
 ghost use Rattle.layout.specs.Outcomes.{left, leftBy};
 ghost use Rattle.layout.specs.Needs.{Standing};
@@ -67,12 +67,12 @@ fn judge_delta(
     count: i64,
 ) -> u64
     requires { ⌜ Placed (lent h (now counters) (now norms) (now entries) (now counts)) (now words) l row col ⌝ }
-    ensures { λ r. ⌜ ((every : Bool) → r ≡ number (deltaTestsAt (dimsAt (h .shape) l) (delta row col count (whoAt (now (words .entry)) l) every)
+    ensures { λ r. ⌜ ((every : Bool) → r ≡ number (deltaTestsAt (dimsAt (h .shape) l) (delta row col count (itemAt (now (words .entry)) l) every)
         (layerAt (view (lent h (now (counters .entry)) (now (norms .entry)) (now (entries .entry)) (now (counts .entry)))) l))) ⌝ }
 {
     let shape = h.shape;
     let d = dims(shape, l);
-    let who = who_in(words, l);
+    let item = item_in(words, l);
     let lens = h.lens;
     let len = lens[l];
     let cells = cells_at(shape, l, counters);
@@ -84,7 +84,7 @@ fn judge_delta(
         len,
         row,
         col,
-        who,
+        item,
     ) {
         return 9;
     }
@@ -111,14 +111,14 @@ fn deliver(
     requires { ⌜ Arrives (lent h (now counters) (now norms) (now entries) (now counts)) (now words) l row col count ⌝ }
     ensures { λ r. ⌜ view (lent r (now (counters .exit)) (now (norms .exit)) (now (entries .exit)) (now (counts .exit)))
         ≡ putLayer (view (lent h (now (counters .entry)) (now (norms .entry)) (now (entries .entry)) (now (counts .entry)))) l
-        (deltaLayer (dimsAt (h .shape) l) (delta row col count (whoAt (now (words .entry)) l) every)
+        (deltaLayer (dimsAt (h .shape) l) (delta row col count (itemAt (now (words .entry)) l) every)
         (layerAt (view (lent h (now (counters .entry)) (now (norms .entry)) (now (entries .entry)) (now (counts .entry)))) l)) ⌝ }
     ensures { λ r. ⌜ Standing (lent r (now (counters .exit)) (now (norms .exit)) (now (entries .exit)) (now (counts .exit))) ⌝ }
 {
     let shape = h.shape;
     let s = span_of(shape, l);
     let d = dims(shape, l);
-    let who = who_in(words, l);
+    let item = item_in(words, l);
     let lens = h.lens;
     let len = lens[l];
     let ca = s.cells;
@@ -139,7 +139,7 @@ fn deliver(
         row,
         col,
         count,
-        who,
+        item,
     );
     h.touched(l, heap::len_after(len, answer), kept_all(answer, every))
 }

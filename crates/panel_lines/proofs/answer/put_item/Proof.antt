@@ -6,8 +6,8 @@ use borrow.Author.Needs.{needs}
 use denote.Ref.{now}
 use Rattle.text.specs.Hex.{hexDigits}
 use Rattle.text.proofs.Puts.{sets-append}
-use Rattle.panel_lines.proofs.answer.put_item.Statement.{statement}
-use Rattle.panel_lines.proofs.answer.put_item.Tie as tie
+use Rattle.panel_lines.proofs.answer.put_field.Statement.{statement}
+use Rattle.panel_lines.proofs.answer.put_field.Tie as tie
 
 put-word-requires : tie.Need-put-word-requires
 put-word-requires c κs = search needs

@@ -11,10 +11,10 @@ use Rattle.header.specs.Header.{headOf, withLayer}
 use Rattle.layout.specs.Slices.{lent, view, Lent}
 use Rattle.layout.specs.Outcomes.{left}
 use Rattle.header.proofs.Steps.{touched-kept, touched-lost}
-use Rattle.layer.specs.Layer.{Layer, layerOf, item, addLayer}
+use Rattle.layer.specs.Layer.{Layer, layerOf, layerUpdate, addLayer}
 use Rattle.layer.proofs.Steps.{add-few}
 use Rattle.layout.specs.State.{dimsAt, layerAt}
-use Rattle.layout.specs.Records.{whoAt}
+use Rattle.layout.specs.Records.{itemAt}
 use Rattle.heap.specs.Offer.{keptBy, lenBy}
 use Rattle.layout.proofs.Handed.{Spanned, cell-piece, norm-piece, word-piece, seat-piece, handed-is, Back, back-view, back-standing}
 use Rattle.univmon.proofs.Sends.{send-ready}
@@ -34,8 +34,8 @@ span-of-requires c κs = (c .before .before .before .before .before .before .pre
 dims-requires : tie.Need-dims-requires
 dims-requires c κs = search needs
 
-who-in-requires : tie.Need-who-in-requires
-who-in-requires c κs = let p = c .before .before .before .before .before .before .before .before .pre in (omega (arith, p .inside, p .standing .accepted .few), omega (arith, p .inside, p .recorded))
+item-in-requires : tie.Need-item-in-requires
+item-in-requires c κs = let p = c .before .before .before .before .before .before .before .before .pre in (omega (arith, p .inside, p .standing .accepted .few), omega (arith, p .inside, p .recorded))
 
 mul-len : tie.Need-mul-len
 mul-len c = let p = c .before .before .before .before .before .before .before .before .before .pre in let q = p .standing .accepted .few in let i = p .inside in let hl = p .headed .lens in let hf = p .headed .flags in search needs
@@ -92,7 +92,7 @@ part-add-end-4 : tie.Need-part-add-end-4
 part-add-end-4 c = let b = seat-piece (spanned (c .before .before .before .before .before .before)) in search needs
 
 add-requires : tie.Need-add-requires
-add-requires c κs = rw (c .before .before .before .before .before .before .dims .ensures, c .before .before .before .before .before .who-in .ensures) (send-ready (c .before .before .before .before .before .before .before .before .before .before .before .before .before .before .pre) (spanned (c .before .before .before .before .before .before .before)))
+add-requires c κs = rw (c .before .before .before .before .before .before .dims .ensures, c .before .before .before .before .before .item-in .ensures) (send-ready (c .before .before .before .before .before .before .before .before .before .before .before .before .before .before .pre) (spanned (c .before .before .before .before .before .before .before)))
 
 len-after-requires : tie.Need-len-after-requires
 len-after-requires c κs = let z = c .before .before .before .before .before .before .before .before .before .before .before .before .before .before .before .before .before .before .before .before .before .pre .standing in omega (arith, z .lens (c .before .before .before .before .before .before .before .before .before .before .before .before .before .before .before .before .before .before .before .before .before .args .l) (c .before .before .before .before .before .before .before .before .before .before .before .before .before .before .before .before .before .before .before .before .before .pre .inside), z .accepted .small)
@@ -128,11 +128,11 @@ back c = record { cells = c .before .before .before .before .before .counters .g
 -- the layer as it came back
 layer-now : (c : tie.After-add) → let a = c .before .before .before .before .before .before .before .before .before .before .before .before .before .before .before .args in let l = c .add .last in let f = getD (now (a .flags)) (a .l) false in
     layerOf (dimsAt (a .h .shape) (a .l)) (l .0) (l .1 .0) (l .1 .1 .0) (l .1 .1 .1 .0) (lenBy (c .add .result) (getD (now (a .lens)) (a .l) 0)) (f && keptBy (c .add .result))
-    ≡ addLayer (dimsAt (a .h .shape) (a .l)) (item (whoAt (now (a .words)) (a .l)) (a .weight)) (layerAt (view (lent-of (c .before .before .before .before .before .before .before .before .before .before .before .before .before .before .before))) (a .l))
+    ≡ addLayer (dimsAt (a .h .shape) (a .l)) (layerUpdate (itemAt (now (a .words)) (a .l)) (a .weight)) (layerAt (view (lent-of (c .before .before .before .before .before .before .before .before .before .before .before .before .before .before .before))) (a .l))
 layer-now c =
     let a = c .before .before .before .before .before .before .before .before .before .before .before .before .before .before .before .args in
-    rw (c .before .before .before .before .before .before .before .dims .ensures, c .before .before .before .before .before .before .who-in .ensures) at (c .add .ensures .0 (getD (now (a .flags)) (a .l) false))
-    ∙ ap (addLayer (dimsAt (a .h .shape) (a .l)) (item (whoAt (now (a .words)) (a .l)) (a .weight))) (sym (handed-is (spanned (c .before .before .before .before .before .before .before .before))))
+    rw (c .before .before .before .before .before .before .before .dims .ensures, c .before .before .before .before .before .before .item-in .ensures) at (c .add .ensures .0 (getD (now (a .flags)) (a .l) false))
+    ∙ ap (addLayer (dimsAt (a .h .shape) (a .l)) (layerUpdate (itemAt (now (a .words)) (a .l)) (a .weight))) (sym (handed-is (spanned (c .before .before .before .before .before .before .before .before))))
 
 -- flags and lengths as they are handed back
 after-kept : (c : tie.Then1) → let a = c .before .before .before .before .before .before .before .before .before .before .before .before .before .before .before .before .before .before .before .before .before .before .before .before .args in let h = headOf (a .h) (now (a .flags)) (now (a .lens)) in
@@ -155,7 +155,7 @@ unfolding layerAt view
 few c =
     let a = c .before .before .before .before .before .before .before .before .before .before .before .before .before .before .before .args in
     rw (ap (λ (y : Layer). y .table .len) (layer-now c))
-    (add-few (dimsAt (a .h .shape) (a .l)) (item (whoAt (now (a .words)) (a .l)) (a .weight)) (layerAt (view (lent-of (c .before .before .before .before .before .before .before .before .before .before .before .before .before .before .before))) (a .l)) (c .before .before .before .before .before .before .before .before .before .before .before .before .before .before .before .pre .standing .lens (a .l) (c .before .before .before .before .before .before .before .before .before .before .before .before .before .before .before .pre .inside)))
+    (add-few (dimsAt (a .h .shape) (a .l)) (layerUpdate (itemAt (now (a .words)) (a .l)) (a .weight)) (layerAt (view (lent-of (c .before .before .before .before .before .before .before .before .before .before .before .before .before .before .before))) (a .l)) (c .before .before .before .before .before .before .before .before .before .before .before .before .before .before .before .pre .standing .lens (a .l) (c .before .before .before .before .before .before .before .before .before .before .before .before .before .before .before .pre .inside)))
 
 returns : tie.Need-returns
 returns c = (
@@ -191,4 +191,4 @@ returns-2 c = (
 )
 
 pub send-one-spec : {M : Type 1} → statement M
-send-one-spec = tie.close (tie.spec span-of-requires dims-requires who-in-requires mul-len slice-read-len mul-add sub-add part-add-start part-add-end mul-add-2 sub-add-2 part-add-start-2 part-add-end-2 mul-add-3 sub-add-3 part-add-start-3 part-add-end-3 mul-add-4 sub-add-4 part-add-start-4 part-add-end-4 add-requires len-after-requires mul-lens slice-write-lens kept-requires same-length same-length-2 same-length-3 same-length-4 same-length-5 returns slice-write-flags same-length-6 same-length-7 same-length-8 same-length-9 same-length-10 same-length-11 returns-2)
+send-one-spec = tie.close (tie.spec span-of-requires dims-requires item-in-requires mul-len slice-read-len mul-add sub-add part-add-start part-add-end mul-add-2 sub-add-2 part-add-start-2 part-add-end-2 mul-add-3 sub-add-3 part-add-start-3 part-add-end-3 mul-add-4 sub-add-4 part-add-start-4 part-add-end-4 add-requires len-after-requires mul-lens slice-write-lens kept-requires same-length same-length-2 same-length-3 same-length-4 same-length-5 returns slice-write-flags same-length-6 same-length-7 same-length-8 same-length-9 same-length-10 same-length-11 returns-2)

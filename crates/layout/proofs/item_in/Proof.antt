@@ -5,8 +5,8 @@ use mathlib.Core.Path.{_≡_}
 use native.Mathlib.Omega.{arith}
 use borrow.Author.Needs.{needs}
 use denote.Ref.{now}
-use Rattle.layout.proofs.who_in.Statement.{statement}
-use Rattle.layout.proofs.who_in.Tie as tie
+use Rattle.layout.proofs.item_in.Statement.{statement}
+use Rattle.layout.proofs.item_in.Tie as tie
 
 mul-at : tie.Need-mul-at
 mul-at c = search needs
@@ -42,5 +42,5 @@ returns c =
     let e : 2 + 2 * l + 1 ≡ 3 + 2 * l = omega arith in
     rw e
 
-pub who-in-spec : {M : Type 1} → statement M
-who-in-spec = tie.close (tie.spec mul-at add-at shared-slice-read-t6 shared-slice-read-t8 mul-t4 shared-slice-read-t10 add-t11 mul-t12 shared-slice-read-t14 returns)
+pub item-in-spec : {M : Type 1} → statement M
+item-in-spec = tie.close (tie.spec mul-at add-at shared-slice-read-t6 shared-slice-read-t8 mul-t4 shared-slice-read-t10 add-t11 mul-t12 shared-slice-read-t14 returns)
