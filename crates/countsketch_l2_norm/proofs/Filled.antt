@@ -11,7 +11,7 @@ use Rattle.words.specs.Num.{top}
 use Rattle.matrix_storage.specs.Bits.{maxRows, maxCols, hashBits, maskBits, signed}
 use Rattle.countsketch_l2_norm.specs.Sketch.{cellOf, cellAt}
 use Rattle.countsketch_l2_norm.specs.Estimate.{estimates}
-use Rattle.countsketch_l2_norm.specs.Needs.{Ready, CellReady, RowAdded}
+use Rattle.countsketch_l2_norm.specs.inner.Needs.{Ready, CellReady, RowAdded}
 use Rattle.countsketch_l2_norm.proofs.Places.{cell-before, place-asks}
 use Rattle.countsketch_l2_norm.proofs.Rows.{Going, start-rows, ready-row, row-step}
 use Rattle.countsketch_l2_norm.proofs.Estimates.{estimates-none}

@@ -19,9 +19,9 @@ use Rattle.words.proofs.Bools.{and-left, and-right, both, and-cross}
 use Rattle.words.proofs.Signed.{abs-add, back}
 use Rattle.words.proofs.Squares.{range-bound, range-of, capped-small}
 use Rattle.matrix_storage.specs.Bits.{maxRows, maxCols, signed}
-use Rattle.countsketch_l2_norm.specs.Norms.{normsOf, normAt, setNorm}
-use Rattle.countsketch_l2_norm.specs.Sketch.{Sketch, sketchOf, cellOf, cellAt, addCell, addRow, addRows, rowRead, cellRead, cellFits, rowsRead, rowsFit, rowsReady}
-use Rattle.countsketch_l2_norm.specs.Needs.{Ready, CellReady}
+use Rattle.countsketch_l2_norm.specs.Norms.{normsOf, normAt}
+use Rattle.countsketch_l2_norm.specs.inner.Needs.{setNorm, sketchOf, rowsReady, Ready, CellReady}
+use Rattle.countsketch_l2_norm.specs.Sketch.{Sketch, cellOf, cellAt, addCell, addRow, addRows, rowRead, cellRead, cellFits, rowsRead, rowsFit}
 use Rattle.countsketch_l2_norm.proofs.Norms.{norm-at, norm-set, length-setNorm}
 use Rattle.countsketch_l2_norm.proofs.Places.{cell-lt, cell-before}
 

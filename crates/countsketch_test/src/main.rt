@@ -3,7 +3,7 @@
 ghost use mathlib.Core.Path.{_≡_};
 ghost use mathlib.Core.Bool.{true};
 ghost use Prim.Native.Nat.{_*_, _≤_};
-ghost use Rattle.matrix_storage.specs.Bits.{Shaped};
+ghost use Rattle.matrix_storage.specs.inner.Shaped.{Shaped};
 
 // The greatest layer that is run: 9 rows of 4,096.
 const CELLS: usize = 36864;

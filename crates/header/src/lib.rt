@@ -11,7 +11,8 @@ ghost use Rattle.words.specs.Tests.{number};
 ghost use Rattle.header.specs.declared.Mode.{Mode};
 ghost use Rattle.header.specs.Totals.{noTotals, updateTotals, addTotals, setWeight, totalsOk, totalsTests};
 ghost use Rattle.header.specs.Shape.{maxLayers, shapeRefusal, checkedShape, sameShape, bottomOf, bottomLayer};
-ghost use Rattle.header.specs.Header.{zeroHeader, freshHeader, withTotals, withMode, withFlags, withLens, withLayer, withLayers, headOf, scalarsOf, clash, joined, beginTests, beginOf, beginHeader, freshFlags, lensFrom, headerOk};
+ghost use Rattle.header.specs.Header.{zeroHeader, freshHeader, withTotals, withMode, withFlags, withLens, withLayer, withLayers, scalarsOf, clash, joined, beginTests, beginOf, beginHeader, freshFlags, lensFrom, headerOk};
+ghost use Rattle.header.specs.Lending.{headIn};
 
 // Heap size, rows, columns and layers.
 pub struct Shape {
@@ -331,7 +332,7 @@ impl Header {
     // then copies the header no more than storing in place would.
     pub fn touched(self, layer: usize, len: usize, kept: bool) -> Self
         requires { ⌜ layer < maxLayers ⌝ }
-        ensures { λ r. ⌜ r ≡ withLayer self layer (getD (self .flags) layer false && kept) len ⌝ }
+        ensures { λ r. ⌜ r ≡ withLayer self layer len (getD (self .flags) layer false && kept) ⌝ }
     {
         if kept {
             return self.with_len(layer, len);
@@ -345,7 +346,7 @@ impl Header {
         lens: [usize; Shape::MAX_LAYERS],
         flags: [bool; Shape::MAX_LAYERS],
     ) -> Self
-        ensures { λ r. ⌜ r ≡ withLayers self flags lens ⌝ }
+        ensures { λ r. ⌜ r ≡ withLayers self lens flags ⌝ }
     {
         self.lens = lens;
         self.flags = flags;
@@ -517,7 +518,7 @@ fn rest_clear(lens: &[usize], flags: &[bool], layers: usize) -> bool
 // Whether dimensions, totals, lengths and flags are in range; of the mode nothing is asked.
 pub fn fields_in_range(shape: Shape, totals: Totals, lens: &[usize], flags: &[bool]) -> bool
     requires { ⌜ (length (now lens) ≡ maxLayers) × (length (now flags) ≡ maxLayers) ⌝ }
-    ensures { λ r. ⌜ ((m : Mode) → r ≡ headerOk (headOf (record { shape = shape; totals = totals; mode = m }) (now (flags .entry)) (now (lens .entry)))) ⌝ }
+    ensures { λ r. ⌜ ((m : Mode) → r ≡ headerOk (headIn (record { shape = shape; totals = totals; mode = m }) lens flags)) ⌝ }
 {
     if shape.refusal() != 0 {
         return false;

@@ -10,11 +10,11 @@ use lib.ListN.{length, getD, set, take, length-set}
 use lib.Dec.{eqb}
 use borrow.Author.Tests.{eq-eqb, ne-eqb}
 use Rattle.heap_moves.specs.Cands.{Cand, noCand, recount}
-use Rattle.heap_moves.specs.Totals.{total, Moved}
+use Rattle.heap_moves.specs.inner.Totals.{total, Moved}
 use Rattle.heap_moves.proofs.Moved.{total-set, total-next, up-moved, down-moved, update-moved}
 use Rattle.heap.specs.declared.Answer.the-variants.{Rescored, Seated, Displaced, TurnedAway}
 use Rattle.heap.specs.Offer.{Table, Offered, find, placeOf, rescore, seat, replaceRoot, offer}
-use Rattle.heap.specs.Keys.{hit, keyHit, timesHeld, KeysOnce, gainedBy, lostBy}
+use Rattle.heap.specs.inner.Keys.{hit, keyHit, timesHeld, KeysOnce, gainedBy, lostBy}
 use Rattle.heap.proofs.Cases.{offer-cases}
 
 -- ---- the first match

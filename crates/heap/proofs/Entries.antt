@@ -9,7 +9,7 @@ use lib.IntN.{ℤ}
 use Rattle.words.specs.Num.{inRange, allIn}
 use Rattle.heap_moves.specs.Cands.{Cand, noCand}
 use Rattle.heap_moves.specs.Flat.{candOf, countsOf}
-use Rattle.heap_moves.specs.Totals.{Each}
+use Rattle.heap_moves.specs.inner.Totals.{Each}
 use Rattle.heap_moves.proofs.Moved.{each-set, each-next}
 use Rattle.heap.specs.Offer.{Table, Offered, offer}
 use Rattle.heap.proofs.Effects.{Effect, rescored, seated, displaced, turned-away, offer-effect}

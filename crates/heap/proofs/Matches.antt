@@ -15,7 +15,7 @@ use Rattle.heap_moves.specs.Flat.{candsOf}
 use Rattle.heap_moves.proofs.Views.{length-cands, cand-at}
 use lib.Dec.{eqb}
 use Rattle.words.proofs.Bools.{and-left, and-right, not-same}
-use Rattle.heap.specs.Fours.{fourOther}
+use Rattle.heap.specs.inner.Fours.{fourOther}
 use Rattle.heap.specs.Offer.{find}
 
 pub find-first : (k : ℕ) (cs : List Cand) (i : ℕ) → i < length cs → ((j : ℕ) → j < i → getD cs j noCand .item .key ≢ k) → getD cs i noCand .item .key ≡ k → i ≡ find k cs

@@ -63,10 +63,3 @@ keptBy TurnedAway = false
 
 abbrev pub kept : Offered → Bool
 kept o = keptBy (o .answer)
-
--- the length after an offer
-abbrev pub lenBy : Answer → ℕ → ℕ
-lenBy Rescored n = n
-lenBy Seated n = n + 1
-lenBy (Displaced k) n = n
-lenBy TurnedAway n = n

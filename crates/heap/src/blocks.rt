@@ -4,7 +4,7 @@ ghost use mathlib.Core.Path.{_≡_};
 ghost use mathlib.Core.Logic.{_≢_};
 ghost use Prim.Native.Nat.{ℕ, _+_, _*_, _≤_, _<_};
 ghost use lib.ListN.{length, getD};
-ghost use Rattle.heap.specs.Fours.{fourOther};
+ghost use Rattle.heap.specs.inner.Fours.{fourOther};
 
 fn four_other(entries: &[u64], a: usize, key: u64) -> bool
     requires { ⌜ a + 13 ≤ length (now entries) ⌝ }

@@ -9,8 +9,8 @@ ghost use mathlib.Core.Bool.{not};
 ghost use mathlib.Core.List.{List};
 ghost use lib.ListN.{length, set};
 ghost use Rattle.heap_moves.specs.Cands.{smaller, swapped, up, leftOr, lower, down, stays, updateAt};
-ghost use Rattle.heap_moves.specs.Flat.{candsOf, store4, itemOf, candOf};
-ghost use Rattle.heap_moves.specs.Post.{Two};
+ghost use Rattle.heap_moves.specs.Flat.{candsOf, itemOf, candOf};
+ghost use Rattle.heap_moves.specs.inner.Post.{store4, Two};
 
 // The greatest heap size: the most candidates of a layer.
 pub const MAX_HEAP_SIZE: usize = 1024;

@@ -10,16 +10,16 @@ use lib.IntN.{ℤ, pos}
 use Rattle.heap_moves.specs.declared.Item.{Item}
 use Rattle.heap.specs.declared.Answer.{Answer}
 use Rattle.heap_moves.specs.Cands.{Cand, noCand}
-use Rattle.heap.specs.Offer.{Table, lenBy}
+use Rattle.heap.specs.Offer.{Table}
+use Rattle.heap.specs.inner.Slices.{lenBy, tableOf, offered}
 use Rattle.heap_moves.specs.Flat.{itemOf, candsOf, candOf, entriesOf, countsOf}
-use Rattle.heap.specs.Slices.{tableOf, offered}
 use Rattle.heap.proofs.Sounds.{offer-table}
 use Rattle.countsketch_l2_norm.specs.Estimate.{estimateOf}
 use Rattle.layer.specs.declared.Dims.{Dims}
 use Rattle.layer.specs.declared.Merged.{Merged}
 use Rattle.layer.specs.Layer.{hashBy, countOf, offerTo, noTable}
 use Rattle.layer.specs.Merge.{hasKey, firsts, offerAll}
-use Rattle.layer.specs.Gather.{Front, Gathered, mergeTable, offerOne, gather, itemsFrom, itemsOf, keysOf, firstAt, gatheredOf}
+use Rattle.layer.specs.inner.Gather.{Front, Gathered, mergeTable, offerOne, gather, itemsFrom, itemsOf, keysOf, firstAt, gatheredOf}
 use Rattle.layer.proofs.Steps.{offer-few}
 use Rattle.layer.proofs.Firsts.{firsts-append, front-items, Finds, find-has, find-hasnt, Seen, seen-none, seen-known, seen-new}
 

@@ -8,21 +8,22 @@ use lib.ListN.{length, take, length-replicate}
 use lib.IntN.{ℤ}
 use lib.Dec.{leb}
 use Rattle.words.specs.Num.{allIn}
-use Rattle.countsketch_l2_norm.specs.Sketch.{Sketch, sketchOf}
+use Rattle.countsketch_l2_norm.specs.Sketch.{Sketch}
+use Rattle.countsketch_l2_norm.specs.inner.Needs.{sketchOf}
 use Rattle.countsketch_l2_norm.specs.Merge.{sums, mergeSketch}
 use Rattle.countsketch_l2_norm.proofs.Merges.{length-sums, length-rowNorms}
 use Rattle.heap_moves.specs.declared.Item.{Item}
 use Rattle.heap_moves.specs.Cands.{noCand}
 use Rattle.heap_moves.proofs.Rounds.{counts-cands}
 use Rattle.heap.specs.Offer.{Table}
-use Rattle.heap.specs.Slices.{tableOf}
+use Rattle.heap.specs.inner.Slices.{tableOf}
 use Rattle.heap.proofs.Sounds.{offer-long}
 use Rattle.layer.specs.declared.Dims.{Dims}
 use Rattle.layer.specs.declared.Merged.{Merged}
-use Rattle.layer.specs.Layer.{Layer, layerOf, offerTo, noTable}
+use Rattle.layer.specs.Layer.{Layer, offerTo, noTable}
+use Rattle.layer.specs.inner.Needs.{layerOf, Fits}
 use Rattle.layer.specs.Merge.{items, bothItems, offerAll, mergeLayer, mergeReads, mergeFits}
-use Rattle.layer.specs.Gather.{gatheredOf, mergeTable, itemsOf}
-use Rattle.layer.specs.Needs.{Fits}
+use Rattle.layer.specs.inner.Gather.{gatheredOf, mergeTable, itemsOf}
 use Rattle.layer.proofs.Steps.{offer-few}
 use Rattle.layer.proofs.Firsts.{items-table}
 

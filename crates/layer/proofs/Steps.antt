@@ -5,21 +5,22 @@ use mathlib.Core.List.{List}
 use Prim.Native.Nat.{ℕ, _+_, _*_, _≤_}
 use native.Mathlib.Omega.{arith}
 use lib.IntN.{ℤ}
-use Rattle.countsketch_l2_norm.specs.Sketch.{Sketch, sketchOf, addCell, addRows}
+use Rattle.countsketch_l2_norm.specs.Sketch.{Sketch, addCell, addRows}
+use Rattle.countsketch_l2_norm.specs.inner.Needs.{sketchOf}
 use Rattle.countsketch_l2_norm.specs.Estimate.{estimateOf}
 use Rattle.countsketch_l2_norm.proofs.After.{length-rows, length-rows-norms}
 use Rattle.heap_moves.specs.declared.Item.{Item}
 use Rattle.heap_moves.specs.Flat.{candOf, entriesOf, countsOf}
 use Rattle.heap.specs.declared.Answer.{Answer}
 use Rattle.heap_moves.specs.Cands.{Cand}
-use Rattle.heap.specs.Offer.{Table, Offered, offer, rescore, seat, replaceRoot, keptBy, lenBy, kept}
+use Rattle.heap.specs.Offer.{Table, Offered, offer, rescore, seat, replaceRoot, keptBy, kept}
+use Rattle.heap.specs.inner.Slices.{lenBy, tableOf, offered}
 use Rattle.heap.proofs.Cases.{offer-cases}
-use Rattle.heap.specs.Slices.{tableOf, offered}
 use Rattle.heap.proofs.Sounds.{offer-len, offer-table, offer-long}
 use Rattle.layer.specs.declared.Dims.{Dims}
-use Rattle.layer.specs.Layer.{Layer, LayerUpdate, layerOf, layerUpdate, hashBy, countOf, offerTo, addSketch, addLayer, addAnswer}
-use Rattle.layer.specs.Needs.{Fits}
-use Rattle.layer.specs.Delta.{Delta, delta, deltaLayer, deltaAnswer}
+use Rattle.layer.specs.Layer.{Layer, LayerUpdate, hashBy, countOf, offerTo, addSketch, addLayer, addAnswer}
+use Rattle.layer.specs.inner.Needs.{layerOf, layerUpdate, Fits, delta}
+use Rattle.layer.specs.Delta.{Delta, deltaLayer, deltaAnswer}
 
 -- a sketch, and the offer of a key with its count from the new counters
 module _ (d : Dims) (item : Item) (s : Sketch) (es : List ℕ) (ns : List ℤ) (len : ℕ) (xs′ : List ℤ) (ws′ es′ : List ℕ) (ns′ : List ℤ) (a : Answer) (v : ℤ)

@@ -9,13 +9,15 @@ use lib.Seq.{getD-set-same, getD-set-other}
 use lib.IntN.{ℤ, pos}
 use Rattle.words.specs.Num.{allIn, inRange}
 use Rattle.words.proofs.Bools.{and-left, and-right, both}
-use Rattle.countsketch_l2_norm.specs.Sketch.{sketchOf, cellOf, cellAt, cellRead, rowsRead, rowsFit, rowsReady}
+use Rattle.countsketch_l2_norm.specs.Sketch.{cellOf, cellAt, cellRead, rowsRead, rowsFit}
+use Rattle.countsketch_l2_norm.specs.inner.Needs.{sketchOf, rowsReady}
 use Rattle.countsketch_l2_norm.specs.Estimate.{cellsInRange}
 use Rattle.heap_moves.specs.declared.Item.{Item}
 use Rattle.heap_moves.proofs.Rounds.{counts-cands}
 use Rattle.layer.specs.declared.Dims.{Dims}
-use Rattle.layer.specs.Layer.{layerOf, layerUpdate, hashBy, addReads, addFits}
-use Rattle.layer.specs.Delta.{delta, deltaReads}
+use Rattle.layer.specs.Layer.{hashBy, addReads, addFits}
+use Rattle.layer.specs.inner.Needs.{layerOf, layerUpdate, delta}
+use Rattle.layer.specs.Delta.{deltaReads}
 
 -- ---- an update
 

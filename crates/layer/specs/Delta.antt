@@ -18,9 +18,6 @@ pub record Delta : Type 0 where
   pub item : Item
   pub every : Bool
 
-abbrev pub delta : ℕ → ℕ → ℤ → Item → Bool → Delta
-delta row col n item every = record { row = row; col = col; count = n; item = item; every = every }
-
 abbrev pub placeBy : Dims → Delta → ℕ
 placeBy d u = u .row * d .cols + u .col
 

@@ -1,19 +1,18 @@
 -- One layer whole, for any rows, columns and heap size, and an update of it.
-use Prim.Native.Nat.{ℕ, _*_}
-use mathlib.Core.Bool.{Bool, true, _&&_}
+use Prim.Native.Nat.{ℕ}
+use mathlib.Core.Bool.{Bool, _&&_}
 use mathlib.Core.List.{List}
 use lib.ListN.{take, replicate}
-use lib.IntN.{ℤ, pos}
+use lib.IntN.{ℤ}
 use Rattle.words.specs.Num.{allIn}
 use Rattle.matrix_storage.specs.Bits.{hashOf}
-use Rattle.countsketch_l2_norm.specs.Sketch.{Sketch, sketchOf, addRows, rowsRead, rowsFit}
+use Rattle.countsketch_l2_norm.specs.Sketch.{Sketch, addRows, rowsRead, rowsFit}
 use Rattle.countsketch_l2_norm.specs.Estimate.{estimateOf}
 use Rattle.heap_moves.specs.declared.Item.{Item}
 use Rattle.heap_moves.specs.Cands.{noCand}
 use Rattle.heap_moves.specs.Flat.{candOf, countsOf}
 use Rattle.heap.specs.declared.Answer.{Answer}
 use Rattle.heap.specs.Offer.{Table, Offered, offer, kept}
-use Rattle.heap.specs.Slices.{tableOf}
 use Rattle.layer.specs.declared.Dims.{Dims}
 
 -- counters and norms, candidates, and whether no key was lost
@@ -22,17 +21,10 @@ pub record Layer : Type 0 where
   pub table : Table
   pub flag : Bool
 
--- the layer that stands in four slices
-abbrev pub layerOf : Dims → List ℤ → List ℕ → List ℕ → List ℤ → ℕ → Bool → Layer
-layerOf d xs ws es ns len flag = record { sketch = sketchOf xs ws (d .rows); table = tableOf es ns len; flag = flag }
-
 -- one update as a layer sees it: who is counted, with this layer's hash, and by how much
 pub record LayerUpdate : Type 0 where
   pub item : Item
   pub weight : ℕ
-
-abbrev pub layerUpdate : Item → ℕ → LayerUpdate
-layerUpdate item w = record { item = item; weight = w }
 
 -- the 128-bit hash of an entry
 abbrev pub hashBy : Item → ℕ
@@ -79,11 +71,3 @@ addFits d u l = rowsFit (d .cols) (hashBy (u .item)) (u .weight) (l .sketch .cel
 
 abbrev pub noTable : ℕ → Table
 noTable size = record { cands = replicate size noCand; len = 0 }
-
-unfoldable pub noLayer : Dims → Layer
-noLayer d =
-    record {
-      sketch = record { cells = replicate (d .rows * d .cols) (pos 0); norms = replicate (d .rows) 0 };
-      table = noTable (d .size);
-      flag = true;
-    }

@@ -8,9 +8,10 @@ ghost use mathlib.Core.List.{List};
 ghost use Prim.Native.Nat.{ℕ, _≤_};
 ghost use lib.ListN.{length};
 ghost use Rattle.words.specs.Num.{top};
-ghost use Rattle.heap.specs.Offer.{keptBy, lenBy};
-ghost use Rattle.layer.specs.Layer.{layerOf, layerUpdate, addLayer, addAnswer, addReads, addFits};
-ghost use Rattle.layer.specs.Needs.{Housed, AddReady};
+ghost use Rattle.heap.specs.Offer.{keptBy};
+ghost use Rattle.heap.specs.inner.Slices.{lenBy};
+ghost use Rattle.layer.specs.Layer.{addLayer, addAnswer, addReads, addFits};
+ghost use Rattle.layer.specs.inner.Needs.{layerOf, layerUpdate, Housed, AddReady};
 
 // Whether all that an update reads of the layer is in range.
 pub fn add_reads(

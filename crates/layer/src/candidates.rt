@@ -11,7 +11,7 @@ ghost use mathlib.Core.List.{_++_};
 ghost use Prim.Native.Nat.{ℕ, _+_, _*_, _≤_, _<_};
 ghost use lib.ListN.{length};
 ghost use Rattle.heap_moves.specs.Cands.{mostCands};
-ghost use Rattle.layer.specs.Gather.{gatheredOf, mergeTable, offerOne, gather, itemsOf, keysOf, firstAt, CountersRead, Seats, Entries, Sofar};
+ghost use Rattle.layer.specs.inner.Gather.{gatheredOf, mergeTable, offerOne, gather, itemsOf, keysOf, firstAt, CountersRead, Seats, Entries, Sofar};
 
 // One more key, with its count.
 fn offer_one(

@@ -9,13 +9,13 @@ ghost use Prim.Native.Nat.{ℕ, _+_, _*_, _<_};
 ghost use lib.ListN.{length};
 ghost use lib.IntN.{ℤ};
 ghost use Rattle.words.specs.Num.{inRange};
-ghost use Rattle.matrix_storage.specs.Bits.{Shaped};
+ghost use Rattle.matrix_storage.specs.inner.Shaped.{Shaped};
 ghost use Rattle.heap_moves.specs.declared.Item.{Item};
 ghost use Rattle.countsketch_l2_norm.specs.Sketch.{cellAt};
-ghost use Rattle.heap.specs.Offer.{keptBy, lenBy};
-ghost use Rattle.layer.specs.Layer.{layerOf};
-ghost use Rattle.layer.specs.Delta.{delta, deltaLayer, deltaAnswer, deltaReads, deltaFits};
-ghost use Rattle.layer.specs.Needs.{Housed, DeltaReady};
+ghost use Rattle.heap.specs.Offer.{keptBy};
+ghost use Rattle.heap.specs.inner.Slices.{lenBy};
+ghost use Rattle.layer.specs.inner.Needs.{layerOf, delta, Housed, DeltaReady};
+ghost use Rattle.layer.specs.Delta.{deltaLayer, deltaAnswer, deltaReads, deltaFits};
 
 // Whether all that a delta reads of the layer is in range.
 pub fn delta_reads(

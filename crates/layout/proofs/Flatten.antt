@@ -17,7 +17,7 @@ use Rattle.heap_moves.proofs.Rounds.{entries-cands, counts-cands, cands-entries
 use Rattle.header.specs.declared.Header.{Header}
 use Rattle.layout.specs.State.{State}
 use Rattle.layout.specs.Slices.{Lent, cellsIn, normsIn, candsIn, lengthsOk, lentOk, view, flat}
-use Rattle.layout.specs.Needs.{Standing}
+use Rattle.layout.specs.inner.Needs.{Standing}
 use Rattle.layout.proofs.Replaced.{Sized}
 
 -- a norm's two words are told from it only if each of them is a word

@@ -16,7 +16,7 @@ use Rattle.header.specs.Header.{freshHeader, headerOk}
 use Rattle.header.proofs.Ranges.{ranged-of, len-few}
 use Rattle.layout.specs.Slices.{Lent, cellsIn, normsIn, candsIn, lengthsOk, lent, lentOk, view, freshLent}
 use Rattle.layout.specs.Outcomes.{left, lentTests}
-use Rattle.layout.specs.Needs.{Sizes, Standing}
+use Rattle.layout.specs.inner.Needs.{Sizes, Standing}
 use Rattle.layout.proofs.States.{Long}
 
 pub sizes-of : (sh : Shape) (a b c d : ℕ) → lengthsOk sh a b c d ≡ true → Sizes sh a b c d

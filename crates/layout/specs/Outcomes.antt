@@ -30,6 +30,10 @@ abbrev pub leftBy : Lent → Outcome → Left
 leftBy r (Outcome.no n) = left n r
 leftBy r (Outcome.yes t) = left 0 t
 
+-- what a call leaves
+abbrev pub leftAfter : (Lent → Outcome) → Lent → Left
+leftAfter f r = leftBy r (f r)
+
 -- ---- the first tests of a call: "9 for lengths and headers, 12"
 
 -- 9 "wrong slice length; header out of range"

@@ -15,12 +15,13 @@ ghost use Prim.Native.Nat.{ℕ, _+_, _*_, _≤_, _<_};
 ghost use lib.ListN.{length};
 ghost use Rattle.words.specs.Tests.{number};
 ghost use Rattle.header.specs.Shape.{maxLayers};
-ghost use Rattle.header.specs.Accepted.{Accepted};
+ghost use Rattle.header.specs.inner.Accepted.{Accepted};
 ghost use Rattle.layout.specs.State.{dimsAt};
-ghost use Rattle.layout.specs.Slices.{lengthsOk, lent};
+ghost use Rattle.layout.specs.Slices.{lengthsOk, extentOf};
 ghost use Rattle.layout.specs.Outcomes.{lentTests};
-ghost use Rattle.layout.specs.Spans.{extentOf, spanOf};
+ghost use Rattle.layout.specs.inner.Spans.{spanOf};
 ghost use Rattle.layout.specs.Records.{itemAt};
+ghost use Rattle.layout.specs.Lending.{lentIn};
 
 // Counters, norm words, entry words and counts of a shape.
 pub struct Extent {
@@ -76,7 +77,7 @@ pub fn lent_refusal(
     entries: &[u64],
     counts: &[i64],
 ) -> u64
-    ensures { λ r. ⌜ r ≡ number (lentTests (lent h (now (counters .entry)) (now (norms .entry)) (now (entries .entry)) (now (counts .entry)))) ⌝ }
+    ensures { λ r. ⌜ r ≡ number (lentTests (lentIn h counters norms entries counts)) ⌝ }
 {
     if !h.in_range() {
         return 9;

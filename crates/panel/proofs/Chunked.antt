@@ -9,7 +9,8 @@ use lib.ListN.{length, take, drop, take-append-drop, length-drop}
 use lib.Seq.{take-all, take-add}
 use Rattle.words.proofs.Bools.{never}
 use Rattle.layout.specs.Slices.{Lent}
-use Rattle.panel_lines.specs.Split.{mostHeld, push, chunkLines, chunkHeld, Stepped, stepOf, stepped}
+use Rattle.panel_lines.specs.Split.{mostHeld, push, chunkLines, chunkHeld}
+use Rattle.panel_lines.specs.inner.Steps.{Stepped, stepOf, stepped}
 use Rattle.panel_lines.proofs.Chunks.{lines-append, held-append, step-open}
 use Rattle.panel_step.specs.Panel.{longest, answerLine, answersOf, Found, found, put, behind}
 use Rattle.panel_step.proofs.Runs.{first-behind, none-behind, more-behind}

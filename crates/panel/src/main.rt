@@ -11,9 +11,9 @@ use panel_step::answer_line;
 ghost use mathlib.Core.Path.{_≡_};
 ghost use Prim.Native.Nat.{ℕ, min, _+_, _≤_};
 ghost use lib.ListN.{length, take};
-ghost use Rattle.layout.specs.Slices.{lent};
 ghost use Rattle.panel_lines.specs.Split.{mostHeld, chunkLines, chunkHeld};
 ghost use Rattle.panel_step.specs.Panel.{longest, answerLine, answersOf, found, put, behind};
+ghost use Rattle.layout.specs.Lending.{lentIn, lentOut};
 
 // The bytes that are read at once, and the most that are written at once. Larger ones save no time, and all that the program holds
 // is on the stack: these two, the slices of `main` and the working space of a sum, 167 KB in all.
@@ -50,8 +50,8 @@ fn reply(
 ) -> LineAnswered
     requires { ⌜ k ≤ length (now line) ⌝ }
     requires { ⌜ at + longest ≤ length (now out) ⌝ }
-    ensures { λ r. ⌜ found (lent (r .header) (now (counters .exit)) (now (norms .exit)) (now (entries .exit)) (now (counts .exit))) (r .len) (now (out .exit))
-        ≡ behind at (answerLine (lent header (now (counters .entry)) (now (norms .entry)) (now (entries .entry)) (now (counts .entry))) (take k (now (line .entry)))) (now (out .entry)) ⌝ }
+    ensures { λ r. ⌜ found (lentOut (r .header) counters norms entries counts) (r .len) (now (out .exit))
+        ≡ behind at (answerLine (lentIn header counters norms entries counts) (take k (now (line .entry)))) (now (out .entry)) ⌝ }
     ensures { λ r. ⌜ r .len ≤ at + longest ⌝ }
 {
     let t = answer_line(
@@ -86,8 +86,8 @@ fn take_chunk(
     requires { ⌜ held ≤ mostHeld ⌝ }
     requires { ⌜ mostHeld ≤ length (now line) ⌝ }
     requires { ⌜ longest ≤ length (now out) ⌝ }
-    ensures { λ r. ⌜ found (lent (r .header) (now (counters .exit)) (now (norms .exit)) (now (entries .exit)) (now (counts .exit))) (r .len) (now (out .exit))
-        ≡ put (answersOf (lent header (now (counters .entry)) (now (norms .entry)) (now (entries .entry)) (now (counts .entry))) (chunkLines (take held (now (line .entry))) (take (r .next) (now (chunk .entry))))) (now (out .entry)) ⌝ }
+    ensures { λ r. ⌜ found (lentOut (r .header) counters norms entries counts) (r .len) (now (out .exit))
+        ≡ put (answersOf (lentIn header counters norms entries counts) (chunkLines (take held (now (line .entry))) (take (r .next) (now (chunk .entry))))) (now (out .entry)) ⌝ }
     ensures { λ r. ⌜ take (r .held) (now (line .exit)) ≡ chunkHeld (take held (now (line .entry))) (take (r .next) (now (chunk .entry))) ⌝ }
     ensures { λ r. ⌜ (r .held ≤ mostHeld) × (r .len ≤ length (now (out .entry))) ⌝ }
     ensures { λ r. ⌜ (min 1 (length (now (chunk .entry))) ≤ r .next) × (r .next ≤ length (now (chunk .entry))) ⌝ }
@@ -142,8 +142,8 @@ fn take_all(
     requires { ⌜ held ≤ mostHeld ⌝ }
     requires { ⌜ mostHeld ≤ length (now line) ⌝ }
     requires { ⌜ longest ≤ length (now out) ⌝ }
-    ensures { λ r. ⌜ lent (r .header) (now (counters .exit)) (now (norms .exit)) (now (entries .exit)) (now (counts .exit))
-        ≡ answersOf (lent header (now (counters .entry)) (now (norms .entry)) (now (entries .entry)) (now (counts .entry))) (chunkLines (take held (now (line .entry))) (now (chunk .entry))) .lends ⌝ }
+    ensures { λ r. ⌜ lentOut (r .header) counters norms entries counts
+        ≡ answersOf (lentIn header counters norms entries counts) (chunkLines (take held (now (line .entry))) (now (chunk .entry))) .lends ⌝ }
     ensures { λ r. ⌜ take (r .held) (now (line .exit)) ≡ chunkHeld (take held (now (line .entry))) (now (chunk .entry)) ⌝ }
     ensures { λ r. ⌜ r .held ≤ mostHeld ⌝ }
 {

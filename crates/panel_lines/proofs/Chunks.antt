@@ -13,7 +13,8 @@ use borrow.Author.Tests.{le-ltb, ltb-true, ltb-false}
 use Rattle.words.proofs.Bools.{never}
 use Rattle.text.proofs.Spots.{here}
 use Rattle.panel_lines.specs.Line.{readOf}
-use Rattle.panel_lines.specs.Split.{endedLines, lastLine, someLast, lines, mostHeld, heldOf, push, Stepped, stepped, stepOf, chunkLines, chunkHeld, runLines, runHeld, linesOfChunks, wholeOf}
+use Rattle.panel_lines.specs.Split.{endedLines, lastLine, someLast, lines, mostHeld, push, chunkLines, chunkHeld, wholeOf}
+use Rattle.panel_lines.specs.inner.Steps.{heldOf, Stepped, stepped, stepOf, runLines, runHeld, linesOfChunks}
 use Rattle.panel_lines.proofs.Cases.{read-long}
 
 -- ---- holding only 1,025 bytes changes no reading

@@ -15,7 +15,8 @@ use Rattle.panel_lines.specs.declared.line.Request.the-variants.{Shape, 
 use Rattle.panel_lines.specs.Line.{readShape, pairOkAt, allPairs, tailAt, halves, readAdd, readOf}
 use Rattle.panel_lines.specs.Ask.{Ask, shape, add, show, Pair, pairsText, pairWords, askText, readingOf}
 use Rattle.panel_lines.specs.Answers.{okText, refusedText, flagsText, showText}
-use Rattle.panel_lines.specs.Split.{linesOfChunks, runLines, runHeld, chunkLines, chunkHeld, push, wholeOf, lines, endedLines, lastLine, someLast}
+use Rattle.panel_lines.specs.Split.{chunkLines, chunkHeld, push, wholeOf, lines, endedLines, lastLine, someLast}
+use Rattle.panel_lines.specs.inner.Steps.{linesOfChunks, runLines, runHeld}
 
 unfoldable pub same : List ℕ → List ℕ → Bool
 same [] [] = true

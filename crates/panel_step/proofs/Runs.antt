@@ -10,7 +10,8 @@ use lib.Seq.{sets, sets-eq, drop-drop, take-all}
 use Rattle.text.proofs.Puts.{sets-append}
 use Rattle.layout.specs.Slices.{Lent}
 use Rattle.panel_lines.specs.Line.{Reading}
-use Rattle.panel_lines.specs.Split.{heldOf, someLast, chunkLines, chunkHeld, runLines, runHeld, linesOfChunks, lines, wholeOf}
+use Rattle.panel_lines.specs.Split.{someLast, chunkLines, chunkHeld, lines, wholeOf}
+use Rattle.panel_lines.specs.inner.Steps.{heldOf, runLines, runHeld, linesOfChunks}
 use Rattle.panel_lines.proofs.Chunks.{held-reads, chunks-make-lines}
 use Rattle.panel_step.specs.Panel.{Reply, answerTo, answerLine, answersOf, Found, found, put, behind, longest, answerWithin, runOf}
 

@@ -17,8 +17,8 @@ ghost use mathlib.Core.List.{[], _∷_, _++_};
 ghost use Prim.Native.Nat.{ℕ, _≤_};
 ghost use lib.ListN.{length};
 ghost use lib.Seq.{sets};
-ghost use Rattle.layout.specs.Slices.{lent};
 ghost use Rattle.panel_step.specs.Panel.{shapeCall, addCall, showLine, replyText, replied, reply, found, put, longest, answerWithin};
+ghost use Rattle.layout.specs.Lending.{lentIn, lentOut};
 
 // The longest answer, with its newline: `(show ..)` of the most layers.
 pub const LONGEST: usize = SHOW_BARE + 2 * Shape::MAX_LAYERS + 1;
@@ -50,8 +50,8 @@ fn answer_shape(
     out: &mut [u8],
 ) -> LineAnswered
     requires { ⌜ longest ≤ length (now out) ⌝ }
-    ensures { λ r. ⌜ found (lent (r .header) (now (counters .exit)) (now (norms .exit)) (now (entries .exit)) (now (counts .exit))) (r .len) (now (out .exit))
-        ≡ put (replied (shapeCall (lent header (now (counters .entry)) (now (norms .entry)) (now (entries .entry)) (now (counts .entry))) shape)) (now (out .entry)) ⌝ }
+    ensures { λ r. ⌜ found (lentOut (r .header) counters norms entries counts) (r .len) (now (out .exit))
+        ≡ put (replied (shapeCall (lentIn header counters norms entries counts) shape)) (now (out .entry)) ⌝ }
     ensures { λ r. ⌜ r .len ≤ longest ⌝ }
 {
     let a = start(header, counters, norms, entries, counts, shape);
@@ -71,8 +71,8 @@ fn answer_add(
     out: &mut [u8],
 ) -> LineAnswered
     requires { ⌜ longest ≤ length (now out) ⌝ }
-    ensures { λ r. ⌜ found (lent (r .header) (now (counters .exit)) (now (norms .exit)) (now (entries .exit)) (now (counts .exit))) (r .len) (now (out .exit))
-        ≡ put (replied (addCall (lent header (now (counters .entry)) (now (norms .entry)) (now (entries .entry)) (now (counts .entry))) (now (words .entry)) weight)) (now (out .entry)) ⌝ }
+    ensures { λ r. ⌜ found (lentOut (r .header) counters norms entries counts) (r .len) (now (out .exit))
+        ≡ put (replied (addCall (lentIn header counters norms entries counts) (now (words .entry)) weight)) (now (out .entry)) ⌝ }
     ensures { λ r. ⌜ r .len ≤ longest ⌝ }
 {
     let a = add(header, counters, norms, entries, counts, words, weight);
@@ -90,8 +90,8 @@ fn answer_show(
     out: &mut [u8],
 ) -> LineAnswered
     requires { ⌜ longest ≤ length (now out) ⌝ }
-    ensures { λ r. ⌜ found (lent (r .header) (now (counters .entry)) (now (norms .entry)) (now (entries .entry)) (now (counts .entry))) (r .len) (now (out .exit))
-        ≡ put (reply (lent header (now (counters .entry)) (now (norms .entry)) (now (entries .entry)) (now (counts .entry))) (showLine (lent header (now (counters .entry)) (now (norms .entry)) (now (entries .entry)) (now (counts .entry))))) (now (out .entry)) ⌝ }
+    ensures { λ r. ⌜ found (lentIn (r .header) counters norms entries counts) (r .len) (now (out .exit))
+        ≡ put (reply (lentIn header counters norms entries counts) (showLine (lentIn header counters norms entries counts))) (now (out .entry)) ⌝ }
     ensures { λ r. ⌜ r .len ≤ longest ⌝ }
 {
     let k = show(header, counters, norms, entries, counts, out);
@@ -109,8 +109,8 @@ pub fn answer_line(
     counts: &mut [i64],
     out: &mut [u8],
 ) -> LineAnswered
-    ensures { λ r. ⌜ found (lent (r .header) (now (counters .exit)) (now (norms .exit)) (now (entries .exit)) (now (counts .exit))) (r .len) (now (out .exit))
-        ≡ put (answerWithin (length (now (out .entry))) (lent header (now (counters .entry)) (now (norms .entry)) (now (entries .entry)) (now (counts .entry))) (now (line .entry))) (now (out .entry)) ⌝ }
+    ensures { λ r. ⌜ found (lentOut (r .header) counters norms entries counts) (r .len) (now (out .exit))
+        ≡ put (answerWithin (length (now (out .entry))) (lentIn header counters norms entries counts) (now (line .entry))) (now (out .entry)) ⌝ }
     ensures { λ r. ⌜ r .len ≤ longest ⌝ }
 {
     if out.len() < LONGEST {

@@ -10,9 +10,8 @@ use lib.Dec.{eqb}
 use borrow.Author.Tests.{eqb-true}
 use Rattle.words.proofs.Bools.{and-left, and-right}
 use Rattle.header.specs.declared.Shape.{Shape}
-use Rattle.layout.specs.Slices.{Lent, cellsIn, normsIn, candsIn, lengthsOk, lentOk}
+use Rattle.layout.specs.Slices.{Lent, cellsIn, normsIn, candsIn, lengthsOk, lentOk, extentOf}
 use Rattle.layout.specs.declared.Extent.{Extent}
-use Rattle.layout.specs.Spans.{extentOf}
 use Rattle.panel_step.specs.Panel.{inUse, putBack, panelRefusal, refusalIn}
 use Rattle.panel_step.proofs.Rooms.{Fit, fit-of}
 

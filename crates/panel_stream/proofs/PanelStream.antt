@@ -16,7 +16,7 @@ use Rattle.header.specs.declared.Mode.the-variants as mode
 use Rattle.header.specs.Shape.{shapeRefusal}
 use Rattle.header.specs.Header.{zeroHeader}
 use Rattle.univmon.specs.declared.Kind.the-variants as kind
-use Rattle.layout.specs.Slices.{Lent, lentOk, flat, freshLent}
+use Rattle.layout.specs.Slices.{Lent, lentOk, flat, freshLent, extentOf}
 use Rattle.layout.specs.Outcomes.{Outcome, Left, left, leftBy}
 use Rattle.univmon.specs.Calls.{updateCall}
 use Rattle.shared_streams.specs.Books.{Update}
@@ -31,7 +31,6 @@ use Rattle.panel_lines.specs.declared.line.Request.the-variants as ask
 use Rattle.panel_lines.specs.Line.{readOf}
 use Rattle.panel_lines.specs.Answers.{refusedText}
 use Rattle.panel_lines.specs.Split.{lines, wholeOf}
-use Rattle.layout.specs.Spans.{extentOf}
 use Rattle.panel_step.specs.Panel.{inUse, putBack, panelRefusal, paperRefusal, refusalIn, shapeCall, started, backBy, addCall, panelText, showLine, Reply, answerTo, answerLine, answersOf, runOf}
 use Rattle.panel_step.proofs.Rooms.{fit-of, own-refusal}
 use Rattle.panel_step.proofs.Runs.{run-whole}

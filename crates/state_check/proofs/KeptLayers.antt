@@ -19,9 +19,9 @@ use Rattle.countsketch_l2_norm.proofs.After.{length-cell, length-cell-norms, le
 use Rattle.heap_moves.specs.declared.Item.{Item}
 use Rattle.heap_moves.specs.Cands.{noCand}
 use Rattle.heap_moves.specs.Flat.{candOf}
-use Rattle.heap_moves.specs.Totals.{Each}
+use Rattle.heap_moves.specs.inner.Totals.{Each}
 use Rattle.heap.specs.Offer.{Table}
-use Rattle.heap.specs.Sound.{Sound}
+use Rattle.heap.specs.inner.Sound.{Sound}
 use Rattle.heap.proofs.Sounds.{offer-sound, offer-long}
 use Rattle.layer.specs.declared.Dims.{Dims}
 use Rattle.layer.specs.Layer.{Layer, LayerUpdate, hashBy, countOf, offerTo, addSketch, addLayer, addFits, noTable}

@@ -16,12 +16,13 @@ use Rattle.header.specs.declared.Shape.{Shape}
 use Rattle.header.specs.Shape.{shapeRefusal, sameShape}
 use Rattle.header.specs.Totals.{updateTotals, addTotals}
 use Rattle.header.specs.Header.{freshHeader, joined, settled}
-use Rattle.header.specs.Accepted.{Accepted}
+use Rattle.header.specs.inner.Accepted.{Accepted}
 use Rattle.header.proofs.Bottoms.{bottom-lt}
 use Rattle.header.proofs.Refusals.{accepted-of}
 use Rattle.header.proofs.Shapes.{same-of}
 use Rattle.layer.specs.declared.Dims.{Dims}
-use Rattle.layer.specs.Layer.{Layer, noLayer, addLayer, addFits}
+use Rattle.layer.specs.Layer.{Layer, addLayer, addFits}
+use Rattle.layer.specs.inner.Needs.{noLayer}
 use Rattle.layer.specs.Delta.{deltaLayer, deltaFits}
 use Rattle.layer.specs.Merge.{mergeLayer, mergeFits}
 use Rattle.univmon.specs.declared.Kind.{Kind}

@@ -22,13 +22,13 @@ use Rattle.countsketch_l2_norm.specs.Merge.{rowNorm, rowNorms}
 use Rattle.countsketch_l2_norm.proofs.Kept.{Kept}
 use Rattle.countsketch_l2_norm.proofs.Merges.{length-rowNorms, row-at}
 use Rattle.heap_moves.specs.Cands.{Cand, noCand, countAt, parent}
-use Rattle.heap_moves.specs.Totals.{Each}
+use Rattle.heap_moves.specs.inner.Totals.{Each}
 use Rattle.heap_moves.proofs.Views.{item-path, cand-path}
 use Rattle.heap.specs.Offer.{Table}
-use Rattle.heap.specs.Sound.{Sound}
+use Rattle.heap.specs.inner.Sound.{Sound}
 use Rattle.layer.specs.declared.Dims.{Dims}
 use Rattle.layer.specs.Layer.{Layer}
-use Rattle.layer.specs.Needs.{Fits}
+use Rattle.layer.specs.inner.Needs.{Fits}
 use Rattle.state_check.specs.Check.{rowOk, rowsOk, isNone, seatedOk, seatOk, seatsOk, layerOk}
 use Rattle.state_check.proofs.RowSums.{all-of, rows-step, rows-none}
 use Rattle.state_check.proofs.Seatings.{seats-step, seats-none}

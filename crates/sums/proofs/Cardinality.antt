@@ -8,7 +8,7 @@ use lib.IntN.{ℤ, pos}
 use lib.Ieee.{binary64, ofInt}
 use Rattle.sums.specs.Entries.{Entry}
 use Rattle.sums.specs.Layers.{gSum}
-use Rattle.sums.specs.Whole.{onward, entryTimes}
+use Rattle.sums.specs.inner.Whole.{onward, entryTimes}
 use Rattle.sums.specs.declared.G.the-variants.{One}
 use Rattle.sums.proofs.Whole.{sum-whole}
 use Rattle.sums.proofs.Keys.{keys-counted, same-length}

@@ -9,7 +9,7 @@ use lib.IntN.{ℤ, pos, negsuc, subℕ, _+ℤ_, _*ℤ_, +ℤ-assoc, +ℤ-comm}
 use lib.Dec.{eqb}
 use borrow.Author.Tests.{eq-eqb, le-ltb, eqb-true}
 use Rattle.sums.specs.Entries.{Entry}
-use Rattle.sums.specs.Whole.{bitOff, bitSum, keySum, onward, entryTimes}
+use Rattle.sums.specs.inner.Whole.{bitOff, bitSum, keySum, onward, entryTimes}
 
 -- the bits' sum, with those whose bit is 1 counted twice more, counts all
 bits-all : (l : ℕ) (es : List Entry) → pos 2 *ℤ pos (length (onward l es)) +ℤ bitSum l es ≡ pos (length es)

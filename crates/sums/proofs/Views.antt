@@ -7,7 +7,8 @@ use native.Mathlib.Nat.{sub-zero}
 use native.Mathlib.Numerals.{add-one}
 use lib.ListN.{length}
 use lib.Ieee.{Float}
-use Rattle.sums.specs.Entries.{Entry, Space, space, at, entriesIn, listed}
+use Rattle.sums.specs.Entries.{Entry}
+use Rattle.sums.specs.inner.Spaces.{Space, space, at, entriesIn, listed}
 use Rattle.sums.specs.Terms.{plusZero, addTerm, sumOver}
 use Rattle.sums.specs.declared.Rule.{Rule}
 

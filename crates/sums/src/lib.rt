@@ -5,9 +5,9 @@ ghost use mathlib.Core.Path.{_≡_};
 ghost use mathlib.Core.List.{[]};
 ghost use Prim.Native.Nat.{ℕ, _<_, _≤_};
 ghost use lib.ListN.{length};
-ghost use Rattle.sums.specs.Entries.{space, entriesIn};
+ghost use Rattle.sums.specs.inner.Spaces.{space, entriesIn};
 ghost use Rattle.sums.specs.Terms.{plusZero, gOf, factor, counted, addTerm, sumOver};
-ghost use Rattle.sums.specs.Up.{joinedSums};
+ghost use Rattle.sums.specs.inner.Up.{joinedSums};
 
 // What is summed of a count.
 pub enum G {

@@ -7,8 +7,8 @@ use lib.ListN.{getD}
 use lib.IntN.{ℤ}
 use Rattle.heap_moves.specs.declared.Item.{Item}
 use Rattle.layer.specs.declared.Dims.{Dims}
-use Rattle.layer.specs.Layer.{layerUpdate, addReads, addFits}
-use Rattle.layer.specs.Needs.{AddReady}
+use Rattle.layer.specs.Layer.{addReads, addFits}
+use Rattle.layer.specs.inner.Needs.{layerUpdate, AddReady}
 use Rattle.layer.proofs.Tests.{reads-are, fits-are}
 use Rattle.layout.specs.declared.Span.{Span}
 use Rattle.layout.specs.State.{dimsAt}
@@ -16,7 +16,7 @@ use Rattle.layout.specs.Slices.{Lent}
 use Rattle.layout.specs.Records.{itemAt}
 use Rattle.layout.proofs.Views.{shapeBy}
 use Rattle.layout.proofs.Handed.{Spanned, cellPart, normPart, wordPart, seatPart, housed, word-length, handed-is}
-use Rattle.univmon.specs.Needs.{SendReady}
+use Rattle.univmon.specs.inner.Needs.{SendReady}
 
 module _ {r : Lent} {words : List ℕ} {w l : ℕ} {s : Span} (p : SendReady r words w l) (q : Spanned r l s) where
   -- the tests do not look at the flag

@@ -21,14 +21,14 @@ use Rattle.univmon.specs.declared.Kind.{Kind}
 use Rattle.layout.specs.State.{State, layerAt, putLayer, overLayers, withHead}
 use Rattle.layout.specs.Slices.{Lent, lent, view, flat}
 use Rattle.layout.specs.Outcomes.{judge, Left, left, leftBy}
-use Rattle.layout.specs.Needs.{Standing}
+use Rattle.layout.specs.inner.Needs.{Standing}
 use Rattle.layout.proofs.Lengths.{standing-of}
 use Rattle.layout.proofs.Flatten.{lent-is}
 use Rattle.layout.proofs.Judged.{judge-rest, judge-told, left-refused, left-done, left-by}
 use Rattle.univmon.specs.Updates.{modeOf, firstSent, manySent, bottomBy, sentTests, updateTests, updated}
 use Rattle.univmon.specs.Calls.{updateCall, placeTests, lentUpdateCall}
 use Rattle.univmon.proofs.Touched.{sent-room}
-use Rattle.univmon.specs.Needs.{SendsReady, JudgeReady, KeyReady, addsAt, layersTests, sentBy, keySent, soundIn, sentAfter}
+use Rattle.univmon.specs.inner.Needs.{SendsReady, JudgeReady, KeyReady, addsAt, layersTests, sentBy, keySent, soundIn, sentAfter}
 
 -- ---- a header that begins an update changes no layer, before the layers or after them
 

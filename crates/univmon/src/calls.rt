@@ -9,9 +9,9 @@ use header::Header;
 ghost use mathlib.Core.Path.{_≡_};
 ghost use Prim.Native.Nat.{ℕ};
 ghost use Rattle.univmon.specs.declared.Kind.the-variants as kind;
-ghost use Rattle.layout.specs.Slices.{lent};
-ghost use Rattle.layout.specs.Outcomes.{left, leftBy};
+ghost use Rattle.layout.specs.Outcomes.{left, leftAfter};
 ghost use Rattle.univmon.specs.Calls.{updateCall};
+ghost use Rattle.layout.specs.Lending.{lentIn, lentOut};
 
 // An update of any kind, on anything: 9, 12, 5, 6, 7, 9, 11. Refused or not, lengths and flags go back
 // from where they were lent, and a refused update left them as they were: so no second copy is kept.
@@ -25,9 +25,8 @@ fn update_held(
     words: &[u64],
     weight: i64,
 ) -> Answered
-    ensures { λ r. ⌜ left (r .refusal) (lent (r .header) (now (counters .exit)) (now (norms .exit)) (now (entries .exit)) (now (counts .exit)))
-        ≡ leftBy (lent header (now (counters .entry)) (now (norms .entry)) (now (entries .entry)) (now (counts .entry)))
-        (updateCall kind (lent header (now (counters .entry)) (now (norms .entry)) (now (entries .entry)) (now (counts .entry))) (now (words .entry)) weight) ⌝ }
+    ensures { λ r. ⌜ left (r .refusal) (lentOut (r .header) counters norms entries counts)
+        ≡ leftAfter (λ s. updateCall kind s (now (words .entry)) weight) (lentIn header counters norms entries counts) ⌝ }
 {
     let begun = header.begin_update(weight, mode_of(kind));
     let mut flags = header.flags;
@@ -68,9 +67,8 @@ pub fn update_weighted(
     words: &[u64],
     weight: i64,
 ) -> Answered
-    ensures { λ r. ⌜ left (r .refusal) (lent (r .header) (now (counters .exit)) (now (norms .exit)) (now (entries .exit)) (now (counts .exit)))
-        ≡ leftBy (lent header (now (counters .entry)) (now (norms .entry)) (now (entries .entry)) (now (counts .entry)))
-        (updateCall kind.Standard (lent header (now (counters .entry)) (now (norms .entry)) (now (entries .entry)) (now (counts .entry))) (now (words .entry)) weight) ⌝ }
+    ensures { λ r. ⌜ left (r .refusal) (lentOut (r .header) counters norms entries counts)
+        ≡ leftAfter (λ s. updateCall kind.Standard s (now (words .entry)) weight) (lentIn header counters norms entries counts) ⌝ }
 {
     update_held(
         Kind::Standard,
@@ -94,9 +92,8 @@ pub fn update_weighted_terminal(
     words: &[u64],
     weight: i64,
 ) -> Answered
-    ensures { λ r. ⌜ left (r .refusal) (lent (r .header) (now (counters .exit)) (now (norms .exit)) (now (entries .exit)) (now (counts .exit)))
-        ≡ leftBy (lent header (now (counters .entry)) (now (norms .entry)) (now (entries .entry)) (now (counts .entry)))
-        (updateCall kind.Terminal (lent header (now (counters .entry)) (now (norms .entry)) (now (entries .entry)) (now (counts .entry))) (now (words .entry)) weight) ⌝ }
+    ensures { λ r. ⌜ left (r .refusal) (lentOut (r .header) counters norms entries counts)
+        ≡ leftAfter (λ s. updateCall kind.Terminal s (now (words .entry)) weight) (lentIn header counters norms entries counts) ⌝ }
 {
     update_held(
         Kind::Terminal,

@@ -10,10 +10,11 @@ ghost use mathlib.Core.Path.{_≡_};
 ghost use mathlib.Core.Bool.{Bool, true};
 ghost use Prim.Native.Nat.{ℕ, _+_, _<_};
 ghost use Rattle.words.specs.Tests.{number};
-ghost use Rattle.header.specs.Header.{headOf};
 ghost use Rattle.layout.specs.State.{layerAt, allLayers};
-ghost use Rattle.layout.specs.Slices.{lent, view};
-ghost use Rattle.univmon.specs.Needs.{JudgeReady, readsAt, readyAt, layersTests};
+ghost use Rattle.layout.specs.Slices.{view};
+ghost use Rattle.univmon.specs.inner.Needs.{JudgeReady, readsAt, readyAt, layersTests};
+ghost use Rattle.header.specs.Lending.{headIn, headNow};
+ghost use Rattle.layout.specs.Lending.{lentIn, lentNow};
 
 // Whether one layer is ready for the update.
 fn ready_at(
@@ -28,8 +29,8 @@ fn ready_at(
     weight: u64,
     l: usize,
 ) -> bool
-    requires { ⌜ JudgeReady (lent (headOf h (now flags) (now lens)) (now counters) (now norms) (now entries) (now counts)) (now words) weight 1 l ⌝ }
-    ensures { λ r. ⌜ r ≡ readyAt (h .shape) (now (words .entry)) weight l (layerAt (view (lent (headOf h (now (flags .entry)) (now (lens .entry))) (now (counters .entry)) (now (norms .entry)) (now (entries .entry)) (now (counts .entry)))) l) ⌝ }
+    requires { ⌜ JudgeReady (lentNow (headNow h lens flags) counters norms entries counts) (now words) weight 1 l ⌝ }
+    ensures { λ r. ⌜ r ≡ readyAt (h .shape) (now (words .entry)) weight l (layerAt (view (lentIn (headIn h lens flags) counters norms entries counts)) l) ⌝ }
 {
     let shape = h.shape;
     let d = dims(shape, l);
@@ -58,8 +59,8 @@ fn reads_at(
     words: &[u64],
     l: usize,
 ) -> bool
-    requires { ⌜ JudgeReady (lent (headOf h (now flags) (now lens)) (now counters) (now norms) (now entries) (now counts)) (now words) 0 1 l ⌝ }
-    ensures { λ r. ⌜ ((w : ℕ) → r ≡ readsAt (h .shape) (now (words .entry)) w l (layerAt (view (lent (headOf h (now (flags .entry)) (now (lens .entry))) (now (counters .entry)) (now (norms .entry)) (now (entries .entry)) (now (counts .entry)))) l)) ⌝ }
+    requires { ⌜ JudgeReady (lentNow (headNow h lens flags) counters norms entries counts) (now words) 0 1 l ⌝ }
+    ensures { λ r. ⌜ ((w : ℕ) → r ≡ readsAt (h .shape) (now (words .entry)) w l (layerAt (view (lentIn (headIn h lens flags) counters norms entries counts)) l)) ⌝ }
 {
     let shape = h.shape;
     let d = dims(shape, l);
@@ -89,8 +90,8 @@ fn all_ready(
     first: usize,
     many: usize,
 ) -> bool
-    requires { ⌜ JudgeReady (lent (headOf h (now flags) (now lens)) (now counters) (now norms) (now entries) (now counts)) (now words) weight many first ⌝ }
-    ensures { λ r. ⌜ r ≡ allLayers (readyAt (h .shape) (now (words .entry)) weight) many first (view (lent (headOf h (now (flags .entry)) (now (lens .entry))) (now (counters .entry)) (now (norms .entry)) (now (entries .entry)) (now (counts .entry)))) ⌝ }
+    requires { ⌜ JudgeReady (lentNow (headNow h lens flags) counters norms entries counts) (now words) weight many first ⌝ }
+    ensures { λ r. ⌜ r ≡ allLayers (readyAt (h .shape) (now (words .entry)) weight) many first (view (lentIn (headIn h lens flags) counters norms entries counts)) ⌝ }
 {
     let end = first + many;
     let mut l = first;
@@ -127,8 +128,8 @@ fn all_read(
     first: usize,
     many: usize,
 ) -> bool
-    requires { ⌜ JudgeReady (lent (headOf h (now flags) (now lens)) (now counters) (now norms) (now entries) (now counts)) (now words) 0 many first ⌝ }
-    ensures { λ r. ⌜ ((w : ℕ) → r ≡ allLayers (readsAt (h .shape) (now (words .entry)) w) many first (view (lent (headOf h (now (flags .entry)) (now (lens .entry))) (now (counters .entry)) (now (norms .entry)) (now (entries .entry)) (now (counts .entry))))) ⌝ }
+    requires { ⌜ JudgeReady (lentNow (headNow h lens flags) counters norms entries counts) (now words) 0 many first ⌝ }
+    ensures { λ r. ⌜ ((w : ℕ) → r ≡ allLayers (readsAt (h .shape) (now (words .entry)) w) many first (view (lentIn (headIn h lens flags) counters norms entries counts))) ⌝ }
 {
     let end = first + many;
     let mut l = first;
@@ -157,8 +158,8 @@ pub fn judge_layers(
     first: usize,
     many: usize,
 ) -> u64
-    requires { ⌜ JudgeReady (lent (headOf h (now flags) (now lens)) (now counters) (now norms) (now entries) (now counts)) (now words) weight many first ⌝ }
-    ensures { λ r. ⌜ r ≡ number (layersTests (h .shape) (now (words .entry)) weight many first (view (lent (headOf h (now (flags .entry)) (now (lens .entry))) (now (counters .entry)) (now (norms .entry)) (now (entries .entry)) (now (counts .entry))))) ⌝ }
+    requires { ⌜ JudgeReady (lentNow (headNow h lens flags) counters norms entries counts) (now words) weight many first ⌝ }
+    ensures { λ r. ⌜ r ≡ number (layersTests (h .shape) (now (words .entry)) weight many first (view (lentIn (headIn h lens flags) counters norms entries counts))) ⌝ }
 {
     if all_ready(
         h,

@@ -8,11 +8,11 @@ use header::AnsweredLent;
 use header::Scalars;
 ghost use mathlib.Core.Path.{_≡_};
 ghost use Prim.Native.Nat.{ℕ};
-ghost use Rattle.header.specs.Header.{headOf};
 ghost use Rattle.univmon.specs.declared.Kind.the-variants as kind;
-ghost use Rattle.layout.specs.Slices.{lent};
-ghost use Rattle.layout.specs.Outcomes.{left, leftBy};
+ghost use Rattle.layout.specs.Outcomes.{left, leftAfter};
 ghost use Rattle.univmon.specs.Calls.{lentUpdateCall};
+ghost use Rattle.header.specs.Lending.{headIn, headOut};
+ghost use Rattle.layout.specs.Lending.{lentIn, lentOut};
 
 // An update of any kind, on anything.
 fn update_lent(
@@ -27,9 +27,8 @@ fn update_lent(
     words: &[u64],
     weight: i64,
 ) -> AnsweredLent
-    ensures { λ r. ⌜ left (r .refusal) (lent (headOf (r .scalars) (now (flags .exit)) (now (lens .exit))) (now (counters .exit)) (now (norms .exit)) (now (entries .exit)) (now (counts .exit)))
-        ≡ leftBy (lent (headOf had (now (flags .entry)) (now (lens .entry))) (now (counters .entry)) (now (norms .entry)) (now (entries .entry)) (now (counts .entry)))
-        (lentUpdateCall kind (lent (headOf had (now (flags .entry)) (now (lens .entry))) (now (counters .entry)) (now (norms .entry)) (now (entries .entry)) (now (counts .entry))) (now (words .entry)) weight) ⌝ }
+    ensures { λ r. ⌜ left (r .refusal) (lentOut (headOut (r .scalars) lens flags) counters norms entries counts)
+        ≡ leftAfter (λ s. lentUpdateCall kind s (now (words .entry)) weight) (lentIn (headIn had lens flags) counters norms entries counts) ⌝ }
 {
     let begun = had.begin_update(weight, mode_of(kind));
     let refusal = update(
@@ -66,9 +65,8 @@ pub fn update_weighted_lent(
     words: &[u64],
     weight: i64,
 ) -> AnsweredLent
-    ensures { λ r. ⌜ left (r .refusal) (lent (headOf (r .scalars) (now (flags .exit)) (now (lens .exit))) (now (counters .exit)) (now (norms .exit)) (now (entries .exit)) (now (counts .exit)))
-        ≡ leftBy (lent (headOf had (now (flags .entry)) (now (lens .entry))) (now (counters .entry)) (now (norms .entry)) (now (entries .entry)) (now (counts .entry)))
-        (lentUpdateCall kind.Standard (lent (headOf had (now (flags .entry)) (now (lens .entry))) (now (counters .entry)) (now (norms .entry)) (now (entries .entry)) (now (counts .entry))) (now (words .entry)) weight) ⌝ }
+    ensures { λ r. ⌜ left (r .refusal) (lentOut (headOut (r .scalars) lens flags) counters norms entries counts)
+        ≡ leftAfter (λ s. lentUpdateCall kind.Standard s (now (words .entry)) weight) (lentIn (headIn had lens flags) counters norms entries counts) ⌝ }
 {
     update_lent(
         Kind::Standard,
@@ -96,9 +94,8 @@ pub fn update_weighted_terminal_lent(
     words: &[u64],
     weight: i64,
 ) -> AnsweredLent
-    ensures { λ r. ⌜ left (r .refusal) (lent (headOf (r .scalars) (now (flags .exit)) (now (lens .exit))) (now (counters .exit)) (now (norms .exit)) (now (entries .exit)) (now (counts .exit)))
-        ≡ leftBy (lent (headOf had (now (flags .entry)) (now (lens .entry))) (now (counters .entry)) (now (norms .entry)) (now (entries .entry)) (now (counts .entry)))
-        (lentUpdateCall kind.Terminal (lent (headOf had (now (flags .entry)) (now (lens .entry))) (now (counters .entry)) (now (norms .entry)) (now (entries .entry)) (now (counts .entry))) (now (words .entry)) weight) ⌝ }
+    ensures { λ r. ⌜ left (r .refusal) (lentOut (headOut (r .scalars) lens flags) counters norms entries counts)
+        ≡ leftAfter (λ s. lentUpdateCall kind.Terminal s (now (words .entry)) weight) (lentIn (headIn had lens flags) counters norms entries counts) ⌝ }
 {
     update_lent(
         Kind::Terminal,

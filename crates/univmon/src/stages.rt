@@ -12,11 +12,11 @@ ghost use Prim.Native.Nat.{ℕ, _≤_};
 ghost use lib.IntN.{natAbs};
 ghost use Rattle.words.specs.Num.{top};
 ghost use Rattle.words.specs.Tests.{number};
-ghost use Rattle.header.specs.Header.{headOf};
-ghost use Rattle.layout.specs.Slices.{lent};
 ghost use Rattle.univmon.specs.Updates.{modeOf, firstSent};
 ghost use Rattle.layout.specs.Outcomes.{left};
-ghost use Rattle.univmon.specs.Needs.{JudgeReady, KeyReady, soundTests, sentBy, keySent, sentAfter};
+ghost use Rattle.univmon.specs.inner.Needs.{JudgeReady, KeyReady, soundTests, sentBy, keySent, sentAfter};
+ghost use Rattle.header.specs.Lending.{headIn, headNow, headOut};
+ghost use Rattle.layout.specs.Lending.{lentIn, lentNow, lentOut};
 
 pub fn mode_of(kind: Kind) -> Mode
     ensures { λ r. ⌜ r ≡ modeOf kind ⌝ }
@@ -49,7 +49,7 @@ fn sound_refusal(
     counts: usize,
     words: usize,
 ) -> u64
-    ensures { λ r. ⌜ r ≡ number (soundTests (headOf had (now (flags .entry)) (now (lens .entry))) counters norms entries counts words) ⌝ }
+    ensures { λ r. ⌜ r ≡ number (soundTests (headIn had lens flags) counters norms entries counts words) ⌝ }
 {
     if lens.len() != Shape::MAX_LAYERS {
         return 9;
@@ -84,9 +84,9 @@ fn send_judged(
     first: usize,
     many: usize,
 ) -> u64
-    requires { ⌜ JudgeReady (lent (headOf h (now flags) (now lens)) (now counters) (now norms) (now entries) (now counts)) (now words) weight many first ⌝ }
-    ensures { λ r. ⌜ left r (lent (headOf h (now (flags .exit)) (now (lens .exit))) (now (counters .exit)) (now (norms .exit)) (now (entries .exit)) (now (counts .exit)))
-        ≡ sentBy (now (words .entry)) weight many first (lent (headOf h (now (flags .entry)) (now (lens .entry))) (now (counters .entry)) (now (norms .entry)) (now (entries .entry)) (now (counts .entry))) ⌝ }
+    requires { ⌜ JudgeReady (lentNow (headNow h lens flags) counters norms entries counts) (now words) weight many first ⌝ }
+    ensures { λ r. ⌜ left r (lentOut (headOut h lens flags) counters norms entries counts)
+        ≡ sentBy (now (words .entry)) weight many first (lentIn (headIn h lens flags) counters norms entries counts) ⌝ }
 {
     let refusal = judge_layers(
         h,
@@ -133,9 +133,9 @@ fn send_key(
     words: &[u64],
     weight: u64,
 ) -> u64
-    requires { ⌜ KeyReady (lent (headOf h (now flags) (now lens)) (now counters) (now norms) (now entries) (now counts)) (now words) weight ⌝ }
-    ensures { λ r. ⌜ left r (lent (headOf h (now (flags .exit)) (now (lens .exit))) (now (counters .exit)) (now (norms .exit)) (now (entries .exit)) (now (counts .exit)))
-        ≡ keySent kind (now (words .entry)) weight (lent (headOf h (now (flags .entry)) (now (lens .entry))) (now (counters .entry)) (now (norms .entry)) (now (entries .entry)) (now (counts .entry))) ⌝ }
+    requires { ⌜ KeyReady (lentNow (headNow h lens flags) counters norms entries counts) (now words) weight ⌝ }
+    ensures { λ r. ⌜ left r (lentOut (headOut h lens flags) counters norms entries counts)
+        ≡ keySent kind (now (words .entry)) weight (lentIn (headIn h lens flags) counters norms entries counts) ⌝ }
 {
     let bottom = header::bottom_of(words[1], h.shape.layers);
     let first = first_sent(kind, bottom);
@@ -170,8 +170,8 @@ pub fn update(
     weight: i64,
 ) -> u64
     requires { ⌜ (begins ≡ 0 → natAbs weight ≤ top) ⌝ }
-    ensures { λ r. ⌜ left r (lent (headOf had (now (flags .exit)) (now (lens .exit))) (now (counters .exit)) (now (norms .exit)) (now (entries .exit)) (now (counts .exit)))
-        ≡ sentAfter kind begins (now (words .entry)) weight (lent (headOf had (now (flags .entry)) (now (lens .entry))) (now (counters .entry)) (now (norms .entry)) (now (entries .entry)) (now (counts .entry))) ⌝ }
+    ensures { λ r. ⌜ left r (lentOut (headOut had lens flags) counters norms entries counts)
+        ≡ sentAfter kind begins (now (words .entry)) weight (lentIn (headIn had lens flags) counters norms entries counts) ⌝ }
 {
     let refusal = sound_refusal(
         had,

@@ -7,13 +7,15 @@ use layout::item_in;
 ghost use mathlib.Core.Path.{_≡_};
 ghost use mathlib.Core.Bool.{Bool};
 ghost use Prim.Native.Nat.{ℕ, _+_};
-ghost use Rattle.layer.specs.Layer.{layerUpdate, addLayer};
-ghost use Rattle.header.specs.Header.{headOf};
+ghost use Rattle.layer.specs.Layer.{addLayer};
+ghost use Rattle.layer.specs.inner.Needs.{layerUpdate};
 ghost use Rattle.layout.specs.State.{dimsAt, layerAt, putLayer, overLayers};
-ghost use Rattle.layout.specs.Slices.{lent, view};
+ghost use Rattle.layout.specs.Slices.{view};
 ghost use Rattle.layout.specs.Records.{itemAt};
-ghost use Rattle.layout.specs.Needs.{Standing};
-ghost use Rattle.univmon.specs.Needs.{SendReady, SendsReady, addsAt};
+ghost use Rattle.layout.specs.inner.Needs.{Standing};
+ghost use Rattle.univmon.specs.inner.Needs.{SendReady, SendsReady, addsAt};
+ghost use Rattle.header.specs.Lending.{headIn, headNow, headOut};
+ghost use Rattle.layout.specs.Lending.{lentIn, lentNow, lentOut};
 
 // Sends an update to one layer.
 fn send_one(
@@ -28,11 +30,11 @@ fn send_one(
     weight: u64,
     l: usize,
 )
-    requires { ⌜ SendReady (lent (headOf h (now flags) (now lens)) (now counters) (now norms) (now entries) (now counts)) (now words) weight l ⌝ }
-    ensures { λ r. ⌜ view (lent (headOf h (now (flags .exit)) (now (lens .exit))) (now (counters .exit)) (now (norms .exit)) (now (entries .exit)) (now (counts .exit)))
-        ≡ putLayer (view (lent (headOf h (now (flags .entry)) (now (lens .entry))) (now (counters .entry)) (now (norms .entry)) (now (entries .entry)) (now (counts .entry)))) l
-        (addLayer (dimsAt (h .shape) l) (layerUpdate (itemAt (now (words .entry)) l) weight) (layerAt (view (lent (headOf h (now (flags .entry)) (now (lens .entry))) (now (counters .entry)) (now (norms .entry)) (now (entries .entry)) (now (counts .entry)))) l)) ⌝ }
-    ensures { λ r. ⌜ Standing (lent (headOf h (now (flags .exit)) (now (lens .exit))) (now (counters .exit)) (now (norms .exit)) (now (entries .exit)) (now (counts .exit))) ⌝ }
+    requires { ⌜ SendReady (lentNow (headNow h lens flags) counters norms entries counts) (now words) weight l ⌝ }
+    ensures { λ r. ⌜ view (lentOut (headOut h lens flags) counters norms entries counts)
+        ≡ putLayer (view (lentIn (headIn h lens flags) counters norms entries counts)) l
+        (addLayer (dimsAt (h .shape) l) (layerUpdate (itemAt (now (words .entry)) l) weight) (layerAt (view (lentIn (headIn h lens flags) counters norms entries counts)) l)) ⌝ }
+    ensures { λ r. ⌜ Standing (lentOut (headOut h lens flags) counters norms entries counts) ⌝ }
 {
     let shape = h.shape;
     let s = span_of(shape, l);
@@ -78,10 +80,10 @@ pub fn send(
     first: usize,
     many: usize,
 )
-    requires { ⌜ SendsReady (lent (headOf h (now flags) (now lens)) (now counters) (now norms) (now entries) (now counts)) (now words) weight many first ⌝ }
-    ensures { λ r. ⌜ view (lent (headOf h (now (flags .exit)) (now (lens .exit))) (now (counters .exit)) (now (norms .exit)) (now (entries .exit)) (now (counts .exit)))
-        ≡ overLayers (addsAt (h .shape) (now (words .entry)) weight) many first (view (lent (headOf h (now (flags .entry)) (now (lens .entry))) (now (counters .entry)) (now (norms .entry)) (now (entries .entry)) (now (counts .entry)))) ⌝ }
-    ensures { λ r. ⌜ Standing (lent (headOf h (now (flags .exit)) (now (lens .exit))) (now (counters .exit)) (now (norms .exit)) (now (entries .exit)) (now (counts .exit))) ⌝ }
+    requires { ⌜ SendsReady (lentNow (headNow h lens flags) counters norms entries counts) (now words) weight many first ⌝ }
+    ensures { λ r. ⌜ view (lentOut (headOut h lens flags) counters norms entries counts)
+        ≡ overLayers (addsAt (h .shape) (now (words .entry)) weight) many first (view (lentIn (headIn h lens flags) counters norms entries counts)) ⌝ }
+    ensures { λ r. ⌜ Standing (lentOut (headOut h lens flags) counters norms entries counts) ⌝ }
 {
     let end = first + many;
     let mut l = first;

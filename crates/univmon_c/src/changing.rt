@@ -12,12 +12,12 @@ ghost use mathlib.Core.Bool.{Bool, true};
 ghost use Prim.Native.Nat.{ℕ};
 ghost use Rattle.header.specs.Shape.{shapeRefusal, bottomLayer};
 ghost use Rattle.univmon.specs.declared.Kind.the-variants as kind;
-ghost use Rattle.univmon_delta.specs.Arriving.{arrival};
+ghost use Rattle.univmon_delta.specs.Deltas.{arrival, deltaCall};
 ghost use Rattle.univmon.specs.Calls.{newCall, updateCall, clearCall, weightCall, markCall, markLayerCall};
-ghost use Rattle.univmon_delta.specs.Deltas.{deltaCall};
 ghost use Rattle.univmon_merge.specs.Merges.{mergeCall};
 ghost use Rattle.univmon_c.specs.Crossing.{isFidelity, fidelityOf, cBottom};
-ghost use Rattle.univmon_c.specs.Calls.{cLent, cLeft, crossed, changeBy, mergeBy, headBy};
+ghost use Rattle.univmon_c.specs.Calls.{cLeft, crossed, changeBy, mergeBy, headBy};
+ghost use Rattle.univmon_c.specs.Lending.{cLentIn, cLentOut};
 
 // The greatest number that is a fidelity.
 const LAST_FIDELITY: u64 = 1;
@@ -59,7 +59,7 @@ pub extern "C" fn univmon_new(
     entries: &mut [u64],
     counts: &mut [i64],
 ) -> CAnswered
-    ensures { λ r. ⌜ cLeft (r .refusal) (cLent (r .header) (now (counters .exit)) (now (norms .exit)) (now (entries .exit)) (now (counts .exit)))
+    ensures { λ r. ⌜ cLeft (r .refusal) (cLentOut (r .header) counters norms entries counts)
         ≡ crossed (newCall (record { «heap_size» = «heap_size»; rows = rows; cols = cols; layers = layers }) (now (counters .entry)) (now (norms .entry)) (now (entries .entry)) (now (counts .entry))) ⌝ }
 {
     c_answered(univmon::new(
@@ -83,8 +83,8 @@ pub extern "C" fn univmon_clear(
     entries: &mut [u64],
     counts: &mut [i64],
 ) -> CAnswered
-    ensures { λ r. ⌜ cLeft (r .refusal) (cLent (r .header) (now (counters .exit)) (now (norms .exit)) (now (entries .exit)) (now (counts .exit)))
-        ≡ changeBy true clearCall (cLent header (now (counters .entry)) (now (norms .entry)) (now (entries .entry)) (now (counts .entry))) ⌝ }
+    ensures { λ r. ⌜ cLeft (r .refusal) (cLentOut (r .header) counters norms entries counts)
+        ≡ changeBy true clearCall (cLentIn header counters norms entries counts) ⌝ }
 {
     if LAST_MODE < header.mode {
         return CAnswered { refusal: 9, header };
@@ -106,8 +106,8 @@ pub extern "C" fn univmon_update_weighted(
     words: &[u64],
     weight: i64,
 ) -> CAnswered
-    ensures { λ r. ⌜ cLeft (r .refusal) (cLent (r .header) (now (counters .exit)) (now (norms .exit)) (now (entries .exit)) (now (counts .exit)))
-        ≡ changeBy true (λ s. updateCall kind.Standard s (now (words .entry)) weight) (cLent header (now (counters .entry)) (now (norms .entry)) (now (entries .entry)) (now (counts .entry))) ⌝ }
+    ensures { λ r. ⌜ cLeft (r .refusal) (cLentOut (r .header) counters norms entries counts)
+        ≡ changeBy true (λ s. updateCall kind.Standard s (now (words .entry)) weight) (cLentIn header counters norms entries counts) ⌝ }
 {
     if LAST_MODE < header.mode {
         return CAnswered { refusal: 9, header };
@@ -127,8 +127,8 @@ pub extern "C" fn univmon_update_weighted_terminal(
     words: &[u64],
     weight: i64,
 ) -> CAnswered
-    ensures { λ r. ⌜ cLeft (r .refusal) (cLent (r .header) (now (counters .exit)) (now (norms .exit)) (now (entries .exit)) (now (counts .exit)))
-        ≡ changeBy true (λ s. updateCall kind.Terminal s (now (words .entry)) weight) (cLent header (now (counters .entry)) (now (norms .entry)) (now (entries .entry)) (now (counts .entry))) ⌝ }
+    ensures { λ r. ⌜ cLeft (r .refusal) (cLentOut (r .header) counters norms entries counts)
+        ≡ changeBy true (λ s. updateCall kind.Terminal s (now (words .entry)) weight) (cLentIn header counters norms entries counts) ⌝ }
 {
     if LAST_MODE < header.mode {
         return CAnswered { refusal: 9, header };
@@ -161,9 +161,9 @@ pub extern "C" fn univmon_apply_delta(
     count: i32,
     fidelity: u64,
 ) -> CAnswered
-    ensures { λ r. ⌜ cLeft (r .refusal) (cLent (r .header) (now (counters .exit)) (now (norms .exit)) (now (entries .exit)) (now (counts .exit)))
+    ensures { λ r. ⌜ cLeft (r .refusal) (cLentOut (r .header) counters norms entries counts)
         ≡ changeBy (isFidelity fidelity) (λ s. deltaCall s (now (words .entry)) (arrival layer row col count (fidelityOf fidelity)))
-        (cLent header (now (counters .entry)) (now (norms .entry)) (now (entries .entry)) (now (counts .entry))) ⌝ }
+        (cLentIn header counters norms entries counts) ⌝ }
 {
     if LAST_MODE < header.mode {
         return CAnswered { refusal: 9, header };
@@ -204,9 +204,9 @@ pub extern "C" fn univmon_merge(
     other_entries: &[u64],
     other_counts: &[i64],
 ) -> CAnswered
-    ensures { λ r. ⌜ cLeft (r .refusal) (cLent (r .header) (now (counters .exit)) (now (norms .exit)) (now (entries .exit)) (now (counts .exit)))
-        ≡ mergeBy mergeCall (cLent header (now (counters .entry)) (now (norms .entry)) (now (entries .entry)) (now (counts .entry)))
-        (cLent other (now («other_counters» .entry)) (now («other_norms» .entry)) (now («other_entries» .entry)) (now («other_counts» .entry))) ⌝ }
+    ensures { λ r. ⌜ cLeft (r .refusal) (cLentOut (r .header) counters norms entries counts)
+        ≡ mergeBy mergeCall (cLentIn header counters norms entries counts)
+        (cLentIn other «other_counters» «other_norms» «other_entries» «other_counts») ⌝ }
 {
     if LAST_MODE < header.mode {
         return CAnswered { refusal: 9, header };

@@ -10,8 +10,8 @@ ghost use mathlib.Core.Bool.{Bool, true};
 ghost use Prim.Native.Nat.{ℕ};
 ghost use Rattle.univmon.specs.declared.Kind.the-variants as kind;
 ghost use Rattle.univmon.specs.Calls.{lentUpdateCall};
-ghost use Rattle.univmon_c.specs.Crossing.{cHead};
-ghost use Rattle.univmon_c.specs.Calls.{cLent, cLeft, changeBy};
+ghost use Rattle.univmon_c.specs.Calls.{cLeft, changeBy};
+ghost use Rattle.univmon_c.specs.Lending.{cHeadIn, cHeadOut, cLentIn, cLentOut};
 
 // The key goes to layers 0 to its bottom layer.
 #[no_mangle]
@@ -28,8 +28,8 @@ pub extern "C" fn univmon_update_weighted_lent(
     words: &[u64],
     weight: i64,
 ) -> CStep
-    ensures { λ r. ⌜ cLeft (r .refusal) (cLent (cHead shape (r .weight) (r .mode) (now (lens .exit)) (now (flags .exit))) (now (counters .exit)) (now (norms .exit)) (now (entries .exit)) (now (counts .exit)))
-        ≡ changeBy true (λ s. lentUpdateCall kind.Standard s (now (words .entry)) weight) (cLent (cHead shape «weight_had» mode (now (lens .entry)) (now (flags .entry))) (now (counters .entry)) (now (norms .entry)) (now (entries .entry)) (now (counts .entry))) ⌝ }
+    ensures { λ r. ⌜ cLeft (r .refusal) (cLentOut (cHeadOut shape (r .weight) (r .mode) lens flags) counters norms entries counts)
+        ≡ changeBy true (λ s. lentUpdateCall kind.Standard s (now (words .entry)) weight) (cLentIn (cHeadIn shape «weight_had» mode lens flags) counters norms entries counts) ⌝ }
 {
     if LAST_MODE < mode {
         return CStep {
@@ -67,8 +67,8 @@ pub extern "C" fn univmon_update_weighted_terminal_lent(
     words: &[u64],
     weight: i64,
 ) -> CStep
-    ensures { λ r. ⌜ cLeft (r .refusal) (cLent (cHead shape (r .weight) (r .mode) (now (lens .exit)) (now (flags .exit))) (now (counters .exit)) (now (norms .exit)) (now (entries .exit)) (now (counts .exit)))
-        ≡ changeBy true (λ s. lentUpdateCall kind.Terminal s (now (words .entry)) weight) (cLent (cHead shape «weight_had» mode (now (lens .entry)) (now (flags .entry))) (now (counters .entry)) (now (norms .entry)) (now (entries .entry)) (now (counts .entry))) ⌝ }
+    ensures { λ r. ⌜ cLeft (r .refusal) (cLentOut (cHeadOut shape (r .weight) (r .mode) lens flags) counters norms entries counts)
+        ≡ changeBy true (λ s. lentUpdateCall kind.Terminal s (now (words .entry)) weight) (cLentIn (cHeadIn shape «weight_had» mode lens flags) counters norms entries counts) ⌝ }
 {
     if LAST_MODE < mode {
         return CStep {

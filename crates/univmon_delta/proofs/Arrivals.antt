@@ -9,20 +9,21 @@ use lib.Dec.{leb}
 use Rattle.words.specs.Num.{inRange, allIn, squareCap, capped}
 use Rattle.words.specs.Tests.{number}
 use Rattle.words.proofs.Bools.{and-left}
-use Rattle.countsketch_l2_norm.specs.Sketch.{sketchOf, cellAt}
+use Rattle.countsketch_l2_norm.specs.Sketch.{cellAt}
+use Rattle.countsketch_l2_norm.specs.inner.Needs.{sketchOf}
 use Rattle.countsketch_l2_norm.specs.Estimate.{cellsInRange}
 use Rattle.heap_moves.specs.declared.Item.{Item}
 use Rattle.layer.specs.declared.Dims.{Dims}
-use Rattle.layer.specs.Layer.{Layer, layerOf, hashBy}
-use Rattle.layer.specs.Delta.{Delta, delta, deltaReads, deltaFits}
-use Rattle.layer.specs.Needs.{DeltaReady}
+use Rattle.layer.specs.Layer.{Layer, hashBy}
+use Rattle.layer.specs.inner.Needs.{layerOf, delta, DeltaReady}
+use Rattle.layer.specs.Delta.{Delta, deltaReads, deltaFits}
 use Rattle.layer.proofs.Tests.{delta-reads-are}
 use Rattle.layout.specs.declared.Span.{Span}
 use Rattle.layout.specs.State.{dimsAt}
 use Rattle.layout.specs.Slices.{Lent}
 use Rattle.layout.specs.Records.{itemAt}
 use Rattle.univmon_delta.specs.Deltas.{deltaTestsAt}
-use Rattle.univmon_delta.specs.Arriving.{Arrives}
+use Rattle.univmon_delta.specs.inner.Needs.{Arrives}
 use Rattle.layout.proofs.Views.{shapeBy}
 use Rattle.layout.proofs.Handed.{Spanned, cellPart, normPart, wordPart, seatPart, housed, word-length, handed-is}
 

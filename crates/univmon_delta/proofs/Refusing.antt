@@ -18,7 +18,7 @@ use Rattle.layout.specs.Records.{recordLength}
 use Rattle.layout.proofs.Lengths.{standing-of}
 use Rattle.layout.proofs.Judged.{left-refused, left-done}
 use Rattle.univmon_delta.specs.Deltas.{Arrival, deltaBy, counterTests, deltaTestsAt, deltaTests, arrived, deltaCall}
-use Rattle.univmon_delta.specs.Arriving.{Arrives}
+use Rattle.univmon_delta.specs.inner.Needs.{Arrives}
 
 module _ (r : Lent) (words : List ℕ) (a : Arrival) where
   -- header and lengths are tested first

@@ -52,3 +52,6 @@ deltaTests r words a =
 
 unfoldable pub deltaCall : Lent → List ℕ → Arrival → Outcome
 deltaCall r words a = judge (deltaTests r words a) (flat (arrived (view r) words a))
+
+abbrev pub arrival : ℕ → ℕ → ℕ → ℤ → Fidelity → Arrival
+arrival l row col n f = record { layer = l; row = row; col = col; count = n; fidelity = f }

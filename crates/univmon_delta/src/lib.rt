@@ -16,15 +16,17 @@ ghost use mathlib.Core.Bool.{Bool, true, _&&_};
 ghost use Prim.Native.Nat.{ℕ, _<_};
 ghost use Rattle.words.specs.Tests.{number};
 ghost use Rattle.heap.specs.Offer.{keptBy};
-ghost use Rattle.layer.specs.Delta.{delta, deltaLayer};
+ghost use Rattle.layer.specs.Delta.{deltaLayer};
+ghost use Rattle.layer.specs.inner.Needs.{delta};
 ghost use Rattle.univmon_delta.specs.declared.Fidelity.{Fidelity};
 ghost use Rattle.layout.specs.State.{dimsAt, layerAt, putLayer};
-ghost use Rattle.layout.specs.Slices.{lent, view};
+ghost use Rattle.layout.specs.Slices.{view};
 ghost use Rattle.layout.specs.Records.{itemAt};
-ghost use Rattle.univmon_delta.specs.Deltas.{everyInsert, deltaTestsAt, deltaTests, deltaCall};
-ghost use Rattle.layout.specs.Outcomes.{left, leftBy};
-ghost use Rattle.layout.specs.Needs.{Standing};
-ghost use Rattle.univmon_delta.specs.Arriving.{Placed, Arrives, arrival};
+ghost use Rattle.univmon_delta.specs.Deltas.{everyInsert, deltaTestsAt, deltaTests, deltaCall, arrival};
+ghost use Rattle.layout.specs.Outcomes.{left, leftAfter};
+ghost use Rattle.layout.specs.inner.Needs.{Standing};
+ghost use Rattle.univmon_delta.specs.inner.Needs.{Placed, Arrives};
+ghost use Rattle.layout.specs.Lending.{lentIn, lentNow, lentOut};
 
 // How much of the stream reached a relay that is fed by deltas.
 pub enum Fidelity {
@@ -66,9 +68,9 @@ fn judge_delta(
     col: usize,
     count: i64,
 ) -> u64
-    requires { ⌜ Placed (lent h (now counters) (now norms) (now entries) (now counts)) (now words) l row col ⌝ }
+    requires { ⌜ Placed (lentNow h counters norms entries counts) (now words) l row col ⌝ }
     ensures { λ r. ⌜ ((every : Bool) → r ≡ number (deltaTestsAt (dimsAt (h .shape) l) (delta row col count (itemAt (now (words .entry)) l) every)
-        (layerAt (view (lent h (now (counters .entry)) (now (norms .entry)) (now (entries .entry)) (now (counts .entry)))) l))) ⌝ }
+        (layerAt (view (lentIn h counters norms entries counts)) l))) ⌝ }
 {
     let shape = h.shape;
     let d = dims(shape, l);
@@ -108,12 +110,12 @@ fn deliver(
     count: i64,
     every: bool,
 ) -> Header
-    requires { ⌜ Arrives (lent h (now counters) (now norms) (now entries) (now counts)) (now words) l row col count ⌝ }
-    ensures { λ r. ⌜ view (lent r (now (counters .exit)) (now (norms .exit)) (now (entries .exit)) (now (counts .exit)))
-        ≡ putLayer (view (lent h (now (counters .entry)) (now (norms .entry)) (now (entries .entry)) (now (counts .entry)))) l
+    requires { ⌜ Arrives (lentNow h counters norms entries counts) (now words) l row col count ⌝ }
+    ensures { λ r. ⌜ view (lentOut r counters norms entries counts)
+        ≡ putLayer (view (lentIn h counters norms entries counts)) l
         (deltaLayer (dimsAt (h .shape) l) (delta row col count (itemAt (now (words .entry)) l) every)
-        (layerAt (view (lent h (now (counters .entry)) (now (norms .entry)) (now (entries .entry)) (now (counts .entry)))) l)) ⌝ }
-    ensures { λ r. ⌜ Standing (lent r (now (counters .exit)) (now (norms .exit)) (now (entries .exit)) (now (counts .exit))) ⌝ }
+        (layerAt (view (lentIn h counters norms entries counts)) l)) ⌝ }
+    ensures { λ r. ⌜ Standing (lentOut r counters norms entries counts) ⌝ }
 {
     let shape = h.shape;
     let s = span_of(shape, l);
@@ -157,7 +159,7 @@ fn delta_refusal(
     col: usize,
     count: i64,
 ) -> u64
-    ensures { λ r. ⌜ ((f : Fidelity) → r ≡ number (deltaTests (lent h (now (counters .entry)) (now (norms .entry)) (now (entries .entry)) (now (counts .entry))) (now (words .entry)) (arrival l row col count f))) ⌝ }
+    ensures { λ r. ⌜ ((f : Fidelity) → r ≡ number (deltaTests (lentIn h counters norms entries counts) (now (words .entry)) (arrival l row col count f))) ⌝ }
 {
     let unfit = lent_refusal(h, counters, norms, entries, counts);
     if unfit != 0 {
@@ -205,9 +207,8 @@ pub fn apply_delta(
     count: i32,
     fidelity: Fidelity,
 ) -> Answered
-    ensures { λ r. ⌜ left (r .refusal) (lent (r .header) (now (counters .exit)) (now (norms .exit)) (now (entries .exit)) (now (counts .exit)))
-        ≡ leftBy (lent header (now (counters .entry)) (now (norms .entry)) (now (entries .entry)) (now (counts .entry)))
-        (deltaCall (lent header (now (counters .entry)) (now (norms .entry)) (now (entries .entry)) (now (counts .entry))) (now (words .entry)) (arrival layer row col count fidelity)) ⌝ }
+    ensures { λ r. ⌜ left (r .refusal) (lentOut (r .header) counters norms entries counts)
+        ≡ leftAfter (λ s. deltaCall s (now (words .entry)) (arrival layer row col count fidelity)) (lentIn header counters norms entries counts) ⌝ }
 {
     let n = count as i64;
     let refusal = delta_refusal(

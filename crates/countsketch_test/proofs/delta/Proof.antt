@@ -8,9 +8,9 @@ use borrow.Author.Needs.{needs}
 use borrow.Author.Tests.{not-false}
 use denote.Ref.{now}
 use mir.Facts.{toZ-ofZ}
-use Rattle.matrix_storage.specs.Bits.{Shaped}
-use Rattle.countsketch_l2_norm.specs.Sketch.{sketchOf, cellRead}
-use Rattle.countsketch_l2_norm.specs.Needs.{CellPlaced}
+use Rattle.matrix_storage.specs.inner.Shaped.{Shaped}
+use Rattle.countsketch_l2_norm.specs.Sketch.{cellRead}
+use Rattle.countsketch_l2_norm.specs.inner.Needs.{sketchOf, CellPlaced}
 use Rattle.countsketch_l2_norm.proofs.After.{read-cell}
 use Rattle.countsketch_test.proofs.delta.Statement.{statement}
 use Rattle.countsketch_test.proofs.delta.Tie as tie

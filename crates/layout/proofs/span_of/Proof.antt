@@ -6,7 +6,7 @@ use Rattle.header.specs.Shape.{maxLayers, maxHeap}
 use Rattle.matrix_storage.specs.Bits.{maxRows, maxCols}
 use Rattle.layout.proofs.Offsets.{table-bound, cells-bound, norms-bound, seats-bound, cell-off, norm-off, cand-off}
 use Rattle.layout.specs.State.{rowsAt, colsAt}
-use Rattle.layout.specs.Spans.{spanOf}
+use Rattle.layout.specs.inner.Spans.{spanOf}
 use Rattle.layout.proofs.span_of.Statement.{statement}
 use Rattle.layout.proofs.span_of.Tie as tie
 

@@ -11,8 +11,7 @@ use Rattle.header.specs.Header.{withMode, settled}
 use Rattle.layout.specs.Slices.{lent, view, Lent}
 use Rattle.layout.specs.Outcomes.{left}
 use Rattle.words.specs.Tests.{number}
-use Rattle.univmon_delta.specs.Deltas.{Arrival, arrived, deltaTests}
-use Rattle.univmon_delta.specs.Arriving.{arrival}
+use Rattle.univmon_delta.specs.Deltas.{Arrival, arrived, deltaTests, arrival}
 use Rattle.layout.proofs.Flatten.{lent-is}
 use Rattle.univmon_delta.proofs.Refusing.{call-refused, call-done, arrives-of, arrived-is}
 use Rattle.univmon_delta.proofs.apply_delta.Statement.{statement}

@@ -10,12 +10,14 @@ use denote.Ref.{now}
 use mir.Facts.{toZ-ofZ}
 use Rattle.header.specs.Header.{withLayer}
 use Rattle.layout.specs.Slices.{lent, view, Lent}
-use Rattle.layer.specs.Layer.{Layer, layerOf}
-use Rattle.layer.specs.Delta.{delta, deltaLayer}
+use Rattle.layer.specs.Layer.{Layer}
+use Rattle.layer.specs.inner.Needs.{layerOf, delta}
+use Rattle.layer.specs.Delta.{deltaLayer}
 use Rattle.layer.proofs.Steps.{delta-few}
 use Rattle.layout.specs.State.{dimsAt, layerAt}
 use Rattle.layout.specs.Records.{itemAt}
-use Rattle.heap.specs.Offer.{keptBy, lenBy}
+use Rattle.heap.specs.Offer.{keptBy}
+use Rattle.heap.specs.inner.Slices.{lenBy}
 use Rattle.layout.proofs.Handed.{Spanned, cell-piece, norm-piece, word-piece, seat-piece, handed-is, Back, back-view, back-standing}
 use Rattle.univmon_delta.proofs.Arrivals.{arrive-ready}
 use Rattle.univmon_delta.proofs.deliver.Statement.{statement}
@@ -130,7 +132,7 @@ layer-now c =
 
 -- the header as it is handed back
 header-now : (c : tie.After-touched) → let a = c .before .before .before .before .before .before .before .before .before .before .before .before .before .before .before .before .before .before .before .before .before .before .args in
-    c .touched .result ≡ withLayer (a .h) (a .l) (getD (a .h .flags) (a .l) false && (keptBy (c .before .before .before .before .before .before .before .before .before .apply-delta .result) && a .every)) (lenBy (c .before .before .before .before .before .before .before .before .before .apply-delta .result) (getD (a .h .lens) (a .l) 0))
+    c .touched .result ≡ withLayer (a .h) (a .l) (lenBy (c .before .before .before .before .before .before .before .before .before .apply-delta .result) (getD (a .h .lens) (a .l) 0)) (getD (a .h .flags) (a .l) false && (keptBy (c .before .before .before .before .before .before .before .before .before .apply-delta .result) && a .every))
 header-now c = rw (c .before .before .len-after .ensures, c .before .kept-all .ensures) at (c .touched .ensures)
 
 -- no more candidates than seats

@@ -9,10 +9,9 @@ use mir.Facts.{toZ-ofZ}
 use Rattle.layout.specs.Slices.{lent, Lent}
 use Rattle.layout.specs.Outcomes.{left, lentTests}
 use Rattle.layout.proofs.Lengths.{standing-of}
-use Rattle.layout.specs.Needs.{Standing}
+use Rattle.layout.specs.inner.Needs.{Standing}
 use Rattle.words.proofs.Tests.{Off, off-number}
-use Rattle.univmon_delta.specs.Deltas.{everyInsert, deltaTests}
-use Rattle.univmon_delta.specs.Arriving.{arrival}
+use Rattle.univmon_delta.specs.Deltas.{everyInsert, deltaTests, arrival}
 use Rattle.univmon_delta.proofs.Refusing.{unfit-number}
 use Rattle.univmon_delta.proofs.delta_refusal.Statement.{statement}
 use Rattle.univmon_delta.proofs.delta_refusal.Tie as tie

@@ -12,7 +12,8 @@ use mir.Facts.{toZ-ofZ}
 use Rattle.words.specs.Num.{inRange}
 use Rattle.layout.specs.Slices.{lent, view, Lent}
 use Rattle.layout.specs.Outcomes.{left}
-use Rattle.layer.specs.Delta.{delta, deltaReads, deltaFits}
+use Rattle.layer.specs.Delta.{deltaReads, deltaFits}
+use Rattle.layer.specs.inner.Needs.{delta}
 use Rattle.words.specs.Parts.{part}
 use Rattle.countsketch_l2_norm.specs.Sketch.{cellAt}
 use Rattle.layout.specs.State.{dimsAt, cellOff, normOff, candOff, layerAt}

@@ -7,7 +7,7 @@ use borrow.Author.Needs.{needs, sfits-of}
 use denote.Ref.{now}
 use mir.Facts.{toZ-ofZ}
 use Rattle.countsketch_l2_norm.proofs.Rows.{sum-within}
-use Rattle.countsketch_l2_norm.specs.Norms.{setNorm}
+use Rattle.countsketch_l2_norm.specs.inner.Needs.{setNorm}
 use Rattle.countsketch_l2_norm.specs.Sketch.{cellAt}
 use Rattle.words.proofs.Signed.{back, fits}
 use Rattle.words.proofs.Squares.{capped-le}

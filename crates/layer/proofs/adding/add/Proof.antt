@@ -11,7 +11,8 @@ use mir.Val.{toZ, ofZ}
 use mir.Facts.{toZ-ofZ}
 use Rattle.words.specs.Num.{allIn}
 use Rattle.words.proofs.Bools.{and-left}
-use Rattle.countsketch_l2_norm.specs.Sketch.{sketchOf, rowsRead, rowsFit}
+use Rattle.countsketch_l2_norm.specs.Sketch.{rowsRead, rowsFit}
+use Rattle.countsketch_l2_norm.specs.inner.Needs.{sketchOf}
 use Rattle.layer.specs.Layer.{hashBy}
 use Rattle.layer.proofs.Tests.{reads-are, fits-are}
 use Rattle.layer.proofs.Steps.{add-is}

@@ -13,10 +13,12 @@ use mir.Val.{toZ, ofZ}
 use mir.Facts.{toZ-ofZ}
 use Rattle.words.specs.Num.{allIn}
 use Rattle.words.proofs.Bools.{and-left, and-right}
-use Rattle.countsketch_l2_norm.specs.Sketch.{Sketch, sketchOf, cellAt, cellRead, cellFits, addCell}
+use Rattle.countsketch_l2_norm.specs.Sketch.{Sketch, cellAt, cellRead, cellFits, addCell}
+use Rattle.countsketch_l2_norm.specs.inner.Needs.{sketchOf}
 use Rattle.countsketch_l2_norm.specs.Estimate.{cellsInRange}
 use Rattle.layer.specs.Layer.{hashBy}
-use Rattle.layer.specs.Delta.{delta, deltaFits}
+use Rattle.layer.specs.Delta.{deltaFits}
+use Rattle.layer.specs.inner.Needs.{delta}
 use Rattle.layer.proofs.Tests.{delta-reads-are, cells-set}
 use Rattle.layer.proofs.Steps.{delta-is}
 use Rattle.countsketch_l2_norm.proofs.Places.{place-lt}

@@ -8,7 +8,7 @@ use Rattle.header.specs.Header.{headOf, beginHeader, beginTests, scalarsOf}
 use Rattle.layout.specs.Slices.{lent, Lent}
 use Rattle.layout.specs.Outcomes.{left, leftBy}
 use Rattle.univmon.specs.Calls.{updateCall, lentUpdateCall}
-use Rattle.univmon.specs.Needs.{sentAfter}
+use Rattle.univmon.specs.inner.Needs.{sentAfter}
 use Rattle.header.specs.declared.Answered.{Answered}
 use Rattle.words.specs.Tests.{number}
 use Rattle.header.proofs.Steps.{header-begun, header-number, begin-light}
@@ -63,7 +63,7 @@ same-length-4 c = search needs
 
 -- what all but the beginning left
 left-is : (c : tie.After-update) → let a = c .before .before .before .before .before .before .before .before .before .before .before .before .before .before .before .args in let l = c .update .last in
-    left (c .update .result) (lent (headOf (scalarsOf (a .header)) (l .1 .1 .1 .0) (l .1 .1 .1 .1 .0)) (l .1 .1 .1 .1 .1 .0) (l .1 .1 .1 .1 .1 .1 .0) (l .1 .1 .1 .1 .1 .1 .1 .0) (l .1 .1 .1 .1 .1 .1 .1 .1 .0))
+    left (c .update .result) (lent (headOf (scalarsOf (a .header)) (l .1 .1 .1 .1 .0) (l .1 .1 .1 .0)) (l .1 .1 .1 .1 .1 .0) (l .1 .1 .1 .1 .1 .1 .0) (l .1 .1 .1 .1 .1 .1 .1 .0) (l .1 .1 .1 .1 .1 .1 .1 .1 .0))
     ≡ sentAfter (a .kind) (number (beginTests (scalarsOf (a .header)) (a .weight) (modeOf (a .kind)))) (now (a .words)) (a .weight) (lent-of (c .before .before .before .before .before .before .before .before .before .before .before .before .before .before .before))
 left-is c = rw (toZ-ofZ (c .before .before .before .before .before .before .before .before .before .before .before .before .before .before .before .fits .weight), c .before .before .before .before .before .before .before .scalars .ensures, number-is (c .before .before .before .before .before .before .before .before .before .before)) at (c .update .ensures)
 

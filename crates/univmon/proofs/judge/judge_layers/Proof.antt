@@ -11,7 +11,7 @@ use Rattle.univmon.proofs.judge.judge_layers.Tie as tie
 
 -- the state that is lent
 abbrev lent-of : tie.Start → Lent
-lent-of c = lent (headOf (c .args .h) (now (c .args .flags)) (now (c .args .lens))) (now (c .args .counters)) (now (c .args .norms)) (now (c .args .entries)) (now (c .args .counts))
+lent-of c = lent (headOf (c .args .h) (now (c .args .lens)) (now (c .args .flags))) (now (c .args .counters)) (now (c .args .norms)) (now (c .args .entries)) (now (c .args .counts))
 
 all-ready-requires : tie.Need-all-ready-requires
 all-ready-requires c κs = c .before .before .before .before .before .pre

@@ -9,7 +9,7 @@ use borrow.Author.Needs.{needs}
 use denote.Ref.{now}
 use Rattle.header.specs.Header.{headOf}
 use Rattle.layout.specs.Slices.{lent, Lent}
-use Rattle.univmon.specs.Needs.{readyAt}
+use Rattle.univmon.specs.inner.Needs.{readyAt}
 use Rattle.layout.specs.State.{candOff}
 use Rattle.layout.proofs.Views.{layer-view, housed-here}
 use Rattle.words.specs.Parts.{part}
@@ -21,7 +21,7 @@ dims-requires c κs = search needs
 
 -- the state that is lent
 abbrev lent-of : tie.Start → Lent
-lent-of c = lent (headOf (c .args .h) (now (c .args .flags)) (now (c .args .lens))) (now (c .args .counters)) (now (c .args .norms)) (now (c .args .entries)) (now (c .args .counts))
+lent-of c = lent (headOf (c .args .h) (now (c .args .lens)) (now (c .args .flags))) (now (c .args .counters)) (now (c .args .norms)) (now (c .args .entries)) (now (c .args .counts))
 
 inside : (c : tie.Start) → c .args .l < c .args .h .shape .layers
 inside c = let p = c .pre in omega (arith, p .inside)

@@ -7,7 +7,7 @@ use mir.Facts.{toZ-ofZ}
 use Rattle.header.specs.Header.{headOf, beginOf, beginTests}
 use Rattle.layout.specs.Slices.{lent, Lent}
 use Rattle.layout.specs.Outcomes.{left}
-use Rattle.univmon.specs.Needs.{sentAfter}
+use Rattle.univmon.specs.inner.Needs.{sentAfter}
 use Rattle.header.specs.declared.AnsweredLent.{AnsweredLent}
 use Rattle.words.specs.Tests.{number}
 use Rattle.header.proofs.Steps.{begun-is, begin-number, begin-light}
@@ -24,7 +24,7 @@ begin-update-requires c κs = search needs
 
 -- the state that is lent
 abbrev lent-of : tie.Start → Lent
-lent-of c = lent (headOf (c .args .had) (now (c .args .flags)) (now (c .args .lens))) (now (c .args .counters)) (now (c .args .norms)) (now (c .args .entries)) (now (c .args .counts))
+lent-of c = lent (headOf (c .args .had) (now (c .args .lens)) (now (c .args .flags))) (now (c .args .counters)) (now (c .args .norms)) (now (c .args .entries)) (now (c .args .counts))
 
 -- what the tests of weight and mode answered
 begins : (c : tie.After-begin-update) → c .begin-update .result ≡ beginOf (c .before .before .before .before .before .before .before .args .had) (c .before .before .before .before .before .before .before .args .weight) (modeOf (c .before .before .before .before .before .before .before .args .kind))
@@ -56,7 +56,7 @@ same-length-6 c = search needs
 
 -- what all but the beginning left
 left-is : (c : tie.After-update) → let a = c .before .before .before .before .before .before .before .before .before .before .before .before .before .before .args in let l = c .update .last in
-    left (c .update .result) (lent (headOf (a .had) (l .1 .1 .1 .0) (l .1 .1 .1 .1 .0)) (l .1 .1 .1 .1 .1 .0) (l .1 .1 .1 .1 .1 .1 .0) (l .1 .1 .1 .1 .1 .1 .1 .0) (l .1 .1 .1 .1 .1 .1 .1 .1 .0))
+    left (c .update .result) (lent (headOf (a .had) (l .1 .1 .1 .1 .0) (l .1 .1 .1 .0)) (l .1 .1 .1 .1 .1 .0) (l .1 .1 .1 .1 .1 .1 .0) (l .1 .1 .1 .1 .1 .1 .1 .0) (l .1 .1 .1 .1 .1 .1 .1 .1 .0))
     ≡ sentAfter (a .kind) (number (beginTests (a .had) (a .weight) (modeOf (a .kind)))) (now (a .words)) (a .weight) (lent-of (c .before .before .before .before .before .before .before .before .before .before .before .before .before .before))
 left-is c = rw (toZ-ofZ (c .before .before .before .before .before .before .before .before .before .before .before .before .before .before .fits .weight), number-is (c .before .before .before .before .before .before .before)) at (c .update .ensures)
 

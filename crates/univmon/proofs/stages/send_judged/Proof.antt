@@ -6,7 +6,7 @@ use denote.Ref.{now}
 use Rattle.header.specs.Header.{headOf}
 use Rattle.layout.specs.Slices.{lent, view, Lent}
 use Rattle.layout.specs.Outcomes.{left}
-use Rattle.univmon.specs.Needs.{layersTests}
+use Rattle.univmon.specs.inner.Needs.{layersTests}
 use Rattle.words.specs.Tests.{number}
 use Rattle.univmon.proofs.Updating.{sent-refused, sends-ready, sent-done}
 use Rattle.univmon.proofs.stages.send_judged.Statement.{statement}
@@ -14,7 +14,7 @@ use Rattle.univmon.proofs.stages.send_judged.Tie as tie
 
 -- the state that is lent
 abbrev lent-of : tie.Start → Lent
-lent-of c = lent (headOf (c .args .h) (now (c .args .flags)) (now (c .args .lens))) (now (c .args .counters)) (now (c .args .norms)) (now (c .args .entries)) (now (c .args .counts))
+lent-of c = lent (headOf (c .args .h) (now (c .args .lens)) (now (c .args .flags))) (now (c .args .counters)) (now (c .args .norms)) (now (c .args .entries)) (now (c .args .counts))
 
 judge-layers-requires : tie.Need-judge-layers-requires
 judge-layers-requires c κs = c .before .before .before .before .before .before .before .before .before .before .before .pre

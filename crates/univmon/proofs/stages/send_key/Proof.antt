@@ -18,7 +18,7 @@ shared-slice-read-bottom-of c = search needs
 
 -- the state that is lent
 abbrev lent-of : tie.Start → Lent
-lent-of c = lent (headOf (c .args .h) (now (c .args .flags)) (now (c .args .lens))) (now (c .args .counters)) (now (c .args .norms)) (now (c .args .entries)) (now (c .args .counts))
+lent-of c = lent (headOf (c .args .h) (now (c .args .lens)) (now (c .args .flags))) (now (c .args .counters)) (now (c .args .norms)) (now (c .args .entries)) (now (c .args .counts))
 
 bottom-of-requires : tie.Need-bottom-of-requires
 bottom-of-requires c κs = let q = c .before .before .before .before .before .before .pre .standing .accepted in (q .some, omega (arith, q .few))

@@ -16,7 +16,7 @@ use Rattle.univmon.proofs.stages.sound_refusal.Tie as tie
 
 -- the header of what is lent
 abbrev head-of : tie.Start → Header
-head-of c = headOf (c .args .had) (now (c .args .flags)) (now (c .args .lens))
+head-of c = headOf (c .args .had) (now (c .args .lens)) (now (c .args .flags))
 
 returns : tie.Need-returns
 returns c = rw (ne-eqb _ maxLayers (c .if1 .taken))

@@ -8,7 +8,7 @@ use mir.Facts.{toZ-ofZ}
 use Rattle.header.specs.Header.{headOf}
 use Rattle.layout.specs.Slices.{lent, Lent}
 use Rattle.layout.specs.Outcomes.{left}
-use Rattle.univmon.specs.Needs.{soundIn}
+use Rattle.univmon.specs.inner.Needs.{soundIn}
 use Rattle.words.specs.Tests.{number}
 use Rattle.univmon.proofs.Updating.{key-ready, after-unsound, after-unbegun, after-begun}
 use Rattle.univmon.proofs.stages.update.Statement.{statement}
@@ -25,7 +25,7 @@ same-length-2 c = search needs
 
 -- the state that is lent
 abbrev lent-of : tie.Start → Lent
-lent-of c = lent (headOf (c .args .had) (now (c .args .flags)) (now (c .args .lens))) (now (c .args .counters)) (now (c .args .norms)) (now (c .args .entries)) (now (c .args .counts))
+lent-of c = lent (headOf (c .args .had) (now (c .args .lens)) (now (c .args .flags))) (now (c .args .counters)) (now (c .args .norms)) (now (c .args .entries)) (now (c .args .counts))
 
 returns : tie.Need-returns
 returns c = let a = c .before .before .before .before .before .before .before .before .before .args in after-unsound (a .kind) (a .begins) (now (a .words)) (a .weight) (lent-of (c .before .before .before .before .before .before .before .before .before)) (c .before .sound-refusal .result) (c .before .sound-refusal .ensures) (c .if1 .taken)

@@ -4,26 +4,25 @@ use Prim.Native.Nat.{_+_, _-_}
 use mathlib.Core.Path.{sym, _∙_}
 use native.Mathlib.Omega.{arith}
 use denote.Ref.{now}
-use Rattle.header.specs.Header.{headOf}
+use Rattle.header.specs.Header.{headOf, Headed}
 use Rattle.layout.specs.Slices.{lent, Lent}
 use Rattle.layout.specs.Outcomes.{left}
-use Rattle.layout.specs.Needs.{Headed}
 use Rattle.univmon.proofs.Sending.{Sending, sending-start, sending-ready, sending-on, sending-end}
 use Rattle.univmon.proofs.update.send.Statement.{statement}
 use Rattle.univmon.proofs.update.send.Tie as tie
 
 abbrev Inv-loop : tie.InvT-loop
-Inv-loop h flags₀ lens₀ counters₀ norms₀ entries₀ counts₀ words weight first many end l₀ flags lens counters norms entries counts l = Sending (lent (headOf h flags₀ lens₀) counters₀ norms₀ entries₀ counts₀) words weight many first (lent (headOf h flags lens) counters norms entries counts) l
+Inv-loop h flags₀ lens₀ counters₀ norms₀ entries₀ counts₀ words weight first many end l₀ flags lens counters norms entries counts l = Sending (lent (headOf h lens₀ flags₀) counters₀ norms₀ entries₀ counts₀) words weight many first (lent (headOf h lens flags) counters norms entries counts) l
 
 abbrev μ-loop : tie.MeasureT-loop
 μ-loop h flags₀ lens₀ counters₀ norms₀ entries₀ counts₀ words weight first many end l₀ flags lens counters norms entries counts l = many + first - l
 
 -- the state that was lent, and the state in the loop
 abbrev lent-of : tie.Start Inv-loop μ-loop → Lent
-lent-of c = lent (headOf (c .args .h) (now (c .args .flags)) (now (c .args .lens))) (now (c .args .counters)) (now (c .args .norms)) (now (c .args .entries)) (now (c .args .counts))
+lent-of c = lent (headOf (c .args .h) (now (c .args .lens)) (now (c .args .flags))) (now (c .args .counters)) (now (c .args .norms)) (now (c .args .entries)) (now (c .args .counts))
 
 abbrev lent-here : tie.At-loop Inv-loop μ-loop → Lent
-lent-here c = lent (headOf (c .before .before .before .before .before .before .args .h) (c .loop .flags) (c .loop .lens)) (c .loop .counters) (c .loop .norms) (c .loop .entries) (c .loop .counts)
+lent-here c = lent (headOf (c .before .before .before .before .before .before .args .h) (c .loop .lens) (c .loop .flags)) (c .loop .counters) (c .loop .norms) (c .loop .entries) (c .loop .counts)
 
 add-end : tie.Need-add-end Inv-loop μ-loop
 add-end c = let p = c .before .before .before .before .before .pre in record { fits = omega (arith, p .inside, p .standing .accepted .few) }
@@ -43,7 +42,7 @@ loop-less : tie.Need-loop-less Inv-loop μ-loop
 loop-less c = omega (arith, c .before .before .before .before .before .before .before .before .before .before .before .before .before .before .before .before .before .loop-test .taken)
 
 -- lengths and flags keep their places
-headed-on : (c : tie.After-counts Inv-loop μ-loop) → Headed (headOf (c .before .before .before .before .before .before .before .before .before .before .before .before .before .before .before .before .before .before .before .before .before .before .before .before .args .h) (c .before .before .before .before .before .before .before .before .before .before .send-one .last .1 .0) (c .before .before .before .before .before .before .before .before .before .before .send-one .last .1 .1 .0))
+headed-on : (c : tie.After-counts Inv-loop μ-loop) → Headed (headOf (c .before .before .before .before .before .before .before .before .before .before .before .before .before .before .before .before .before .before .before .before .before .before .before .before .args .h) (c .before .before .before .before .before .before .before .before .before .before .send-one .last .1 .1 .0) (c .before .before .before .before .before .before .before .before .before .before .send-one .last .1 .0))
 headed-on c = let v = c .before .before .before .before .before .before .before .before .before .before .before .before .before .before .before .before .before .before .loop .inv .headed in record { lens = c .before .before .before .before .before .before .before .before .before .before .send-one .kept .1 .1 .0 ∙ v .lens; flags = c .before .before .before .before .before .before .before .before .before .before .send-one .kept .1 .0 ∙ v .flags }
 
 loop-again : tie.Need-loop-again Inv-loop μ-loop

@@ -11,11 +11,13 @@ use Rattle.header.specs.Header.{headOf, withLayer}
 use Rattle.layout.specs.Slices.{lent, view, Lent}
 use Rattle.layout.specs.Outcomes.{left}
 use Rattle.header.proofs.Steps.{touched-kept, touched-lost}
-use Rattle.layer.specs.Layer.{Layer, layerOf, layerUpdate, addLayer}
+use Rattle.layer.specs.Layer.{Layer, addLayer}
+use Rattle.layer.specs.inner.Needs.{layerOf, layerUpdate}
 use Rattle.layer.proofs.Steps.{add-few}
 use Rattle.layout.specs.State.{dimsAt, layerAt}
 use Rattle.layout.specs.Records.{itemAt}
-use Rattle.heap.specs.Offer.{keptBy, lenBy}
+use Rattle.heap.specs.Offer.{keptBy}
+use Rattle.heap.specs.inner.Slices.{lenBy}
 use Rattle.layout.proofs.Handed.{Spanned, cell-piece, norm-piece, word-piece, seat-piece, handed-is, Back, back-view, back-standing}
 use Rattle.univmon.proofs.Sends.{send-ready}
 use Rattle.univmon.proofs.update.send_one.Statement.{statement}
@@ -23,7 +25,7 @@ use Rattle.univmon.proofs.update.send_one.Tie as tie
 
 -- the state that is lent, and where its layer stands
 abbrev lent-of : tie.Start → Lent
-lent-of c = lent (headOf (c .args .h) (now (c .args .flags)) (now (c .args .lens))) (now (c .args .counters)) (now (c .args .norms)) (now (c .args .entries)) (now (c .args .counts))
+lent-of c = lent (headOf (c .args .h) (now (c .args .lens)) (now (c .args .flags))) (now (c .args .counters)) (now (c .args .norms)) (now (c .args .entries)) (now (c .args .counts))
 
 spanned : (c : tie.After-span-of) → Spanned (lent-of (c .before .before .before .before .before .before .before)) (c .before .before .before .before .before .before .before .args .l) (c .span-of .result)
 spanned c = record { standing = c .before .before .before .before .before .before .before .pre .standing; inside = c .before .before .before .before .before .before .before .pre .inside; is = c .span-of .ensures }
@@ -135,19 +137,19 @@ layer-now c =
     ∙ ap (addLayer (dimsAt (a .h .shape) (a .l)) (layerUpdate (itemAt (now (a .words)) (a .l)) (a .weight))) (sym (handed-is (spanned (c .before .before .before .before .before .before .before .before))))
 
 -- flags and lengths as they are handed back
-after-kept : (c : tie.Then1) → let a = c .before .before .before .before .before .before .before .before .before .before .before .before .before .before .before .before .before .before .before .before .before .before .before .before .args in let h = headOf (a .h) (now (a .flags)) (now (a .lens)) in
-    headOf (a .h) (now (a .flags)) (set (now (a .lens)) (a .l) (c .before .before .len-after .result))
-    ≡ withLayer h (a .l) (getD (now (a .flags)) (a .l) false && keptBy (c .before .before .before .before .before .before .before .before .before .add .result)) (lenBy (c .before .before .before .before .before .before .before .before .before .add .result) (getD (now (a .lens)) (a .l) 0))
+after-kept : (c : tie.Then1) → let a = c .before .before .before .before .before .before .before .before .before .before .before .before .before .before .before .before .before .before .before .before .before .before .before .before .args in let h = headOf (a .h) (now (a .lens)) (now (a .flags)) in
+    headOf (a .h) (set (now (a .lens)) (a .l) (c .before .before .len-after .result)) (now (a .flags))
+    ≡ withLayer h (a .l) (lenBy (c .before .before .before .before .before .before .before .before .before .add .result) (getD (now (a .lens)) (a .l) 0)) (getD (now (a .flags)) (a .l) false && keptBy (c .before .before .before .before .before .before .before .before .before .add .result))
 after-kept c =
     let a = c .before .before .before .before .before .before .before .before .before .before .before .before .before .before .before .before .before .before .before .before .before .before .before .before .args in
-    rw (c .before .before .len-after .ensures) (touched-kept (headOf (a .h) (now (a .flags)) (now (a .lens))) (a .l) _ (keptBy (c .before .before .before .before .before .before .before .before .before .add .result)) (sym (c .before .kept .ensures) ∙ c .if1 .taken))
+    rw (c .before .before .len-after .ensures) (touched-kept (headOf (a .h) (now (a .lens)) (now (a .flags))) (a .l) _ (keptBy (c .before .before .before .before .before .before .before .before .before .add .result)) (sym (c .before .kept .ensures) ∙ c .if1 .taken))
 
-after-lost : (c : tie.Else1) → let a = c .before .before .before .before .before .before .before .before .before .before .before .before .before .before .before .before .before .before .before .before .before .before .before .before .args in let h = headOf (a .h) (now (a .flags)) (now (a .lens)) in
-    headOf (a .h) (set (now (a .flags)) (a .l) false) (set (now (a .lens)) (a .l) (c .before .before .len-after .result))
-    ≡ withLayer h (a .l) (getD (now (a .flags)) (a .l) false && keptBy (c .before .before .before .before .before .before .before .before .before .add .result)) (lenBy (c .before .before .before .before .before .before .before .before .before .add .result) (getD (now (a .lens)) (a .l) 0))
+after-lost : (c : tie.Else1) → let a = c .before .before .before .before .before .before .before .before .before .before .before .before .before .before .before .before .before .before .before .before .before .before .before .before .args in let h = headOf (a .h) (now (a .lens)) (now (a .flags)) in
+    headOf (a .h) (set (now (a .lens)) (a .l) (c .before .before .len-after .result)) (set (now (a .flags)) (a .l) false)
+    ≡ withLayer h (a .l) (lenBy (c .before .before .before .before .before .before .before .before .before .add .result) (getD (now (a .lens)) (a .l) 0)) (getD (now (a .flags)) (a .l) false && keptBy (c .before .before .before .before .before .before .before .before .before .add .result))
 after-lost c =
     let a = c .before .before .before .before .before .before .before .before .before .before .before .before .before .before .before .before .before .before .before .before .before .before .before .before .args in
-    rw (c .before .before .len-after .ensures) (touched-lost (headOf (a .h) (now (a .flags)) (now (a .lens))) (a .l) _ (keptBy (c .before .before .before .before .before .before .before .before .before .add .result)) (sym (c .before .kept .ensures) ∙ c .if1 .left))
+    rw (c .before .before .len-after .ensures) (touched-lost (headOf (a .h) (now (a .lens)) (now (a .flags))) (a .l) _ (keptBy (c .before .before .before .before .before .before .before .before .before .add .result)) (sym (c .before .kept .ensures) ∙ c .if1 .left))
 
 -- no more candidates than seats
 few : (c : tie.After-add) → lenBy (c .add .result) (getD (now (c .before .before .before .before .before .before .before .before .before .before .before .before .before .before .before .args .lens)) (c .before .before .before .before .before .before .before .before .before .before .before .before .before .before .before .args .l) 0) ≤ dimsAt (c .before .before .before .before .before .before .before .before .before .before .before .before .before .before .before .args .h .shape) (c .before .before .before .before .before .before .before .before .before .before .before .before .before .before .before .args .l) .size

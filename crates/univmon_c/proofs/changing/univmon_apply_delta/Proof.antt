@@ -6,9 +6,8 @@ use borrow.Author.Tests.{le-leb, lt-leb}
 use denote.Ref.{now}
 use mir.Facts.{toZ-ofZ}
 use Rattle.layout.specs.Slices.{Lent}
-use Rattle.univmon_delta.specs.Arriving.{arrival}
+use Rattle.univmon_delta.specs.Deltas.{arrival, deltaCall}
 use Rattle.layout.specs.Outcomes.{Outcome, left}
-use Rattle.univmon_delta.specs.Deltas.{deltaCall}
 use Rattle.univmon_c.specs.Crossing.{fidelityOf, isFidelity}
 use Rattle.univmon_c.specs.Calls.{CLent, cLent}
 use Rattle.univmon_c.proofs.Turning.{change-no-mode, change-no-choice, changed}

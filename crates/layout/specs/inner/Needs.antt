@@ -3,9 +3,7 @@ use Prim.Native.Nat.{ℕ, _*_, _≤_, _<_}
 use mathlib.Core.Path.{_≡_}
 use lib.ListN.{length, getD}
 use Rattle.header.specs.declared.Shape.{Shape}
-use Rattle.header.specs.declared.Header.{Header}
-use Rattle.header.specs.Shape.{maxLayers}
-use Rattle.header.specs.Accepted.{Accepted}
+use Rattle.header.specs.inner.Accepted.{Accepted}
 use Rattle.layout.specs.Slices.{Lent, cellsIn, normsIn, candsIn}
 
 -- slices of these lengths are a shape's
@@ -20,8 +18,3 @@ pub record Standing (r : Lent) : Type 0 where
   pub accepted : Accepted (r .head .shape)
   pub sizes : Sizes (r .head .shape) (length (r .counters)) (length (r .norms)) (length (r .entries)) (length (r .counts))
   pub lens : (m : ℕ) → m < r .head .shape .layers → getD (r .head .lens) m 0 ≤ r .head .shape .«heap_size»
-
--- lengths and flags have a place for each layer that a shape may have
-pub record Headed (h : Header) : Type 0 where
-  pub lens : length (h .lens) ≡ maxLayers
-  pub flags : length (h .flags) ≡ maxLayers

@@ -1,14 +1,8 @@
 -- How long the four slices are, and where a layer stands in them.
 use Prim.Native.Nat.{ℕ, _+_, _*_}
 use Rattle.header.specs.declared.Shape.{Shape}
-use Rattle.layout.specs.declared.Extent.{Extent}
 use Rattle.layout.specs.declared.Span.{Span}
 use Rattle.layout.specs.State.{dimsAt, cellOff, normOff, candOff}
-use Rattle.layout.specs.Slices.{cellsIn, normsIn, candsIn}
-
--- how much of each slice a shape uses
-abbrev pub extentOf : Shape → Extent
-extentOf sh = record { cells = cellsIn sh; norms = 2 * normsIn sh; words = 4 * candsIn sh; seats = candsIn sh }
 
 unfoldable pub spanOf : Shape → ℕ → Span
 spanOf sh l =

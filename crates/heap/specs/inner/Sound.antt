@@ -2,7 +2,7 @@
 use mathlib.Core.Path.{_≡_}
 use Prim.Native.Nat.{ℕ, _≤_}
 use lib.ListN.{length}
-use Rattle.heap_moves.specs.Order.{Ordered, Rest}
+use Rattle.heap_moves.specs.inner.Order.{Ordered, Rest}
 use Rattle.heap.specs.Offer.{Table}
 
 -- "no count in a layer is below its heap parent's, and unused entries are zero"

@@ -3,7 +3,7 @@ use Prim.Native.Nat.{ℕ, _≤_}
 use mathlib.Core.Bool.{cond}
 use lib.Dec.{eqb}
 use Rattle.heap_moves.specs.Cands.{Cand}
-use Rattle.heap_moves.specs.Totals.{total}
+use Rattle.heap_moves.specs.inner.Totals.{total}
 use Rattle.heap.specs.declared.Answer.{Answer}
 use Rattle.heap.specs.declared.Answer.the-variants.{Rescored, Seated, Displaced, TurnedAway}
 use Rattle.heap.specs.Offer.{Table}

@@ -1,17 +1,37 @@
 -- What the functions on one layer need, by name.
 use Prim.Native.Nat.{ℕ, _*_, _≤_, _<_}
 use mathlib.Core.Path.{_≡_}
-use mathlib.Core.Bool.{true, false}
+use mathlib.Core.Bool.{true, false, Bool}
 use mathlib.Core.List.{List}
-use lib.ListN.{length}
-use lib.IntN.{ℤ}
+use lib.ListN.{length, replicate}
+use lib.IntN.{ℤ, pos}
 use Rattle.words.specs.Num.{top}
-use Rattle.matrix_storage.specs.Bits.{Shaped}
+use Rattle.matrix_storage.specs.inner.Shaped.{Shaped}
 use Rattle.heap_moves.specs.declared.Item.{Item}
 use Rattle.heap_moves.specs.Cands.{mostCands}
 use Rattle.layer.specs.declared.Dims.{Dims}
-use Rattle.layer.specs.Layer.{Layer, layerOf, layerUpdate, addReads, addFits}
-use Rattle.layer.specs.Delta.{delta, deltaReads, deltaFits}
+use Rattle.layer.specs.Layer.{Layer, addReads, addFits, LayerUpdate, noTable}
+use Rattle.layer.specs.Delta.{deltaReads, deltaFits, Delta}
+use Rattle.heap.specs.inner.Slices.{tableOf}
+use Rattle.countsketch_l2_norm.specs.inner.Needs.{sketchOf}
+
+-- the layer that stands in four slices
+abbrev pub layerOf : Dims → List ℤ → List ℕ → List ℕ → List ℤ → ℕ → Bool → Layer
+layerOf d xs ws es ns len flag = record { sketch = sketchOf xs ws (d .rows); table = tableOf es ns len; flag = flag }
+
+abbrev pub layerUpdate : Item → ℕ → LayerUpdate
+layerUpdate item w = record { item = item; weight = w }
+
+unfoldable pub noLayer : Dims → Layer
+noLayer d =
+    record {
+      sketch = record { cells = replicate (d .rows * d .cols) (pos 0); norms = replicate (d .rows) 0 };
+      table = noTable (d .size);
+      flag = true;
+    }
+
+abbrev pub delta : ℕ → ℕ → ℤ → Item → Bool → Delta
+delta row col n item every = record { row = row; col = col; count = n; item = item; every = every }
 
 -- slices of nx counters, nw norm words and nc counts are a layer's, with len candidates
 pub record Housed (d : Dims) (nx nw nc len : ℕ) : Type 0 where

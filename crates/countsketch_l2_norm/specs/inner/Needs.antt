@@ -1,14 +1,31 @@
 -- What the stores of an update need, by name.
-use Prim.Native.Nat.{ℕ, _+_, _-_, _*_, _≤_, _<_}
+use Prim.Native.Nat.{ℕ, _+_, _-_, _*_, _≤_, _<_, min, _%_, _/_}
 use mathlib.Core.Path.{_≡_}
-use mathlib.Core.Bool.{true}
+use mathlib.Core.Bool.{true, Bool, _&&_}
 use mathlib.Core.List.{List}
 use lib.ListN.{length, set}
 use lib.IntN.{ℤ, pos, natAbs, _+ℤ_}
-use Rattle.words.specs.Num.{top, squareCap, capped}
-use Rattle.matrix_storage.specs.Bits.{Shaped, maxRows, maxCols, signed}
-use Rattle.countsketch_l2_norm.specs.Norms.{normAt, setNorm}
-use Rattle.countsketch_l2_norm.specs.Sketch.{sketchOf, cellOf, cellAt, cellRead, cellFits, rowsRead, rowsFit}
+use Rattle.words.specs.Num.{top, squareCap, capped, wordSize}
+use Rattle.matrix_storage.specs.Bits.{maxRows, maxCols, signed}
+use Rattle.matrix_storage.specs.inner.Shaped.{Shaped}
+use Rattle.countsketch_l2_norm.specs.Norms.{normAt, normsOf}
+use Rattle.countsketch_l2_norm.specs.Sketch.{cellOf, cellAt, cellRead, cellFits, rowsRead, rowsFit, Sketch}
+use Rattle.float64.specs.Norm.{normTop}
+
+-- the sketch of the slices
+abbrev pub sketchOf : List ℤ → List ℕ → ℕ → Sketch
+sketchOf xs ws rows = record { cells = xs; norms = normsOf ws rows }
+
+-- both, where it does not matter which of them fails
+abbrev pub rowsReady : ℕ → ℕ → ℕ → Sketch → ℕ → ℕ → Bool
+rowsReady cols h w s k r = rowsRead cols h s k r && rowsFit cols h w (s .cells) k r
+
+unfoldable pub setNorm : List ℕ → ℕ → ℕ → List ℕ
+setNorm ws r n = set (set ws (2 * r) (n % wordSize)) (2 * r + 1) (n / wordSize)
+
+-- a norm "clamped to 2^63 − 1", as the whole number that it is before it becomes a float
+abbrev pub clamped : ℕ → ℤ
+clamped n = pos (min n normTop)
 
 pub record Ready (rows cols h w : ℕ) (xs : List ℤ) (ws : List ℕ) : Type 0 where
   pub shaped : Shaped rows cols

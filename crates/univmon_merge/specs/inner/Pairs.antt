@@ -7,7 +7,7 @@ use Rattle.layer.specs.Layer.{Layer}
 use Rattle.layer.specs.Merge.{mergeLayer, mergeReads, mergeFits}
 use Rattle.layout.specs.State.{State, dimsAt, layerAt, allLayers}
 use Rattle.layout.specs.Slices.{Lent, view}
-use Rattle.layout.specs.Needs.{Standing}
+use Rattle.layout.specs.inner.Needs.{Standing}
 
 -- the tests and the step of a merge at each layer, by the second state
 abbrev pub readsWith : State → ℕ → Layer → Bool

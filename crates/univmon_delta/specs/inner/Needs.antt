@@ -5,16 +5,12 @@ use mathlib.Core.Bool.{true}
 use mathlib.Core.List.{List}
 use lib.ListN.{length}
 use lib.IntN.{ℤ}
-use Rattle.layer.specs.Delta.{delta, deltaReads, deltaFits}
-use Rattle.univmon_delta.specs.declared.Fidelity.{Fidelity}
+use Rattle.layer.specs.Delta.{deltaReads, deltaFits}
+use Rattle.layer.specs.inner.Needs.{delta}
 use Rattle.layout.specs.State.{dimsAt, layerAt}
 use Rattle.layout.specs.Slices.{Lent, view}
 use Rattle.layout.specs.Records.{recordLength, itemAt}
-use Rattle.univmon_delta.specs.Deltas.{Arrival}
-use Rattle.layout.specs.Needs.{Standing}
-
-abbrev pub arrival : ℕ → ℕ → ℕ → ℤ → Fidelity → Arrival
-arrival l row col n f = record { layer = l; row = row; col = col; count = n; fidelity = f }
+use Rattle.layout.specs.inner.Needs.{Standing}
 
 -- a delta names a counter of layer l, and its record is the shape's
 pub record Placed (r : Lent) (words : List ℕ) (l row col : ℕ) : Type 0 where

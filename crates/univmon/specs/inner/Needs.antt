@@ -9,13 +9,14 @@ use lib.Dec.{eqb}
 use Rattle.words.specs.Num.{top}
 use Rattle.header.specs.declared.Shape.{Shape}
 use Rattle.header.specs.declared.Header.{Header}
-use Rattle.header.specs.Header.{headerOk}
-use Rattle.layer.specs.Layer.{Layer, addLayer, addReads, addFits, layerUpdate}
+use Rattle.header.specs.Header.{headerOk, Headed}
+use Rattle.layer.specs.Layer.{Layer, addLayer, addReads, addFits}
+use Rattle.layer.specs.inner.Needs.{layerUpdate}
 use Rattle.univmon.specs.declared.Kind.{Kind}
 use Rattle.layout.specs.State.{State, dimsAt, layerAt, allLayers, overLayers}
 use Rattle.layout.specs.Slices.{Lent, lengthsOk, view, flat}
 use Rattle.layout.specs.Records.{recordLength, itemAt}
-use Rattle.layout.specs.Needs.{Standing, Headed}
+use Rattle.layout.specs.inner.Needs.{Standing}
 use Rattle.layout.specs.Outcomes.{Left, leftBy, judge}
 use Rattle.univmon.specs.Updates.{firstSent, manySent, bottomBy, sentTests}
 use Rattle.univmon.specs.Calls.{placeTests}

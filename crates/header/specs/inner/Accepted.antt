@@ -1,6 +1,6 @@
 -- What an accepted shape holds, by name.
 use Prim.Native.Nat.{_≤_}
-use Rattle.matrix_storage.specs.Bits.{Shaped}
+use Rattle.matrix_storage.specs.inner.Shaped.{Shaped}
 use Rattle.header.specs.Shape.{maxLayers, maxHeap}
 use Rattle.header.specs.declared.Shape.{Shape}
 

@@ -6,18 +6,18 @@ use mathlib.Core.List.{List, [], _∷_, map}
 use lib.ListN.{length, getD}
 use lib.IntN.{ℤ}
 use Rattle.words.specs.Num.{allIn}
-use Rattle.matrix_storage.specs.Bits.{Shaped}
+use Rattle.matrix_storage.specs.inner.Shaped.{Shaped}
 use Rattle.countsketch_l2_norm.specs.Merge.{sums}
 use Rattle.heap_moves.specs.declared.Item.{Item}
 use Rattle.heap_moves.specs.Cands.{mostCands}
 use Rattle.heap_moves.specs.Flat.{itemOf}
 use Rattle.heap.specs.Offer.{Table}
-use Rattle.heap.specs.Slices.{tableOf}
+use Rattle.heap.specs.inner.Slices.{tableOf}
 use Rattle.layer.specs.declared.Dims.{Dims}
 use Rattle.layer.specs.declared.Merged.{Merged}
 use Rattle.layer.specs.Layer.{offerTo, noTable}
 use Rattle.layer.specs.Merge.{hasKey, firsts, offerAll}
-use Rattle.layer.specs.Needs.{Housed}
+use Rattle.layer.specs.inner.Needs.{Housed}
 
 abbrev pub itemKeys : List Item → List ℕ
 itemKeys ws = map (λ (w : Item). w .key) ws
