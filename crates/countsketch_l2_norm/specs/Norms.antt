@@ -14,6 +14,6 @@ unfoldable pub wordsOf : List ℕ → List ℕ
 wordsOf [] = []
 wordsOf (n ∷ ns) = (n % wordSize) ∷ (n / wordSize) ∷ wordsOf ns
 
--- norm r, and a norm stored
+-- norm r
 abbrev pub normAt : List ℕ → ℕ → ℕ
 normAt ws r = twoWords (getD ws (2 * r) 0) (getD ws (2 * r + 1) 0)

@@ -116,7 +116,7 @@ fn update_rows(
     }
 }
 
-// The same of five rows, row after row, with the count: their estimates stay in locals.
+// An update of five rows, and the count after it: the rows' estimates stay in locals.
 fn update_five(
     counters: &mut [i64],
     norms: &mut [u64],
@@ -244,8 +244,8 @@ fn row_ready(x: i64, w: Wide, cols: usize, high: u64, low: u64, r: usize, weight
     words::in_range(x + delta_at(high, low, r, weight))
 }
 
-// Whether an update may be made: both questions in one pass, where it does not matter which of them
-// fails.
+// Whether an update may be made: `rows_read` and `rows_fit` in one pass, where it does not matter which
+// of them fails.
 pub fn rows_ready(
     counters: &[i64],
     norms: &[u64],

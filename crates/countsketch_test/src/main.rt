@@ -55,8 +55,8 @@ fn estimate(counters: &[i64], rows: usize, cols: usize, high: u64, low: u64) {
     vectors::print(vectors::unsigned(n));
 }
 
-// 2: an update, and the estimate after it. The one question that holds both is asked first, as a
-// caller in a hurry does.
+// 2: an update, and the estimate after it. `rows_ready` judges in one pass whether what is read is in range
+// and whether the update fits; only where it says no are the two asked one by one, for the refusal.
 fn add(
     counters: &mut [i64],
     norms: &mut [u64],
@@ -187,7 +187,7 @@ fn keep(op: u64, counters: &[i64], other: &mut [i64]) {
     }
 }
 
-// 8: the counters that were set aside come in.
+// 8: the counters that were set aside are merged in.
 fn merge(counters: &mut [i64], norms: &mut [u64], other: &[i64], rows: usize, cols: usize) {
     if !held(rows, cols, counters.len(), norms.len()) {
         return;
@@ -256,7 +256,7 @@ fn ask(call: Call, counters: &[i64], norms: &[u64], rows: usize, cols: usize) {
     }
 }
 
-// Those that set counters and norms by hand.
+// The operations that set counters and norms by hand.
 fn set(call: Call, counters: &mut [i64], norms: &mut [u64]) {
     let op = call.op;
     if op == 1 {
@@ -273,7 +273,7 @@ fn set(call: Call, counters: &mut [i64], norms: &mut [u64]) {
     }
 }
 
-// Those that the layer has.
+// The operations that call the library to change the layer.
 fn change(
     call: Call,
     counters: &mut [i64],

@@ -11,7 +11,7 @@ use Rattle.layer.specs.Layer.{hashBy}
 use Rattle.estimates.specs.Sums.{itemsRead}
 use Rattle.countsketch_l2_norm.proofs.After.{all-cells}
 
--- a sum reads the counters of each candidate's estimate
+-- where all counters are in range, those that the candidates' estimates read are
 pub items-read : (d : Dims) (ws : List Item) (xs : List ℤ) → allIn xs ≡ true → itemsRead d xs ws ≡ true
 unfolding itemsRead
 items-read d [] xs a = refl

@@ -42,7 +42,7 @@ pub fn estimate_l1(header: Header) -> Answer
     }
 }
 
-// Whether so many norm words are a shape's.
+// Whether a shape has this number of norm words.
 fn norms_match(shape: Shape, norms: usize) -> bool
     requires { ⌜ Accepted shape ⌝ }
     ensures { λ r. ⌜ r ≡ eqb norms (2 * normsIn shape) ⌝ }

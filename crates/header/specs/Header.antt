@@ -61,11 +61,11 @@ withLayer h l n b = withLens (withFlags h (set (h .flags) l b)) (set (h .lens) l
 abbrev pub withLayers : Header → List ℕ → List Bool → Header
 withLayers h ns fs = withLens (withFlags h fs) ns
 
--- the header of what is lent beside lengths and flags
+-- the header that scalars, lengths and flags make
 abbrev pub headOf : Scalars → List ℕ → List Bool → Header
 headOf f ns fs = record { shape = f .shape; totals = f .totals; mode = f .mode; flags = fs; lens = ns }
 
--- and what is left without them
+-- a header without lengths and flags
 abbrev pub scalarsOf : Header → Scalars
 scalarsOf h = record { shape = h .shape; totals = h .totals; mode = h .mode }
 

@@ -15,7 +15,7 @@ use Rattle.heap.specs.Offer.{Table, Offered, offer}
 use Rattle.heap.proofs.Effects.{Effect, rescored, seated, displaced, turned-away, offer-effect}
 use Rattle.words.proofs.Bools.{both}
 
--- what holds of an entry whatever its count
+-- what holds of an entry still holds when its count becomes v
 abbrev pub Recounts : (Cand → Type 0) → ℤ → Type 0
 Recounts P v = (x : Cand) → P x → P (candOf (x .item) v)
 

@@ -1,5 +1,5 @@
-// The front of a scan, four places at a time: one jump for four tests. What it passes over is found
-// right; the plain scan behind it says which place stopped it.
+// The first part of the scan for a key: four entries at a time, with one jump for four tests. It stops
+// before four of which one has the key, or where fewer are left; the plain scan goes on from there.
 ghost use mathlib.Core.Path.{_≡_};
 ghost use mathlib.Core.Logic.{_≢_};
 ghost use Prim.Native.Nat.{ℕ, _+_, _*_, _≤_, _<_};

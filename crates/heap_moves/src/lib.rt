@@ -15,7 +15,7 @@ ghost use Rattle.heap_moves.specs.inner.Post.{store4, Two};
 // The greatest heap size: the most candidates of a layer.
 pub const MAX_HEAP_SIZE: usize = 1024;
 
-// Who is counted: the key, its bottom hash, and the halves of this layer's hash.
+// An item: a key, its bottom hash, and the halves of one layer's hash.
 pub struct Item {
     pub key: u64,
     pub bottom: u64,

@@ -163,7 +163,7 @@ has-next es k (suc n) i =
     e : suc i + n ≡ i + suc n
     e = omega arith
 
--- the keys of m entries, and of the first i of another slice
+-- s has exactly the keys of the first m entries of one slice and of the first i of another
 abbrev pub Seen : List ℕ → ℕ → List ℕ → ℕ → List ℕ → Type 0
 Seen bef m src i s = (k : ℕ) → hasKey k s ≡ (hasKey k (keysOf bef m) || hasKey k (keysOf src i))
 

@@ -18,8 +18,8 @@ use Rattle.heap.specs.inner.Slices.{lenBy, tableOf, offered}
 use Rattle.heap.proofs.Cases.{offer-cases}
 use Rattle.heap.proofs.Sounds.{offer-len, offer-table, offer-long}
 use Rattle.layer.specs.declared.Dims.{Dims}
-use Rattle.layer.specs.Layer.{Layer, LayerUpdate, hashBy, countOf, offerTo, addSketch, addLayer, addAnswer}
-use Rattle.layer.specs.inner.Needs.{layerOf, layerUpdate, Fits, delta}
+use Rattle.layer.specs.Layer.{Layer, LayerUpdate, hashBy, countOf, offerTo, addSketch, addLayer, addAnswer, layerUpdate}
+use Rattle.layer.specs.inner.Needs.{layerOf, Fits, delta}
 use Rattle.layer.specs.Delta.{Delta, deltaLayer, deltaAnswer}
 
 -- a sketch, and the offer of a key with its count from the new counters

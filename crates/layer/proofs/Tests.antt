@@ -15,8 +15,8 @@ use Rattle.countsketch_l2_norm.specs.Estimate.{cellsInRange}
 use Rattle.heap_moves.specs.declared.Item.{Item}
 use Rattle.heap_moves.proofs.Rounds.{counts-cands}
 use Rattle.layer.specs.declared.Dims.{Dims}
-use Rattle.layer.specs.Layer.{hashBy, addReads, addFits}
-use Rattle.layer.specs.inner.Needs.{layerOf, layerUpdate, delta}
+use Rattle.layer.specs.Layer.{hashBy, addReads, addFits, layerUpdate}
+use Rattle.layer.specs.inner.Needs.{layerOf, delta}
 use Rattle.layer.specs.Delta.{deltaReads}
 
 -- ---- an update

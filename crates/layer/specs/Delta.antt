@@ -10,7 +10,7 @@ use Rattle.heap.specs.Offer.{Offered, kept}
 use Rattle.layer.specs.declared.Dims.{Dims}
 use Rattle.layer.specs.Layer.{Layer, hashBy, offerTo, countsRead}
 
--- the counter that a delta names, what it adds, whose it is, and whether every insert was promoted
+-- the row and column of the counter that a delta names, what it adds, the item that is counted, and whether every insert was promoted
 pub record Delta : Type 0 where
   pub row : ℕ
   pub col : ℕ

@@ -21,10 +21,13 @@ pub record Layer : Type 0 where
   pub table : Table
   pub flag : Bool
 
--- one update as a layer sees it: who is counted, with this layer's hash, and by how much
+-- one update as a layer sees it: the item that is counted, with this layer's hash, and the weight
 pub record LayerUpdate : Type 0 where
   pub item : Item
   pub weight : ℕ
+
+abbrev pub layerUpdate : Item → ℕ → LayerUpdate
+layerUpdate item w = record { item = item; weight = w }
 
 -- the 128-bit hash of an entry
 abbrev pub hashBy : Item → ℕ
@@ -67,7 +70,6 @@ addReads d u l = rowsRead (d .cols) (hashBy (u .item)) (l .sketch) (d .rows) 0 &
 unfoldable pub addFits : Dims → LayerUpdate → Layer → Bool
 addFits d u l = rowsFit (d .cols) (hashBy (u .item)) (u .weight) (l .sketch .cells) (d .rows) 0
 
--- ---- a layer with nothing counted
-
+-- no candidates
 abbrev pub noTable : ℕ → Table
 noTable size = record { cands = replicate size noCand; len = 0 }

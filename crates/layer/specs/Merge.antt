@@ -23,7 +23,7 @@ unfoldable pub firsts : List ℕ → List Item → List Item
 firsts seen [] = []
 firsts seen (w ∷ ws) = cond (hasKey (w .key) seen) (firsts seen ws) (w ∷ firsts (w .key ∷ seen) ws)
 
--- who stands in a table
+-- the items of a table's candidates
 unfoldable pub items : Table → List Item
 items t = map (λ (c : Cand). c .item) (take (t .len) (t .cands))
 

@@ -10,8 +10,8 @@ ghost use lib.ListN.{length};
 ghost use Rattle.words.specs.Num.{top};
 ghost use Rattle.heap.specs.Offer.{keptBy};
 ghost use Rattle.heap.specs.inner.Slices.{lenBy};
-ghost use Rattle.layer.specs.Layer.{addLayer, addAnswer, addReads, addFits};
-ghost use Rattle.layer.specs.inner.Needs.{layerOf, layerUpdate, Housed, AddReady};
+ghost use Rattle.layer.specs.Layer.{addLayer, addAnswer, addReads, addFits, layerUpdate};
+ghost use Rattle.layer.specs.inner.Needs.{layerOf, Housed, AddReady};
 
 // Whether all that an update reads of the layer is in range.
 pub fn add_reads(
@@ -60,7 +60,7 @@ pub fn add_ready(
     heap::counts_in_range(counts, len)
 }
 
-// The update: what the candidates answered.
+// Makes the update, and answers what the offer of the key did.
 pub fn add(
     counters: &mut [i64],
     norms: &mut [u64],

@@ -13,7 +13,7 @@ ghost use lib.ListN.{length};
 ghost use Rattle.heap_moves.specs.Cands.{mostCands};
 ghost use Rattle.layer.specs.inner.Gather.{gatheredOf, mergeTable, offerOne, gather, itemsOf, keysOf, firstAt, CountersRead, Seats, Entries, Sofar};
 
-// One more key, with its count.
+// Offers one more key, with its count.
 fn offer_one(
     entries: &mut [u64],
     counts: &mut [i64],
@@ -36,8 +36,8 @@ fn offer_one(
     }
 }
 
-// The i-th entry of the source, if its key stands in none of the entries before it and in none of m
-// others.
+// Offers the i-th entry of the source, unless its key stands in an entry before it there or in one of
+// the first m entries of `before`.
 fn offer_first(
     entries: &mut [u64],
     counts: &mut [i64],
@@ -69,7 +69,7 @@ fn offer_first(
     offer_one(entries, counts, d, g, w, counters)
 }
 
-// The first n entries of the source, each key once, without those of m other entries.
+// Offers the first n entries of the source, each key once, but no key of the first m of `before`.
 fn offer_firsts(
     entries: &mut [u64],
     counts: &mut [i64],
@@ -99,8 +99,8 @@ fn offer_firsts(
     g
 }
 
-// The layer's own candidates, then the other's. The slices are zeroed and filled anew, so the own
-// entries are copied out first; no old count is read, since all are counted anew.
+// Offers the layer's own candidates, then the other's. The slices are zeroed and filled anew, so the
+// layer's entries are copied out first; no old count is read, since all are counted anew.
 pub fn merge_candidates(
     entries: &mut [u64],
     counts: &mut [i64],

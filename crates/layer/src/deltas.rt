@@ -52,7 +52,7 @@ pub fn delta_fits(counters: &[i64], d: Dims, row: usize, col: usize, count: i64)
     countsketch_l2_norm::cell_fits(counters, d.rows, d.cols, row, col, count)
 }
 
-// The delta: what the candidates answered.
+// Makes the delta, and answers what the offer of the key did.
 pub fn apply_delta(
     counters: &mut [i64],
     norms: &mut [u64],

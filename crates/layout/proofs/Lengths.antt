@@ -54,7 +54,7 @@ pub long-view : (r : Lent) → Standing r → Long (view r)
 unfolding view
 long-view r z = record { counters = z .sizes .cells; norms = length-norms (r .norms) _; cands = length-cands (r .entries) (r .counts) ∙ z .sizes .counts }
 
--- what is not refused for header or lengths
+-- where header and lengths are not refused, they fit together
 pub stands-of : (r : Lent) → number (lentTests r) ≡ 0 → Standing r
 stands-of r z =
     let p = off-number (lentTests r) refl z in

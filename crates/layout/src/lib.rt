@@ -145,16 +145,16 @@ pub fn dims(shape: Shape, l: usize) -> Dims
     }
 }
 
-// Who a record names, with the hash of a layer.
-pub fn item_in(words: &[u64], l: usize) -> Item
-    requires { ⌜ (l < maxLayers) × (4 + 2 * l ≤ length (now words)) ⌝ }
-    ensures { λ r. ⌜ r ≡ itemAt (now (words .entry)) l ⌝ }
+// The item that a record names, with the hash of layer l.
+pub fn item_in(record: &[u64], l: usize) -> Item
+    requires { ⌜ (l < maxLayers) × (4 + 2 * l ≤ length (now «record»)) ⌝ }
+    ensures { λ r. ⌜ r ≡ itemAt (now («record» .entry)) l ⌝ }
 {
     let at = 2 + 2 * l;
     Item {
-        key: words[0],
-        bottom: words[1],
-        high: words[at],
-        low: words[at + 1],
+        key: record[0],
+        bottom: record[1],
+        high: record[at],
+        low: record[at + 1],
     }
 }

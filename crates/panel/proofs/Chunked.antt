@@ -1,4 +1,4 @@
--- A chunk on the way: what is answered so far are the answers to the lines of the part that was taken. Assumes nothing.
+-- In the middle of a chunk: the answers so far are those to the lines of the part that was taken. Assumes nothing.
 use Prim.Native.Nat.{ℕ, suc, min, _+_, _≤_, _<_}
 use mathlib.Core.Path.{_≡_, refl, sym, ap, _∙_}
 use mathlib.Core.Bool.{Bool, true, false, cond}

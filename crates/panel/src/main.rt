@@ -4,9 +4,9 @@ use header::Shape;
 use panel_lines::split::MOST_HELD;
 use panel_lines::split::take_line;
 use panel_step::LONGEST;
+use panel_step::LineAnswered;
 use panel_step::MAX_CANDIDATES;
 use panel_step::MAX_COUNTERS;
-use panel_step::LineAnswered;
 use panel_step::answer_line;
 ghost use mathlib.Core.Path.{_≡_};
 ghost use Prim.Native.Nat.{ℕ, min, _+_, _≤_};
@@ -36,7 +36,7 @@ struct Going {
     held: usize,
 }
 
-// Answers the line in the first k bytes, behind the answers that `out` has up to a place.
+// Answers the line in the first k bytes of `line`, from place `at` of `out` on, behind earlier answers.
 fn reply(
     line: &[u8],
     k: usize,
@@ -70,8 +70,8 @@ fn reply(
     }
 }
 
-// Answers the lines that end in a chunk, from the start of `out` on, as long as the longest answer has room there; so what is taken of the
-// chunk is a part of it. What `line` has past the held bytes is left open.
+// Answers the lines that end in a chunk, from the start of `out` on, and stops where the longest answer has no more room there; so it may
+// take only a part of the chunk. What `line` has past the held bytes is left open.
 fn take_chunk(
     chunk: &[u8],
     line: &mut [u8],

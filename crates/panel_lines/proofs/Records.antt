@@ -1,5 +1,5 @@
--- What a caller of `read_line` lends on after an `add`: the first n words, n of `Request::Add`, are the record that the
--- line spells, and there are no more than a line has room for. Assumes nothing.
+-- What a caller of `read_line` passes on after an `add`: the first n words, with the n of `Request::Add`, are the record that
+-- the line spells, and there are no more than a line has room for. Assumes nothing.
 use Prim.Native.Nat.{ℕ, suc, _+_, _*_, _≤_}
 use mathlib.Core.Path.{_≡_, refl, sym, ap, _∙_}
 use mathlib.Core.List.{List, [], _∷_, _++_}

@@ -39,7 +39,7 @@ more-behind r t l ls ms n m o p e f =
     let z : n + length (a .text) + length (b .text) ≡ n + length (a .text ++ b .text) = omega (arith, length-append (a .text) (b .text)) in
     rw (e, i, j, k, z, sets-append o n (a .text) (b .text))
 
--- an answer at the start of a slice's end stands from there on in the slice
+-- a text that is put at the start of the part behind place n stands from place n on in the whole slice
 pub end-put : (o t : List ℕ) (n : ℕ) → n + length t ≤ length o → take n o ++ sets (drop n o) 0 t ≡ sets o n t
 end-put o t n h =
     let l : 0 + length t ≤ length (drop n o) = omega (arith, length-drop n o) in

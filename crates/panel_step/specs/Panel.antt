@@ -32,7 +32,7 @@ inUse r =
     let e : Extent = extentOf (r .head .shape) in
     lent (r .head) (take (e .cells) (r .counters)) (take (e .norms) (r .norms)) (take (e .words) (r .entries)) (take (e .seats) (r .counts))
 
--- what a call on parts of that extent left, before the rest of the slices
+-- what a call left of the front parts of that extent, with the rest of the slices behind it
 abbrev pub putBack : Extent → Lent → Lent → Lent
 putBack e r t =
     lent (t .head) (t .counters ++ drop (e .cells) (r .counters)) (t .norms ++ drop (e .norms) (r .norms))
@@ -47,7 +47,7 @@ maxCounters = 4096
 abbrev pub maxCandidates : ℕ
 maxCandidates = 512
 
--- the slices have room for it
+-- slices of these lengths have room for the extent
 unfoldable pub roomy : Extent → ℕ → ℕ → ℕ → ℕ → Bool
 roomy e xs ws es ns = leb (e .cells) xs && (leb (e .norms) ws && (leb (e .words) es && leb (e .seats) ns))
 
@@ -72,7 +72,7 @@ refusalIn r sh = panelRefusal sh (length (r .counters)) (length (r .norms)) (len
 unfoldable pub shapeCall : Lent → Shape → Left
 shapeCall r sh = cond (eqb (refusalIn r sh) 0) (left 0 (putBack (extentOf sh) r (freshLent sh))) (left (refusalIn r sh) r)
 
--- 13 "before a shape": the header has none that would be accepted
+-- the header has a shape that is accepted in these slices; where not, 13 "before a shape"
 abbrev pub started : Lent → Bool
 started r = eqb (refusalIn r (r .head .shape)) 0
 

@@ -67,18 +67,18 @@ pub fn start(
     )
 }
 
-// A standard update, of the record's words.
+// A standard update with a record and a weight, or 13 before a shape.
 pub fn add(
     header: Header,
     counters: &mut [i64],
     norms: &mut [u64],
     entries: &mut [u64],
     counts: &mut [i64],
-    words: &[u64],
+    record: &[u64],
     weight: i64,
 ) -> Answered
     ensures { λ r. ⌜ left (r .refusal) (lentOut (r .header) counters norms entries counts)
-        ≡ addCall (lentIn header counters norms entries counts) (now (words .entry)) weight ⌝ }
+        ≡ addCall (lentIn header counters norms entries counts) (now («record» .entry)) weight ⌝ }
 {
     let shape = header.shape;
     if panel_refusal(
@@ -103,7 +103,7 @@ pub fn add(
         &mut norms[..sums],
         &mut entries[..quads],
         &mut counts[..seats],
-        words,
+        record,
         weight,
     )
 }

@@ -5,9 +5,9 @@ use crate::calls::show;
 use crate::calls::start;
 use header::Header;
 use header::Shape;
-use panel_lines::reply::SHOW_BARE;
-use panel_lines::reply::put_ok;
-use panel_lines::reply::put_refused;
+use panel_lines::answer::SHOW_BARE;
+use panel_lines::answer::put_ok;
+use panel_lines::answer::put_refused;
 use panel_lines::line::LINE_WORDS;
 use panel_lines::line::Request;
 use panel_lines::line::read_line;
@@ -66,16 +66,16 @@ fn answer_add(
     norms: &mut [u64],
     entries: &mut [u64],
     counts: &mut [i64],
-    words: &[u64],
+    record: &[u64],
     weight: i64,
     out: &mut [u8],
 ) -> LineAnswered
     requires { ⌜ longest ≤ length (now out) ⌝ }
     ensures { λ r. ⌜ found (lentOut (r .header) counters norms entries counts) (r .len) (now (out .exit))
-        ≡ put (replied (addCall (lentIn header counters norms entries counts) (now (words .entry)) weight)) (now (out .entry)) ⌝ }
+        ≡ put (replied (addCall (lentIn header counters norms entries counts) (now («record» .entry)) weight)) (now (out .entry)) ⌝ }
     ensures { λ r. ⌜ r .len ≤ longest ⌝ }
 {
-    let a = add(header, counters, norms, entries, counts, words, weight);
+    let a = add(header, counters, norms, entries, counts, record, weight);
     let len = put_reply(out, a.refusal);
     let next = a.header;
     LineAnswered { header: next, len }

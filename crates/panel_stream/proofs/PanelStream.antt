@@ -57,7 +57,7 @@ record Kept (f : Shape → ℕ) (r : Lent) (g : Log) : Type 0 where
 own : (r : Lent) (sh : Shape) → refusalIn r sh ≡ 0 → shapeRefusal sh ≡ 0
 own r sh e = fit-of sh (length (r .counters)) (length (r .norms)) (length (r .entries)) (length (r .counts)) e .own
 
--- what a call on the parts of a shape that has room left, put back
+-- where t is as the log's book says and r has room for its shape, t put back into r's slices has what every line keeps
 back-kept : (f : Shape → ℕ) (r t : Lent) (g : Log) → ((z : Shape) → refusalIn r z ≡ f z) → refusalIn r (g .shape) ≡ 0 → LentBy (g .shape) (g .book) t → Standards (g .book) → g .started ≡ true
     → Kept f (putBack (extentOf (g .shape)) r t) g
 unfolding flat
@@ -190,7 +190,7 @@ unfolding answersOf answerLine logOf
 lines-kept f [] r g k = k
 lines-kept f (l ∷ ls) r g k = lines-kept f ls (answerLine r l .lends) (logAfter f g (readOf l .request) (readOf l .words)) (to-kept f r g (readOf l .request) (readOf l .words) k)
 
--- ---- what is told of a state
+-- ---- what the next line is answered with
 
 module _ (f : Shape → ℕ) (r : Lent) (g : Log) (k : Kept f r g) where
   early : g .started ≡ false → showLine r ≡ refusedText 13

@@ -54,7 +54,7 @@ values-from {A} d f (suc n) k (x ∷ xs) e h =
     move : (j : ℕ) → k + suc j ≡ suc k + j
     move j = omega arith
 
--- from the first on
+-- the same with the values from number 0 on
 values-are : {A : Type 0} (d : A) (f : ℕ → A) (n : ℕ) (xs : List A) → length xs ≡ n → ((i : ℕ) → i < n → getD xs i d ≡ f i) → xs ≡ valuesFrom f n 0
 values-are d f n xs e h = values-from d f n 0 xs e (λ i hi. h i hi ∙ ap f (from-zero i))
   where
@@ -76,14 +76,14 @@ module _ (s : State) (b : Book) (v : shapeRefusal (s .head .shape) ≡ 0) (r : R
       and-right (countsRead (y .table) && itemsRead d (y .sketch .cells) (items (y .table))) (norm.normsInRange (d .cols) (y .sketch .norms))
       (sum-reads d (wide (s .head .shape) a 0) (a .seats) true (sent (s .head .shape .layers) 0 b) y (omega (arith, sent-weights (s .head .shape .layers) 0 b, r .light)) (r .layers 0 (a .some)))
 
-  -- and the book's
+  -- layer 0's norms are the book's
   norms-are : layerAt s 0 .sketch .norms ≡ valuesFrom (normBy (s .head .shape) b 0) (rowsAt (s .head .shape) 0) 0
   norms-are =
       values-are 0 (normBy (s .head .shape) b 0) (rowsAt (s .head .shape) 0) (layerAt s 0 .sketch .norms)
       (ap length (r .layers 0 (a .some) .sketch .kept) ∙ length-rowNorms (colsAt (s .head .shape) 0) (layerAt s 0 .sketch .cells) (rowsAt (s .head .shape) 0) 0)
       (λ i h. layer-norm b s r 0 i (a .some) h)
 
-  -- as are the flags
+  -- the flags are the book's
   flags-are : take (s .head .shape .layers) (s .head .flags) ≡ valuesFrom (flagBy (s .head .shape) b) (s .head .shape .layers) 0
   unfolding layerAt
   flags-are =

@@ -95,7 +95,7 @@ module _ (sh : Shape) (v : shapeRefusal sh ≡ 0) where
       entry-of (updating .enter f) (updating .act f (relayAt sh rs i .lends)) (answeredWith sh (accountAt (map accountOf rs) i .book) f) (feeds-by rs h i f q)
   called-accepted rs h (join i j) q = refl
 
-  -- whether the call may be listed or not
+  -- a choice by whether the call may be listed: relays and their accounts make it alike
   listed-alike : {A : Type 0} (rs : List Relay) (c : Call) (x y d e : A) → (names (retirements rs) c ≡ true → x ≡ y) → d ≡ e
       → cond (names (retirements rs) c) x d ≡ cond (names (gone (map accountOf rs)) c) y e
   listed-alike {A} rs c x y d e p q = ap (λ (g : List Bool). cond (names g c) x d) (sym (map-map rs)) ∙ go (names (gone (map accountOf rs)) c) (ap (λ (g : List Bool). names g c) (sym (map-map rs)))

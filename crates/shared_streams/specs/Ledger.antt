@@ -2,7 +2,7 @@
 -- "Each relay has a book, its stream, made from the calls' arguments and from whether each was accepted."
 use Prim.Native.Nat.{ℕ}
 use mathlib.Core.Path.{_≡_}
-use mathlib.Core.Bool.{Bool, true, false, cond, not}
+use mathlib.Core.Bool.{Bool, true, false, cond}
 use mathlib.Core.List.{List, [], _∷_, _++_, map}
 use lib.ListN.{length, getD, set, replicate}
 use lib.IntN.{ℤ}
@@ -14,9 +14,8 @@ use Rattle.header.specs.declared.Scalars.{Scalars}
 use Rattle.header.specs.Totals.{totalsTests}
 use Rattle.header.specs.Header.{clash, beginTests}
 use Rattle.univmon.specs.declared.Kind.{Kind}
-use Rattle.layout.specs.Records.{recordLength}
 use Rattle.univmon.specs.Updates.{modeOf}
-use Rattle.layout.specs.Outcomes.{Outcome}
+use Rattle.layout.specs.Outcomes.{Outcome, recordTest}
 use Rattle.shared_streams.specs.Books.{Update, Book, weightOf, bookMode}
 use Rattle.shared_streams.specs.Feeds.{feed, join, names}
 use Rattle.shared_streams.specs.Relays.{Feed, updating, Relay, Call}
@@ -32,7 +31,7 @@ scalarsBy sh b = record { shape = sh; totals = totalsOf b; mode = bookMode b }
 
 -- an update: 12 "record length wrong", then 5 "negative weight", 6 "mode mixed in update", 7 "weight would pass 2^52", as a header judges them
 abbrev pub feedTests : Shape → Book → Kind → List ℕ → ℤ → List (Bool × ℕ)
-feedTests sh b k words w = (not (eqb (length words) (recordLength (sh .layers))), 12) ∷ beginTests (scalarsBy sh b) w (modeOf k)
+feedTests sh b k words w = recordTest sh (length words) ∷ beginTests (scalarsBy sh b) w (modeOf k)
 
 unfoldable pub feedNumber : Shape → Book → Kind → List ℕ → ℤ → ℕ
 feedNumber sh b k words w = number (feedTests sh b k words w)
@@ -63,7 +62,7 @@ pub record Account : Type 0 where
 abbrev pub opened : Account
 opened = record { book = []; retired = false }
 
--- of a relay
+-- the account of a relay
 abbrev pub accountOf : Relay → Account
 accountOf r = record { book = r .book; retired = r .retired }
 
@@ -91,7 +90,7 @@ gone xs = map (λ (a : Account). a .retired) xs
 abbrev pub bookStep : Shape → List Account → Call → List Account
 bookStep sh xs c = cond (names (gone xs) c) (booked sh xs c) xs
 
--- after a list of calls, and of n relays from the start
+-- the accounts after a list of calls; then those of n relays from the start
 unfoldable pub ledger : Shape → List Account → List Call → List Account
 ledger sh xs [] = xs
 ledger sh xs (c ∷ cs) = ledger sh (bookStep sh xs c) cs

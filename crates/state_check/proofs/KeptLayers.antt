@@ -52,7 +52,7 @@ rows-in cols h w (suc k) r s p f e =
 
 -- ---- candidates
 
--- a key offered with its count from counters that are in range
+-- keys offered with counts from counters that are in range: the heap stays sound and its counts in range
 module _ (d : Dims) (cells : List ℤ) (some : 0 < d .size) (ranged : allIn cells ≡ true) where
   good : (w : Item) → inRange (countOf d w cells) ≡ true
   good w = count-in (d .rows) (d .cols) (hashBy w) cells ranged

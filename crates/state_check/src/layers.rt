@@ -14,7 +14,7 @@ use crate::rows::rows_ok;
 use header::Header;
 use layer::Dims;
 
-// Of one layer, in its parts of the slices.
+// The check of one layer, lent as its parts of the slices.
 fn layer_ok(
     cells: &[i64],
     norms: &[u64],
@@ -34,7 +34,7 @@ fn layer_ok(
     seats_ok(entries, counts, dims.size, len)
 }
 
-// Of layer l of a state.
+// The check of layer l of a state.
 fn layer_at(
     header: Header,
     counters: &[i64],
@@ -61,7 +61,7 @@ fn layer_at(
     )
 }
 
-// Of every layer.
+// The check of every layer.
 fn layers_ok(
     header: Header,
     counters: &[i64],

@@ -11,7 +11,7 @@ use borrow.Author.Tests.{eq-eqb, le-ltb, eqb-true}
 use Rattle.sums.specs.Entries.{Entry}
 use Rattle.sums.specs.inner.Whole.{bitOff, bitSum, keySum, onward, entryTimes}
 
--- the bits' sum, with those whose bit is 1 counted twice more, counts all
+-- twice the number of those whose bit is 1, plus the sum of the signs, is the number of all
 bits-all : (l : ℕ) (es : List Entry) → pos 2 *ℤ pos (length (onward l es)) +ℤ bitSum l es ≡ pos (length es)
 unfolding onward bitSum
 bits-all l [] = refl

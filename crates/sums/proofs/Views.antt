@@ -22,7 +22,7 @@ unfolding listed
 length-listed f i zero = refl
 length-listed f i (suc n) = ap suc (length-listed f (suc i) n)
 
--- one place is left, and none
+-- where a place is left, and where none is
 pub listed-step : (f : ℕ → Entry) (i n : ℕ) → i < n → listed f i (n - i) ≡ f i ∷ listed f (i + 1) (n - (i + 1))
 unfolding listed
 listed-step f i n h = let e : n - i ≡ suc (n - (i + 1)) = omega arith in rw (e, add-one)

@@ -90,7 +90,7 @@ pub fn layer_sum(bottoms: &[u64], counts: &[i64], n: usize, rule: Rule) -> f64
     acc
 }
 
-// A layer's own sum, on the sum of the layer below it.
+// The recursion's sum at a layer, from the layer's own sum and the recursion's sum below it.
 pub fn join(last: bool, below: f64, own: f64) -> f64
     ensures { λ r. ⌜ r ≡ joinedSums last below own ⌝ }
 {

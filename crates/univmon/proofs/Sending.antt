@@ -8,15 +8,16 @@ use native.Mathlib.Numerals.{add-one}
 use lib.ListN.{length}
 use Rattle.words.proofs.Bools.{and-left, and-right}
 use Rattle.header.specs.declared.Shape.{Shape}
-use Rattle.layer.specs.Layer.{Layer, addLayer}
-use Rattle.layer.specs.inner.Needs.{layerUpdate, Fits}
+use Rattle.layer.specs.Layer.{Layer, addLayer, layerUpdate}
+use Rattle.layer.specs.inner.Needs.{Fits}
 use Rattle.layer.proofs.Steps.{add-lengths}
 use Rattle.layout.specs.State.{State, dimsAt, layerAt, putLayer, overLayers, allLayers}
 use Rattle.layout.specs.Slices.{Lent, view}
 use Rattle.layout.specs.Records.{recordLength, itemAt}
 use Rattle.layout.specs.inner.Needs.{Standing}
 use Rattle.header.specs.Header.{Headed}
-use Rattle.univmon.specs.inner.Needs.{SendReady, SendsReady, readsAt, fitsAt, addsAt}
+use Rattle.univmon.specs.inner.Needs.{SendReady, SendsReady}
+use Rattle.univmon.specs.Updates.{readsAt, fitsAt, addsAt}
 use Rattle.layout.proofs.Lengths.{long-view}
 use Rattle.layout.proofs.States.{at-fits, all-later}
 

@@ -7,8 +7,8 @@ use lib.ListN.{getD}
 use lib.IntN.{ℤ}
 use Rattle.heap_moves.specs.declared.Item.{Item}
 use Rattle.layer.specs.declared.Dims.{Dims}
-use Rattle.layer.specs.Layer.{addReads, addFits}
-use Rattle.layer.specs.inner.Needs.{layerUpdate, AddReady}
+use Rattle.layer.specs.Layer.{addReads, addFits, layerUpdate}
+use Rattle.layer.specs.inner.Needs.{AddReady}
 use Rattle.layer.proofs.Tests.{reads-are, fits-are}
 use Rattle.layout.specs.declared.Span.{Span}
 use Rattle.layout.specs.State.{dimsAt}

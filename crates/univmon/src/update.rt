@@ -2,44 +2,44 @@
 // what `stages` has tested.
 use header::Scalars;
 use layout::dims;
-use layout::span_of;
 use layout::item_in;
+use layout::span_of;
 ghost use mathlib.Core.Path.{_≡_};
 ghost use mathlib.Core.Bool.{Bool};
 ghost use Prim.Native.Nat.{ℕ, _+_};
-ghost use Rattle.layer.specs.Layer.{addLayer};
-ghost use Rattle.layer.specs.inner.Needs.{layerUpdate};
+ghost use Rattle.layer.specs.Layer.{addLayer, layerUpdate};
 ghost use Rattle.layout.specs.State.{dimsAt, layerAt, putLayer, overLayers};
 ghost use Rattle.layout.specs.Slices.{view};
 ghost use Rattle.layout.specs.Records.{itemAt};
 ghost use Rattle.layout.specs.inner.Needs.{Standing};
-ghost use Rattle.univmon.specs.inner.Needs.{SendReady, SendsReady, addsAt};
+ghost use Rattle.univmon.specs.inner.Needs.{SendReady, SendsReady};
+ghost use Rattle.univmon.specs.Updates.{addsAt};
 ghost use Rattle.header.specs.Lending.{headIn, headNow, headOut};
 ghost use Rattle.layout.specs.Lending.{lentIn, lentNow, lentOut};
 
 // Sends an update to one layer.
 fn send_one(
     h: Scalars,
-    flags: &mut [bool],
     lens: &mut [usize],
+    flags: &mut [bool],
     counters: &mut [i64],
     norms: &mut [u64],
     entries: &mut [u64],
     counts: &mut [i64],
-    words: &[u64],
+    record: &[u64],
     weight: u64,
     l: usize,
 )
-    requires { ⌜ SendReady (lentNow (headNow h lens flags) counters norms entries counts) (now words) weight l ⌝ }
+    requires { ⌜ SendReady (lentNow (headNow h lens flags) counters norms entries counts) (now «record») weight l ⌝ }
     ensures { λ r. ⌜ view (lentOut (headOut h lens flags) counters norms entries counts)
         ≡ putLayer (view (lentIn (headIn h lens flags) counters norms entries counts)) l
-        (addLayer (dimsAt (h .shape) l) (layerUpdate (itemAt (now (words .entry)) l) weight) (layerAt (view (lentIn (headIn h lens flags) counters norms entries counts)) l)) ⌝ }
+        (addLayer (dimsAt (h .shape) l) (layerUpdate (itemAt (now («record» .entry)) l) weight) (layerAt (view (lentIn (headIn h lens flags) counters norms entries counts)) l)) ⌝ }
     ensures { λ r. ⌜ Standing (lentOut (headOut h lens flags) counters norms entries counts) ⌝ }
 {
     let shape = h.shape;
     let s = span_of(shape, l);
     let d = dims(shape, l);
-    let item = item_in(words, l);
+    let item = item_in(record, l);
     let len = lens[l];
     let ca = s.cells;
     let ce = s.cells_end;
@@ -69,20 +69,20 @@ fn send_one(
 // Sends an update to many layers from the first on.
 pub fn send(
     h: Scalars,
-    flags: &mut [bool],
     lens: &mut [usize],
+    flags: &mut [bool],
     counters: &mut [i64],
     norms: &mut [u64],
     entries: &mut [u64],
     counts: &mut [i64],
-    words: &[u64],
+    record: &[u64],
     weight: u64,
     first: usize,
     many: usize,
 )
-    requires { ⌜ SendsReady (lentNow (headNow h lens flags) counters norms entries counts) (now words) weight many first ⌝ }
+    requires { ⌜ SendsReady (lentNow (headNow h lens flags) counters norms entries counts) (now «record») weight many first ⌝ }
     ensures { λ r. ⌜ view (lentOut (headOut h lens flags) counters norms entries counts)
-        ≡ overLayers (addsAt (h .shape) (now (words .entry)) weight) many first (view (lentIn (headIn h lens flags) counters norms entries counts)) ⌝ }
+        ≡ overLayers (addsAt (h .shape) (now («record» .entry)) weight) many first (view (lentIn (headIn h lens flags) counters norms entries counts)) ⌝ }
     ensures { λ r. ⌜ Standing (lentOut (headOut h lens flags) counters norms entries counts) ⌝ }
 {
     let end = first + many;
@@ -90,13 +90,13 @@ pub fn send(
     while l < end {
         send_one(
             h,
-            flags,
             lens,
+            flags,
             counters,
             norms,
             entries,
             counts,
-            words,
+            record,
             weight,
             l,
         );

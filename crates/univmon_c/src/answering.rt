@@ -113,7 +113,8 @@ pub extern "C" fn univmon_panel_answer(
     c_panel(estimates::panel_answer(h, counters, norms, entries, counts))
 }
 
-// Whether a header and four slices have what every accepted call keeps: a mode that is no mode is no.
+// Whether a header and four slices have what every accepted call keeps: no, where the mode's number
+// stands for no mode.
 #[no_mangle]
 pub extern "C" fn univmon_check_state(
     header: CHeader,

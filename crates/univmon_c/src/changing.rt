@@ -74,7 +74,7 @@ pub extern "C" fn univmon_new(
     ))
 }
 
-// Nothing counted any more.
+// Clears a state: header and slices are then as `new` leaves them.
 #[no_mangle]
 pub extern "C" fn univmon_clear(
     header: CHeader,
@@ -103,17 +103,17 @@ pub extern "C" fn univmon_update_weighted(
     norms: &mut [u64],
     entries: &mut [u64],
     counts: &mut [i64],
-    words: &[u64],
+    record: &[u64],
     weight: i64,
 ) -> CAnswered
     ensures { λ r. ⌜ cLeft (r .refusal) (cLentOut (r .header) counters norms entries counts)
-        ≡ changeBy true (λ s. updateCall kind.Standard s (now (words .entry)) weight) (cLentIn header counters norms entries counts) ⌝ }
+        ≡ changeBy true (λ s. updateCall kind.Standard s (now («record» .entry)) weight) (cLentIn header counters norms entries counts) ⌝ }
 {
     if LAST_MODE < header.mode {
         return CAnswered { refusal: 9, header };
     }
     let h = header_of(header);
-    c_answered(univmon::update_weighted(h, counters, norms, entries, counts, words, weight))
+    c_answered(univmon::update_weighted(h, counters, norms, entries, counts, record, weight))
 }
 
 // The key goes to its bottom layer only.
@@ -124,11 +124,11 @@ pub extern "C" fn univmon_update_weighted_terminal(
     norms: &mut [u64],
     entries: &mut [u64],
     counts: &mut [i64],
-    words: &[u64],
+    record: &[u64],
     weight: i64,
 ) -> CAnswered
     ensures { λ r. ⌜ cLeft (r .refusal) (cLentOut (r .header) counters norms entries counts)
-        ≡ changeBy true (λ s. updateCall kind.Terminal s (now (words .entry)) weight) (cLentIn header counters norms entries counts) ⌝ }
+        ≡ changeBy true (λ s. updateCall kind.Terminal s (now («record» .entry)) weight) (cLentIn header counters norms entries counts) ⌝ }
 {
     if LAST_MODE < header.mode {
         return CAnswered { refusal: 9, header };
@@ -140,7 +140,7 @@ pub extern "C" fn univmon_update_weighted_terminal(
         norms,
         entries,
         counts,
-        words,
+        record,
         weight,
     ))
 }
@@ -154,7 +154,7 @@ pub extern "C" fn univmon_apply_delta(
     norms: &mut [u64],
     entries: &mut [u64],
     counts: &mut [i64],
-    words: &[u64],
+    record: &[u64],
     layer: usize,
     row: usize,
     col: usize,
@@ -162,7 +162,7 @@ pub extern "C" fn univmon_apply_delta(
     fidelity: u64,
 ) -> CAnswered
     ensures { λ r. ⌜ cLeft (r .refusal) (cLentOut (r .header) counters norms entries counts)
-        ≡ changeBy (isFidelity fidelity) (λ s. deltaCall s (now (words .entry)) (arrival layer row col count (fidelityOf fidelity)))
+        ≡ changeBy (isFidelity fidelity) (λ s. deltaCall s (now («record» .entry)) (arrival layer row col count (fidelityOf fidelity)))
         (cLentIn header counters norms entries counts) ⌝ }
 {
     if LAST_MODE < header.mode {
@@ -179,7 +179,7 @@ pub extern "C" fn univmon_apply_delta(
         norms,
         entries,
         counts,
-        words,
+        record,
         layer,
         row,
         col,
@@ -190,7 +190,7 @@ pub extern "C" fn univmon_apply_delta(
 
 // ---- two states
 
-// The other state's stream behind this one's.
+// Merges the other state into this one.
 #[no_mangle]
 pub extern "C" fn univmon_merge(
     header: CHeader,

@@ -38,7 +38,7 @@ judged-unfit d u y e f = rw (e, f)
 pub judged-well : (d : Dims) (u : Delta) (y : Layer) → deltaReads d u y ≡ true → deltaFits d u y ≡ true → 0 ≡ number (deltaTestsAt d u y)
 judged-well d u y e f = rw (e, f)
 
--- the counter of a delta was read
+-- where all that a delta reads is in range, its counter is
 pub counter-read : (d : Dims) (row col : ℕ) (n : ℤ) (item : Item) (every : Bool) (xs : List ℤ) (ws es : List ℕ) (ns : List ℤ) (len : ℕ) (flag : Bool)
     → deltaReads d (delta row col n item every) (layerOf d xs ws es ns len flag) ≡ true → inRange (cellAt xs (row * d .cols + col)) ≡ true
 counter-read d row col n item every xs ws es ns len flag e = and-left a b (and-left (a && b) c (and-left (a && b && c) cells (and-left (a && b && c && cells) counts (sym (delta-reads-are d row col n item every xs ws es ns len flag) ∙ e))))

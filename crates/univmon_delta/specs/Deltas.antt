@@ -24,6 +24,9 @@ pub record Arrival : Type 0 where
   pub count : ℤ
   pub fidelity : Fidelity
 
+abbrev pub arrival : ℕ → ℕ → ℕ → ℤ → Fidelity → Arrival
+arrival l row col n f = record { layer = l; row = row; col = col; count = n; fidelity = f }
+
 abbrev pub everyInsert : Fidelity → Bool
 everyInsert fidelity.EveryInsert = true
 everyInsert fidelity.PromotedOnly = false
@@ -52,6 +55,3 @@ deltaTests r words a =
 
 unfoldable pub deltaCall : Lent → List ℕ → Arrival → Outcome
 deltaCall r words a = judge (deltaTests r words a) (flat (arrived (view r) words a))
-
-abbrev pub arrival : ℕ → ℕ → ℕ → ℤ → Fidelity → Arrival
-arrival l row col n f = record { layer = l; row = row; col = col; count = n; fidelity = f }

@@ -6,11 +6,11 @@ use header::Mode;
 use heap::Answer;
 use layout::cells_at;
 use layout::dims;
+use layout::item_in;
 use layout::lent_refusal;
 use layout::norms_at;
 use layout::seats_at;
 use layout::span_of;
-use layout::item_in;
 ghost use mathlib.Core.Path.{_≡_};
 ghost use mathlib.Core.Bool.{Bool, true, _&&_};
 ghost use Prim.Native.Nat.{ℕ, _<_};
@@ -62,19 +62,19 @@ fn judge_delta(
     norms: &[u64],
     entries: &[u64],
     counts: &[i64],
-    words: &[u64],
+    record: &[u64],
     l: usize,
     row: usize,
     col: usize,
     count: i64,
 ) -> u64
-    requires { ⌜ Placed (lentNow h counters norms entries counts) (now words) l row col ⌝ }
-    ensures { λ r. ⌜ ((every : Bool) → r ≡ number (deltaTestsAt (dimsAt (h .shape) l) (delta row col count (itemAt (now (words .entry)) l) every)
+    requires { ⌜ Placed (lentNow h counters norms entries counts) (now «record») l row col ⌝ }
+    ensures { λ r. ⌜ ((every : Bool) → r ≡ number (deltaTestsAt (dimsAt (h .shape) l) (delta row col count (itemAt (now («record» .entry)) l) every)
         (layerAt (view (lentIn h counters norms entries counts)) l))) ⌝ }
 {
     let shape = h.shape;
     let d = dims(shape, l);
-    let item = item_in(words, l);
+    let item = item_in(record, l);
     let lens = h.lens;
     let len = lens[l];
     let cells = cells_at(shape, l, counters);
@@ -103,24 +103,24 @@ fn deliver(
     norms: &mut [u64],
     entries: &mut [u64],
     counts: &mut [i64],
-    words: &[u64],
+    record: &[u64],
     l: usize,
     row: usize,
     col: usize,
     count: i64,
     every: bool,
 ) -> Header
-    requires { ⌜ Arrives (lentNow h counters norms entries counts) (now words) l row col count ⌝ }
+    requires { ⌜ Arrives (lentNow h counters norms entries counts) (now «record») l row col count ⌝ }
     ensures { λ r. ⌜ view (lentOut r counters norms entries counts)
         ≡ putLayer (view (lentIn h counters norms entries counts)) l
-        (deltaLayer (dimsAt (h .shape) l) (delta row col count (itemAt (now (words .entry)) l) every)
+        (deltaLayer (dimsAt (h .shape) l) (delta row col count (itemAt (now («record» .entry)) l) every)
         (layerAt (view (lentIn h counters norms entries counts)) l)) ⌝ }
     ensures { λ r. ⌜ Standing (lentOut r counters norms entries counts) ⌝ }
 {
     let shape = h.shape;
     let s = span_of(shape, l);
     let d = dims(shape, l);
-    let item = item_in(words, l);
+    let item = item_in(record, l);
     let lens = h.lens;
     let len = lens[l];
     let ca = s.cells;
@@ -153,20 +153,20 @@ fn delta_refusal(
     norms: &[u64],
     entries: &[u64],
     counts: &[i64],
-    words: &[u64],
+    record: &[u64],
     l: usize,
     row: usize,
     col: usize,
     count: i64,
 ) -> u64
-    ensures { λ r. ⌜ ((f : Fidelity) → r ≡ number (deltaTests (lentIn h counters norms entries counts) (now (words .entry)) (arrival l row col count f))) ⌝ }
+    ensures { λ r. ⌜ ((f : Fidelity) → r ≡ number (deltaTests (lentIn h counters norms entries counts) (now («record» .entry)) (arrival l row col count f))) ⌝ }
 {
     let unfit = lent_refusal(h, counters, norms, entries, counts);
     if unfit != 0 {
         return unfit;
     }
     let shape = h.shape;
-    if words.len() != 2 + 2 * shape.layers {
+    if record.len() != 2 + 2 * shape.layers {
         return 12;
     }
     if shape.layers <= l {
@@ -185,7 +185,7 @@ fn delta_refusal(
         norms,
         entries,
         counts,
-        words,
+        record,
         l,
         row,
         col,
@@ -200,7 +200,7 @@ pub fn apply_delta(
     norms: &mut [u64],
     entries: &mut [u64],
     counts: &mut [i64],
-    words: &[u64],
+    record: &[u64],
     layer: usize,
     row: usize,
     col: usize,
@@ -208,7 +208,7 @@ pub fn apply_delta(
     fidelity: Fidelity,
 ) -> Answered
     ensures { λ r. ⌜ left (r .refusal) (lentOut (r .header) counters norms entries counts)
-        ≡ leftAfter (λ s. deltaCall s (now (words .entry)) (arrival layer row col count fidelity)) (lentIn header counters norms entries counts) ⌝ }
+        ≡ leftAfter (λ s. deltaCall s (now («record» .entry)) (arrival layer row col count fidelity)) (lentIn header counters norms entries counts) ⌝ }
 {
     let n = count as i64;
     let refusal = delta_refusal(
@@ -217,7 +217,7 @@ pub fn apply_delta(
         &*norms,
         &*entries,
         &*counts,
-        words,
+        record,
         layer,
         row,
         col,
@@ -237,7 +237,7 @@ pub fn apply_delta(
             norms,
             entries,
             counts,
-            words,
+            record,
             layer,
             row,
             col,

@@ -39,13 +39,10 @@ pub fn merge(
     if refusal != 0 {
         return Answered { refusal, header };
     }
-    let had = header.mode;
-    let came = other.mode;
+    let totals = other.totals;
+    let mode = other.mode;
     let layers = header.shape.layers;
-    let totals = header.totals.plus(other.totals);
-    let begun = header
-        .with_totals(totals)
-        .with_mode(header::join(had, came));
+    let begun = header.begin(totals, mode);
     Answered {
         refusal: 0,
         header: merge_layers(

@@ -160,9 +160,9 @@ fn heads_refusal(h: Header, other: Header) -> u64
     if !shape.same(other.shape) {
         return 10;
     }
-    let had = h.mode;
-    let came = other.mode;
-    if header::clashes(had, came) {
+    let mode = h.mode;
+    let other_mode = other.mode;
+    if header::clashes(mode, other_mode) {
         return 6;
     }
     h.totals.sum_refusal(other.totals)

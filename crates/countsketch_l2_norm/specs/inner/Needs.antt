@@ -1,4 +1,4 @@
--- What the stores of an update need, by name.
+-- What updates, deltas and norms are to the code, and what the stores need, by name.
 use Prim.Native.Nat.{ℕ, _+_, _-_, _*_, _≤_, _<_, min, _%_, _/_}
 use mathlib.Core.Path.{_≡_}
 use mathlib.Core.Bool.{true, Bool, _&&_}
@@ -16,10 +16,11 @@ use Rattle.float64.specs.Norm.{normTop}
 abbrev pub sketchOf : List ℤ → List ℕ → ℕ → Sketch
 sketchOf xs ws rows = record { cells = xs; norms = normsOf ws rows }
 
--- both, where it does not matter which of them fails
+-- what is read is in range and fits, where it does not matter which of them fails
 abbrev pub rowsReady : ℕ → ℕ → ℕ → Sketch → ℕ → ℕ → Bool
 rowsReady cols h w s k r = rowsRead cols h s k r && rowsFit cols h w (s .cells) k r
 
+-- norm r stored
 unfoldable pub setNorm : List ℕ → ℕ → ℕ → List ℕ
 setNorm ws r n = set (set ws (2 * r) (n % wordSize)) (2 * r + 1) (n / wordSize)
 
@@ -27,6 +28,7 @@ setNorm ws r n = set (set ws (2 * r) (n % wordSize)) (2 * r + 1) (n / wordSize)
 abbrev pub clamped : ℕ → ℤ
 clamped n = pos (min n normTop)
 
+-- what the stores of an update need
 pub record Ready (rows cols h w : ℕ) (xs : List ℤ) (ws : List ℕ) : Type 0 where
   pub shaped : Shaped rows cols
   pub room : rows * cols ≤ length xs
@@ -35,7 +37,7 @@ pub record Ready (rows cols h w : ℕ) (xs : List ℤ) (ws : List ℕ) : Type 0 
   pub read : rowsRead cols h (sketchOf xs ws rows) rows 0 ≡ true
   pub fit : rowsFit cols h w xs rows 0 ≡ true
 
--- of one counter and its row's norm
+-- what the store of one counter and its row's norm needs
 pub record CellReady (at r : ℕ) (d : ℤ) (xs : List ℤ) (ws : List ℕ) : Type 0 where
   pub inside : at < length xs
   pub few : r < maxRows
@@ -58,7 +60,7 @@ pub record CellPlaced (rows cols row col : ℕ) (xs : List ℤ) : Type 0 where
   pub below : row < rows
   pub inside : col < cols
 
--- of a delta there
+-- what a delta on that counter needs
 pub record CellDeltaReady (rows cols row col : ℕ) (d : ℤ) (xs : List ℤ) (ws : List ℕ) : Type 0 where
   pub placed : CellPlaced rows cols row col xs
   pub pairs : 2 * rows ≤ length ws

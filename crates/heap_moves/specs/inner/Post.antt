@@ -1,4 +1,4 @@
--- Names for the parts of contracts.
+-- What the moves store and need, by name.
 use mathlib.Core.Path.{_≡_}
 use Prim.Native.Nat.{ℕ, _*_, _<_, _+_}
 use Rattle.heap_moves.specs.declared.Item.{Item}

@@ -38,7 +38,7 @@ mergeTable d cells ws = record { table = offerAll d cells (firsts [] ws) (noTabl
 unfoldable pub offerOne : Dims → List ℤ → Item → Gathered → Gathered
 offerOne d cells w g = record { table = offerTo d w cells (g .table) .table; keys = g .keys + 1 }
 
--- the first entries of keys not seen offered
+-- the first entry of each key that was not seen is offered
 unfoldable pub gather : Dims → List ℤ → List ℕ → List Item → Gathered → Gathered
 gather d cells seen ws g = record { table = offerAll d cells (firsts seen ws) (g .table); keys = g .keys + length (firsts seen ws) }
 
@@ -53,7 +53,7 @@ itemsOf es n = itemsFrom es n 0
 abbrev pub keysOf : List ℕ → ℕ → List ℕ
 keysOf es n = itemKeys (itemsFrom es n 0)
 
--- an entry of the source is offered if its key is not before it there, nor among the m of another slice
+-- entry i of the source is offered unless its key stands in an entry before it there, or in one of the first m entries of another slice
 unfoldable pub firstAt : Dims → List ℤ → List ℕ → ℕ → List ℕ → ℕ → Gathered → Gathered
 firstAt d cells before m source i g =
     cond (hasKey (getD source (4 * i) 0) (keysOf before m)) g
@@ -66,7 +66,7 @@ firstAt d cells before m source i g =
 pub record Front (n : ℕ) (xs ys : List ℕ) : Type 0 where
   pub at : (j : ℕ) → j < n → getD ys j 0 ≡ getD xs j 0
 
--- counters that any key may be counted in
+-- counters from which any key's count may be estimated
 pub record CountersRead (d : Dims) (xs : List ℤ) : Type 0 where
   pub shaped : Shaped (d .rows) (d .cols)
   pub room : d .rows * d .cols ≤ length xs
@@ -84,12 +84,12 @@ pub record Entries (nw n : ℕ) : Type 0 where
   pub words : 4 * n ≤ nw
   pub few : n ≤ mostCands
 
--- so many seated, and of so many keys
+-- so far no more candidates than seats, of at most `most` keys
 pub record Sofar (d : Dims) (g : Merged) (most : ℕ) : Type 0 where
   pub used : g .len ≤ d .size
   pub few : g .keys ≤ most
 
--- a layer, the counters of another with its len₂ candidates, and their sums
+-- what a merge needs of a layer and of another one with len₂ candidates: lengths, counters in range, and sums of counters in range
 pub record LayerMergeReady (d : Dims) (len len₂ : ℕ) (xs : List ℤ) (ws es : List ℕ) (ns xs₂ : List ℤ) (es₂ : List ℕ) : Type 0 where
   pub housed : Housed d (length xs) (length ws) (length ns) len
   pub words : length es ≡ 4 * d .size

@@ -1,4 +1,4 @@
--- What the functions on one layer need, by name.
+-- One layer in its slices, and what the functions on it need, by name.
 use Prim.Native.Nat.{ℕ, _*_, _≤_, _<_}
 use mathlib.Core.Path.{_≡_}
 use mathlib.Core.Bool.{true, false, Bool}
@@ -10,7 +10,7 @@ use Rattle.matrix_storage.specs.inner.Shaped.{Shaped}
 use Rattle.heap_moves.specs.declared.Item.{Item}
 use Rattle.heap_moves.specs.Cands.{mostCands}
 use Rattle.layer.specs.declared.Dims.{Dims}
-use Rattle.layer.specs.Layer.{Layer, addReads, addFits, LayerUpdate, noTable}
+use Rattle.layer.specs.Layer.{Layer, layerUpdate, addReads, addFits, noTable}
 use Rattle.layer.specs.Delta.{deltaReads, deltaFits, Delta}
 use Rattle.heap.specs.inner.Slices.{tableOf}
 use Rattle.countsketch_l2_norm.specs.inner.Needs.{sketchOf}
@@ -19,9 +19,7 @@ use Rattle.countsketch_l2_norm.specs.inner.Needs.{sketchOf}
 abbrev pub layerOf : Dims → List ℤ → List ℕ → List ℕ → List ℤ → ℕ → Bool → Layer
 layerOf d xs ws es ns len flag = record { sketch = sketchOf xs ws (d .rows); table = tableOf es ns len; flag = flag }
 
-abbrev pub layerUpdate : Item → ℕ → LayerUpdate
-layerUpdate item w = record { item = item; weight = w }
-
+-- a layer with nothing counted
 unfoldable pub noLayer : Dims → Layer
 noLayer d =
     record {

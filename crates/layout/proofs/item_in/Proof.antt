@@ -1,4 +1,4 @@
--- `layout::who_in` meets its contract.
+-- `layout::item_in` meets its contract.
 -- Written by tools/places.py from answers.txt; assumes nothing.
 use Prim.Native.Nat.{_+_, _*_}
 use mathlib.Core.Path.{_≡_}
@@ -37,7 +37,7 @@ shared-slice-read-t14 c = search needs
 
 returns : tie.Need-returns
 returns c =
-    let ws = now (c .before .before .before .before .args .words) in
+    let ws = now (c .before .before .before .before .args .«record») in
     let l = c .before .before .before .before .args .l in
     let e : 2 + 2 * l + 1 ≡ 3 + 2 * l = omega arith in
     rw e

@@ -6,6 +6,7 @@ use Prim.Native.Nat.{suc, ℕ}
 use mathlib.Core.Bool.{Bool, cond, false, true}
 use lib.Dec.{eqb}
 
+-- what is held of a line
 abbrev pub heldOf : List ℕ → List ℕ
 heldOf l = take mostHeld l
 

@@ -9,16 +9,15 @@ use lib.Dec.{eqb}
 use Rattle.words.specs.Num.{top}
 use Rattle.header.specs.declared.Shape.{Shape}
 use Rattle.header.specs.declared.Header.{Header}
-use Rattle.header.specs.Header.{headerOk, Headed}
-use Rattle.layer.specs.Layer.{Layer, addLayer, addReads, addFits}
-use Rattle.layer.specs.inner.Needs.{layerUpdate}
+use Rattle.header.specs.Header.{Headed}
+use Rattle.layer.specs.Layer.{Layer, addReads, addFits, layerUpdate}
 use Rattle.univmon.specs.declared.Kind.{Kind}
-use Rattle.layout.specs.State.{State, dimsAt, layerAt, allLayers, overLayers}
-use Rattle.layout.specs.Slices.{Lent, lengthsOk, view, flat}
+use Rattle.layout.specs.State.{dimsAt, layerAt, allLayers, overLayers}
+use Rattle.layout.specs.Slices.{Lent, view, flat}
 use Rattle.layout.specs.Records.{recordLength, itemAt}
 use Rattle.layout.specs.inner.Needs.{Standing}
-use Rattle.layout.specs.Outcomes.{Left, leftBy, judge}
-use Rattle.univmon.specs.Updates.{firstSent, manySent, bottomBy, sentTests}
+use Rattle.layout.specs.Outcomes.{Left, leftBy, judge, sizeTests, recordTest}
+use Rattle.univmon.specs.Updates.{readsAt, fitsAt, addsAt, firstSent, manySent, bottomBy, layersTests, sentTests}
 use Rattle.univmon.specs.Calls.{placeTests}
 
 -- what the update of layer l needs
@@ -30,16 +29,6 @@ pub record SendReady (r : Lent) (words : List ℕ) (w l : ℕ) : Type 0 where
   pub inside : l < r .head .shape .layers
   pub read : addReads (dimsAt (r .head .shape) l) (layerUpdate (itemAt words l) w) (layerAt (view r) l) ≡ true
   pub fit : addFits (dimsAt (r .head .shape) l) (layerUpdate (itemAt words l) w) (layerAt (view r) l) ≡ true
-
--- the tests and the step of an update at each layer, by a shape
-abbrev pub readsAt : Shape → List ℕ → ℕ → ℕ → Layer → Bool
-readsAt sh words w l y = addReads (dimsAt sh l) (layerUpdate (itemAt words l) w) y
-
-abbrev pub fitsAt : Shape → List ℕ → ℕ → ℕ → Layer → Bool
-fitsAt sh words w l y = addFits (dimsAt sh l) (layerUpdate (itemAt words l) w) y
-
-abbrev pub addsAt : Shape → List ℕ → ℕ → ℕ → Layer → Layer
-addsAt sh words w l y = addLayer (dimsAt sh l) (layerUpdate (itemAt words l) w) y
 
 -- what the update of many layers from the first on needs
 pub record SendsReady (r : Lent) (words : List ℕ) (w many first : ℕ) : Type 0 where
@@ -63,11 +52,7 @@ pub record JudgeReady (r : Lent) (words : List ℕ) (w many first : ℕ) : Type 
   pub light : w ≤ top
   pub inside : first + many ≤ r .head .shape .layers
 
--- what is read of the touched layers, and what is added there: 9, 11
-abbrev pub layersTests : Shape → List ℕ → ℕ → ℕ → ℕ → State → List (Bool × ℕ)
-layersTests sh words w many first s = (not (allLayers (readsAt sh words w) many first s), 9) ∷ (not (allLayers (fitsAt sh words w) many first s), 11) ∷ []
-
--- what tests and then sends of many layers from the first on leave: a refusal and nothing changed, or 0 and the layers changed
+-- what is left after many layers from the first on were tested and then sent to: a refusal and nothing changed, or 0 and the layers changed
 unfoldable pub sentBy : List ℕ → ℕ → ℕ → ℕ → Lent → Left
 sentBy words w many first r =
     leftBy r (judge (layersTests (r .head .shape) words w many first (view r)) (flat (overLayers (addsAt (r .head .shape) words w) many first (view r))))
@@ -85,11 +70,9 @@ keySent k words w r = sentBy words w (manySent k (bottomBy (view r) words)) (fir
 
 -- header, lengths and record, where a header's lengths and flags are lent too: 9, 12
 abbrev pub soundTests : Header → ℕ → ℕ → ℕ → ℕ → ℕ → List (Bool × ℕ)
-soundTests h xs ws es ns n =
-    placeTests h
-    ++ ((not (headerOk h), 9) ∷ (not (lengthsOk (h .shape) xs ws es ns), 9) ∷ (not (eqb n (recordLength (h .shape .layers))), 12) ∷ [])
+soundTests h xs ws es ns n = placeTests h ++ (sizeTests h xs ws es ns ++ (recordTest (h .shape) n ∷ []))
 
--- of what is lent
+-- these tests of a lent state and a record
 abbrev pub soundIn : Lent → List ℕ → List (Bool × ℕ)
 soundIn r words = soundTests (r .head) (length (r .counters)) (length (r .norms)) (length (r .entries)) (length (r .counts)) (length words)
 

@@ -124,11 +124,11 @@ back c = record { cells = c .before .before .before .before .before .counters .g
 -- the layer as it came back
 layer-now : (c : tie.After-apply-delta) → let a = c .before .before .before .before .before .before .before .before .before .before .before .before .before .args in let l = c .apply-delta .last in let f = getD (a .h .flags) (a .l) false in
     layerOf (dimsAt (a .h .shape) (a .l)) (l .0) (l .1 .0) (l .1 .1 .0) (l .1 .1 .1 .0) (lenBy (c .apply-delta .result) (getD (a .h .lens) (a .l) 0)) (f && (keptBy (c .apply-delta .result) && a .every))
-    ≡ deltaLayer (dimsAt (a .h .shape) (a .l)) (delta (a .row) (a .col) (a .count) (itemAt (now (a .words)) (a .l)) (a .every)) (layerAt (view (lent-of (c .before .before .before .before .before .before .before .before .before .before .before .before .before))) (a .l))
+    ≡ deltaLayer (dimsAt (a .h .shape) (a .l)) (delta (a .row) (a .col) (a .count) (itemAt (now (a .«record»)) (a .l)) (a .every)) (layerAt (view (lent-of (c .before .before .before .before .before .before .before .before .before .before .before .before .before))) (a .l))
 layer-now c =
     let a = c .before .before .before .before .before .before .before .before .before .before .before .before .before .args in
     rw (c .before .before .before .before .before .before .before .dims .ensures, c .before .before .before .before .before .before .item-in .ensures, toZ-ofZ (c .before .before .before .before .before .before .before .before .before .before .before .before .before .fits .count)) at (c .apply-delta .ensures .0 (getD (a .h .flags) (a .l) false) (a .every))
-    ∙ ap (deltaLayer (dimsAt (a .h .shape) (a .l)) (delta (a .row) (a .col) (a .count) (itemAt (now (a .words)) (a .l)) (a .every))) (sym (handed-is (spanned (c .before .before .before .before .before .before .before .before))))
+    ∙ ap (deltaLayer (dimsAt (a .h .shape) (a .l)) (delta (a .row) (a .col) (a .count) (itemAt (now (a .«record»)) (a .l)) (a .every))) (sym (handed-is (spanned (c .before .before .before .before .before .before .before .before))))
 
 -- the header as it is handed back
 header-now : (c : tie.After-touched) → let a = c .before .before .before .before .before .before .before .before .before .before .before .before .before .before .before .before .before .before .before .before .before .before .args in
@@ -141,7 +141,7 @@ unfolding layerAt view
 few c =
     let a = c .before .before .before .before .before .before .before .before .before .before .before .before .before .args in
     rw (ap (λ (y : Layer). y .table .len) (layer-now c))
-    (delta-few (dimsAt (a .h .shape) (a .l)) (delta (a .row) (a .col) (a .count) (itemAt (now (a .words)) (a .l)) (a .every)) (layerAt (view (lent-of (c .before .before .before .before .before .before .before .before .before .before .before .before .before))) (a .l)) (c .before .before .before .before .before .before .before .before .before .before .before .before .before .pre .placed .standing .lens (a .l) (c .before .before .before .before .before .before .before .before .before .before .before .before .before .pre .placed .inside)))
+    (delta-few (dimsAt (a .h .shape) (a .l)) (delta (a .row) (a .col) (a .count) (itemAt (now (a .«record»)) (a .l)) (a .every)) (layerAt (view (lent-of (c .before .before .before .before .before .before .before .before .before .before .before .before .before))) (a .l)) (c .before .before .before .before .before .before .before .before .before .before .before .before .before .pre .placed .standing .lens (a .l) (c .before .before .before .before .before .before .before .before .before .before .before .before .before .pre .placed .inside)))
 
 returns : tie.Need-returns
 returns c = (

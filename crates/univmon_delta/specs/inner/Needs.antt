@@ -12,7 +12,7 @@ use Rattle.layout.specs.Slices.{Lent, view}
 use Rattle.layout.specs.Records.{recordLength, itemAt}
 use Rattle.layout.specs.inner.Needs.{Standing}
 
--- a delta names a counter of layer l, and its record is the shape's
+-- a delta names a counter of layer l, and its record has the length that the shape asks for
 pub record Placed (r : Lent) (words : List ℕ) (l row col : ℕ) : Type 0 where
   pub standing : Standing r
   pub recorded : length words ≡ recordLength (r .head .shape .layers)

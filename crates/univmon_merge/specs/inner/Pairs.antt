@@ -35,7 +35,7 @@ pub record PairsRead (r t : Lent) (many : ℕ) : Type 0 where
   pub paired : Paired r t many 0
   pub read : allLayers (readsWith (view t)) many 0 (view r) ≡ true
 
--- and the sums too
+-- and the sums are in range too
 pub record MergeReady (r t : Lent) (l : ℕ) : Type 0 where
   pub ready : PairRead r t l
   pub fit : fitsWith (view t) l (layerAt (view r) l) ≡ true

@@ -9,10 +9,10 @@ use borrow.Author.Needs.{needs}
 use denote.Ref.{now}
 use Rattle.header.specs.Header.{headOf}
 use Rattle.layout.specs.Slices.{lent, Lent}
-use Rattle.univmon.specs.inner.Needs.{readsAt}
 use Rattle.layout.specs.State.{candOff}
 use Rattle.layout.proofs.Views.{layer-view, housed-here}
 use Rattle.words.specs.Parts.{part}
+use Rattle.univmon.specs.Updates.{readsAt}
 use Rattle.univmon.proofs.judge.reads_at.Statement.{statement}
 use Rattle.univmon.proofs.judge.reads_at.Tie as tie
 
@@ -55,7 +55,7 @@ returns c =
     let sh = a .h .shape in
     rw (c .before .before .before .before .before .before .dims .ensures, c .before .before .before .before .before .item-in .ensures, c .before .before .before .cells-at .ensures, c .before .before .norms-at .ensures, c .before .seats-at .ensures) at
     (c .add-reads .ensures (part (4 * candOff sh (a .l)) (4 * sh .«heap_size») (now (a .entries))) (getD (now (a .flags)) (a .l) false) w)
-    ∙ ap (readsAt sh (now (a .words)) w (a .l)) (sym (layer-view (lent-of (c .before .before .before .before .before .before .before .before .before .before .before .before .before)) (c .before .before .before .before .before .before .before .before .before .before .before .before .before .pre .standing .sizes) (a .l) (inside (c .before .before .before .before .before .before .before .before .before .before .before .before .before))))
+    ∙ ap (readsAt sh (now (a .«record»)) w (a .l)) (sym (layer-view (lent-of (c .before .before .before .before .before .before .before .before .before .before .before .before .before)) (c .before .before .before .before .before .before .before .before .before .before .before .before .before .pre .standing .sizes) (a .l) (inside (c .before .before .before .before .before .before .before .before .before .before .before .before .before))))
 
 pub reads-at-spec : {M : Type 1} → statement M
 reads-at-spec = tie.close (tie.spec dims-requires item-in-requires mul-len shared-slice-read-len cells-at-requires norms-at-requires seats-at-requires add-reads-requires returns)

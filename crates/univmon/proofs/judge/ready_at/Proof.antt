@@ -54,7 +54,7 @@ returns c =
     let sh = a .h .shape in
     rw (c .before .before .before .before .before .before .dims .ensures, c .before .before .before .before .before .item-in .ensures, c .before .before .before .cells-at .ensures, c .before .before .norms-at .ensures, c .before .seats-at .ensures) at
     (c .add-ready .ensures (part (4 * candOff sh (a .l)) (4 * sh .«heap_size») (now (a .entries))) (getD (now (a .flags)) (a .l) false))
-    ∙ ap (readyAt sh (now (a .words)) (a .weight) (a .l)) (sym (layer-view (lent-of (c .before .before .before .before .before .before .before .before .before .before .before .before .before)) (c .before .before .before .before .before .before .before .before .before .before .before .before .before .pre .standing .sizes) (a .l) (inside (c .before .before .before .before .before .before .before .before .before .before .before .before .before))))
+    ∙ ap (readyAt sh (now (a .«record»)) (a .weight) (a .l)) (sym (layer-view (lent-of (c .before .before .before .before .before .before .before .before .before .before .before .before .before)) (c .before .before .before .before .before .before .before .before .before .before .before .before .before .pre .standing .sizes) (a .l) (inside (c .before .before .before .before .before .before .before .before .before .before .before .before .before))))
 
 pub ready-at-spec : {M : Type 1} → statement M
 ready-at-spec = tie.close (tie.spec dims-requires item-in-requires mul-len shared-slice-read-len cells-at-requires norms-at-requires seats-at-requires add-ready-requires returns)

@@ -11,8 +11,8 @@ use Rattle.header.specs.Header.{headOf, withLayer}
 use Rattle.layout.specs.Slices.{lent, view, Lent}
 use Rattle.layout.specs.Outcomes.{left}
 use Rattle.header.proofs.Steps.{touched-kept, touched-lost}
-use Rattle.layer.specs.Layer.{Layer, addLayer}
-use Rattle.layer.specs.inner.Needs.{layerOf, layerUpdate}
+use Rattle.layer.specs.Layer.{Layer, addLayer, layerUpdate}
+use Rattle.layer.specs.inner.Needs.{layerOf}
 use Rattle.layer.proofs.Steps.{add-few}
 use Rattle.layout.specs.State.{dimsAt, layerAt}
 use Rattle.layout.specs.Records.{itemAt}
@@ -130,11 +130,11 @@ back c = record { cells = c .before .before .before .before .before .counters .g
 -- the layer as it came back
 layer-now : (c : tie.After-add) → let a = c .before .before .before .before .before .before .before .before .before .before .before .before .before .before .before .args in let l = c .add .last in let f = getD (now (a .flags)) (a .l) false in
     layerOf (dimsAt (a .h .shape) (a .l)) (l .0) (l .1 .0) (l .1 .1 .0) (l .1 .1 .1 .0) (lenBy (c .add .result) (getD (now (a .lens)) (a .l) 0)) (f && keptBy (c .add .result))
-    ≡ addLayer (dimsAt (a .h .shape) (a .l)) (layerUpdate (itemAt (now (a .words)) (a .l)) (a .weight)) (layerAt (view (lent-of (c .before .before .before .before .before .before .before .before .before .before .before .before .before .before .before))) (a .l))
+    ≡ addLayer (dimsAt (a .h .shape) (a .l)) (layerUpdate (itemAt (now (a .«record»)) (a .l)) (a .weight)) (layerAt (view (lent-of (c .before .before .before .before .before .before .before .before .before .before .before .before .before .before .before))) (a .l))
 layer-now c =
     let a = c .before .before .before .before .before .before .before .before .before .before .before .before .before .before .before .args in
     rw (c .before .before .before .before .before .before .before .dims .ensures, c .before .before .before .before .before .before .item-in .ensures) at (c .add .ensures .0 (getD (now (a .flags)) (a .l) false))
-    ∙ ap (addLayer (dimsAt (a .h .shape) (a .l)) (layerUpdate (itemAt (now (a .words)) (a .l)) (a .weight))) (sym (handed-is (spanned (c .before .before .before .before .before .before .before .before))))
+    ∙ ap (addLayer (dimsAt (a .h .shape) (a .l)) (layerUpdate (itemAt (now (a .«record»)) (a .l)) (a .weight))) (sym (handed-is (spanned (c .before .before .before .before .before .before .before .before))))
 
 -- flags and lengths as they are handed back
 after-kept : (c : tie.Then1) → let a = c .before .before .before .before .before .before .before .before .before .before .before .before .before .before .before .before .before .before .before .before .before .before .before .before .args in let h = headOf (a .h) (now (a .lens)) (now (a .flags)) in
@@ -157,7 +157,7 @@ unfolding layerAt view
 few c =
     let a = c .before .before .before .before .before .before .before .before .before .before .before .before .before .before .before .args in
     rw (ap (λ (y : Layer). y .table .len) (layer-now c))
-    (add-few (dimsAt (a .h .shape) (a .l)) (layerUpdate (itemAt (now (a .words)) (a .l)) (a .weight)) (layerAt (view (lent-of (c .before .before .before .before .before .before .before .before .before .before .before .before .before .before .before))) (a .l)) (c .before .before .before .before .before .before .before .before .before .before .before .before .before .before .before .pre .standing .lens (a .l) (c .before .before .before .before .before .before .before .before .before .before .before .before .before .before .before .pre .inside)))
+    (add-few (dimsAt (a .h .shape) (a .l)) (layerUpdate (itemAt (now (a .«record»)) (a .l)) (a .weight)) (layerAt (view (lent-of (c .before .before .before .before .before .before .before .before .before .before .before .before .before .before .before))) (a .l)) (c .before .before .before .before .before .before .before .before .before .before .before .before .before .before .before .pre .standing .lens (a .l) (c .before .before .before .before .before .before .before .before .before .before .before .before .before .before .before .pre .inside)))
 
 returns : tie.Need-returns
 returns c = (

@@ -20,7 +20,7 @@ here c = cLent (c .args .header) (now (c .args .counters)) (now (c .args .norms)
 
 -- the call on the state that it stands for
 abbrev call : tie.Start → Lent → Outcome
-call c s = deltaCall s (now (c .args .words)) (arrival (c .args .layer) (c .args .row) (c .args .col) (c .args .count) (fidelityOf (c .args .fidelity)))
+call c s = deltaCall s (now (c .args .«record»)) (arrival (c .args .layer) (c .args .row) (c .args .col) (c .args .count) (fidelityOf (c .args .fidelity)))
 
 returns : tie.Need-returns
 returns c = change-no-mode (isFidelity (c .before .before .before .before .before .args .fidelity)) (call (c .before .before .before .before .before)) (here (c .before .before .before .before .before)) (omega (arith, c .if1 .taken))

@@ -1,4 +1,4 @@
--- `panel_lines::answer::put_item` meets its contract.
+-- `panel_lines::answer::put_field` meets its contract.
 -- Written by tools/places.py from answers.txt; assumes nothing.
 use mathlib.Core.Path.{_∙_}
 use native.Mathlib.Omega.{arith}
@@ -21,5 +21,5 @@ same-length c = search needs
 returns : tie.Need-returns
 returns c = (omega (arith, c .before .before .put-hex .ensures .0, c .before .before .before .before .before .before .put-word .ensures .0), c .before .before .put-hex .ensures .1 ∙ rw (c .before .before .before .before .before .before .put-word .ensures .1, c .before .before .before .before .before .before .put-word .ensures .0) (sets-append (now (c .before .before .before .before .before .before .before .before .before .before .args .out)) (c .before .before .before .before .before .before .before .before .before .before .args .at) (now (c .before .before .before .before .before .before .before .before .before .before .args .word)) (hexDigits 16 (c .before .before .before .before .before .before .before .before .before .before .args .n))))
 
-pub put-item-spec : {M : Type 1} → statement M
-put-item-spec = tie.close (tie.spec put-word-requires put-hex-requires same-length returns)
+pub put-field-spec : {M : Type 1} → statement M
+put-field-spec = tie.close (tie.spec put-word-requires put-hex-requires same-length returns)
