@@ -40,12 +40,12 @@ module _ (es : List ℕ) (ns : List ℤ) (len : ℕ) (w : Item) (v v′ : ℤ) (
   root-less : (b : Bool) → mag (getD ns 0 (pos 0)) < 2 ^ 63 → ltZ (toZ w64 (ofZ w64 (getD ns 0 (pos 0)))) v′ ≡ b → ltZ (getD ns 0 (pos 0)) v ≡ b
   root-less b f t = rw (toZ-ofZ {w = w64} {z = getD ns 0 (pos 0)} (sfits-of f), same) at t
 
-  pub displace-yes : (es₂ : List ℕ) (ns₂ : List ℤ) (cs : List Cand) (out : ℕ) → 0 < length ns → mag (getD ns 0 (pos 0)) < 2 ^ 63
-      → ltZ (toZ w64 (ofZ w64 (getD ns 0 (pos 0)))) v′ ≡ true → out ≡ getD es 0 0
+  pub displace-yes : (es₂ : List ℕ) (ns₂ : List ℤ) (cs : List Cand) (a : Answer) → 0 < length ns → mag (getD ns 0 (pos 0)) < 2 ^ 63
+      → ltZ (toZ w64 (ofZ w64 (getD ns 0 (pos 0)))) v′ ≡ true → a ≡ Displaced (getD es 0 0)
       → cs ≡ set (candsOf es ns) 0 (candOf w v′) → candsOf es₂ ns₂ ≡ down len len cs 0
-      → offeredOf es₂ ns₂ len (Displaced out) ≡ displace (tableOf es ns len) (candOf w v)
+      → offeredOf es₂ ns₂ len a ≡ displace (tableOf es ns len) (candOf w v)
   unfolding displace replaceRoot
-  displace-yes es₂ ns₂ cs out h f t o p q =
+  displace-yes es₂ ns₂ cs a h f t o p q =
       rw (count-at es ns 0 h, root-less true f t, cand-at es ns 0 h, o)
       (table-path (q ∙ ap (λ (z : List Cand). down len len z 0) (p ∙ ap (λ (x : ℤ). set (candsOf es ns) 0 (candOf w x)) same)))
 
