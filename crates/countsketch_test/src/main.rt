@@ -116,9 +116,6 @@ fn delta(
         vectors::print_refusal(8);
         return;
     }
-    if !words::in_range(count) {
-        return;
-    }
     if !countsketch_l2_norm::cell_read(&*counters, &*norms, rows, cols, row, col) {
         vectors::print_refusal(9);
         return;
