@@ -4,11 +4,11 @@ ghost use mathlib.Core.Path.{_≡_};
 ghost use mathlib.Core.Logic.{_≢_};
 ghost use Prim.Native.Nat.{ℕ, _+_, _*_, _≤_, _<_};
 ghost use lib.ListN.{length, getD};
-ghost use Rattle.heap.specs.inner.Fours.{fourOther};
+ghost use Rattle.words.specs.inner.Fours.{fourOther};
 
 fn four_other(entries: &[u64], a: usize, key: u64) -> bool
     requires { ⌜ a + 13 ≤ length (now entries) ⌝ }
-    ensures { λ r. ⌜ r ≡ fourOther (now (entries .entry)) key a ⌝ }
+    ensures { λ r. ⌜ r ≡ fourOther (getD (now (entries .entry)) a 0) (getD (now (entries .entry)) (a + 4) 0) (getD (now (entries .entry)) (a + 8) 0) (getD (now (entries .entry)) (a + 12) 0) key ⌝ }
 {
     let p = entries[a] != key;
     let q = entries[a + 4] != key;
