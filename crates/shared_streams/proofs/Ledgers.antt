@@ -1,12 +1,12 @@
 -- The books of a run are those that the list of calls alone gives. Assumes nothing.
 use mathlib.Core.Path.{_≡_, refl, sym, ap, ap₂, _∙_, subst}
-use Prim.Native.Nat.{ℕ, zero, suc}
+use Prim.Native.Nat.{ℕ}
 use mathlib.Core.Bool.{Bool, true, false, cond}
 use mathlib.Core.List.{List, [], _∷_, _++_, map}
 use lib.ListN.{set, replicate, List·getD-map}
 use lib.Dec.{eqb}
 use borrow.Author.Tests.{eq-eqb, ne-eqb}
-use Rattle.words.proofs.Lists.{All}
+use Rattle.words.proofs.Lists.{All, map-set, map-replicate}
 use Rattle.header.specs.declared.Shape.{Shape}
 use Rattle.header.specs.Shape.{shapeRefusal}
 use Rattle.layout.specs.Outcomes.{Outcome}
@@ -20,17 +20,6 @@ use Rattle.shared_streams.proofs.FeedRuns.{live-lt, pair, step-good, st
 use Rattle.shared_streams.proofs.Runs.{kept-by, Every}
 use Rattle.shared_streams.proofs.Calls.{LentBy}
 use Rattle.shared_streams.proofs.Acceptance.{feed-answers, join-answers}
-
--- ---- lists
-
-map-set : {A B : Type 0} (f : A → B) (xs : List A) (i : ℕ) (x : A) → map f (set xs i x) ≡ set (map f xs) i (f x)
-map-set f [] i x = refl
-map-set f (y ∷ xs) zero x = refl
-map-set {B = B} f (y ∷ xs) (suc i) x = ap (λ (z : List B). f y ∷ z) (map-set f xs i x)
-
-map-replicate : {A B : Type 0} (f : A → B) (n : ℕ) (x : A) → map f (replicate n x) ≡ replicate n (f x)
-map-replicate f zero x = refl
-map-replicate {B = B} f (suc n) x = ap (λ (z : List B). f x ∷ z) (map-replicate f n x)
 
 map-map : (rs : List Relay) → gone (map accountOf rs) ≡ retirements rs
 map-map [] = refl
