@@ -1,11 +1,11 @@
 #!/usr/bin/env python3
-"""Finds what the gate does not: imports that nothing uses, and laws that stand twice.
+"""Finds what the gate does not: imports that nothing uses, laws that stand twice, and laws that nothing names.
 
-    python3 tools/tidy.py           prints both
+    python3 tools/tidy.py           prints all three
     python3 tools/tidy.py --fix     takes unused imports out (then `rt fmt`)
 
-Imports are judged by name, file by file. Two laws are the same if
-their types are, but for the names of what they bind; a row is a place to look.
+Imports are judged by name, file by file. Two laws are the same if their types are, but for the names of what they bind. A law that nothing
+names, no paper either, is one that a reader is not told of and no proof needs. A row is a place to look.
 """
 import collections
 import os
@@ -20,8 +20,9 @@ TYPES = {"ℕ", "ℤ", "Bool"}
 
 
 def files(pattern):
+    """tracked files, but no proof file that is written from answers"""
     listed = subprocess.run(["git", "ls-files", pattern], cwd=ROOT, capture_output=True, text=True, check=True).stdout.split()
-    return [f for f in listed if not f.endswith("/Proof.antt")]
+    return [f for f in listed if not (f.endswith("/Proof.antt") and os.path.exists(os.path.join(ROOT, os.path.dirname(f), "answers.txt")))]
 
 
 def is_used(name, body):
@@ -69,6 +70,28 @@ def laws(path):
             yield re.sub(r"\s+", " ", kind), f"{os.path.relpath(path, ROOT)}:{i + 1} {m.group(2)}"
 
 
+def named(paths):
+    """how often each word stands in the laws, the answers, the code and the papers, imports left out"""
+    count = collections.Counter()
+    for f in paths:
+        text = USE.sub("", open(os.path.join(ROOT, f), encoding="utf-8").read())
+        count.update(re.findall(r"[^\s(){}\[\],;.`]+", text))
+    return count
+
+
+def idle_laws():
+    count = named(files("crates/*.antt") + files("crates/*.rt") + files("crates/*.txt") + files("*.md"))
+    for f in files("crates/*/proofs/*.antt"):
+        if f.endswith("/Proof.antt"):
+            continue
+        text = open(os.path.join(ROOT, f), encoding="utf-8").read()
+        for name in dict.fromkeys(re.findall(r"^(?:abbrev |unfoldable )*(?:pub )?([^\s:(]+) :", text, re.M)):
+            # its signature and its clauses begin a line
+            own = re.findall(r"^(?:abbrev |unfoldable )*(?:pub )?" + re.escape(name) + r"(?=\s)", text, re.M)
+            if count[name] <= len(own):
+                print(f"{f}: nothing names {name}")
+
+
 def main():
     fix = "--fix" in sys.argv[1:]
     for f in files("crates/*.antt") + files("crates/*.rt"):
@@ -80,6 +103,7 @@ def main():
     for kind, places in sorted(stand.items()):
         if len(places) > 1:
             print(" | ".join(places), "\n   ", kind[:150])
+    idle_laws()
 
 
 main()

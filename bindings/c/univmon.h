@@ -220,7 +220,7 @@ univmon_answered univmon_update_weighted_terminal(
  *   h.weight = s.weight;
  *   h.mode = s.mode; */
 univmon_step univmon_update_weighted_lent(
-    univmon_shape shape, uint64_t weight_had, uint64_t mode,
+    univmon_shape shape, uint64_t total_weight, uint64_t mode,
     size_t *lens, size_t lens_len,
     bool *flags, size_t flags_len,
     int64_t *counters, size_t counters_len,
@@ -231,7 +231,7 @@ univmon_step univmon_update_weighted_lent(
     int64_t weight);
 
 univmon_step univmon_update_weighted_terminal_lent(
-    univmon_shape shape, uint64_t weight_had, uint64_t mode,
+    univmon_shape shape, uint64_t total_weight, uint64_t mode,
     size_t *lens, size_t lens_len,
     bool *flags, size_t flags_len,
     int64_t *counters, size_t counters_len,

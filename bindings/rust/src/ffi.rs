@@ -73,7 +73,7 @@ extern "C" {
     /// it goes as numbers.
     pub fn univmon_update_weighted_lent(
         shape: Shape,
-        weight_had: u64,
+        total_weight: u64,
         mode: u64,
         lens: *mut usize,
         lens_len: usize,
@@ -94,7 +94,7 @@ extern "C" {
     /// [`crate::State::update_weighted_terminal`], lent in the same way.
     pub fn univmon_update_weighted_terminal_lent(
         shape: Shape,
-        weight_had: u64,
+        total_weight: u64,
         mode: u64,
         lens: *mut usize,
         lens_len: usize,

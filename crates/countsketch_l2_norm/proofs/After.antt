@@ -1,4 +1,5 @@
--- What may follow what: the counters that a hash names are in range before an update that reads in range, after one that fits, and where all are. Lengths stay. Assumes nothing.
+-- When an estimate or the next test may be made: the counters that a hash names are in range where what an update reads is, after an update that fits, and where
+-- all counters are. Lengths stay. Assumes nothing.
 use mathlib.Core.Path.{_≡_, refl, ap, _∙_}
 use mathlib.Core.Bool.{true, _&&_}
 use Prim.Native.Nat.{ℕ, zero, suc, _+_, _*_, _≤_, _<_}

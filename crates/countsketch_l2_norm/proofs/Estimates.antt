@@ -54,7 +54,7 @@ pub sorted-float : (rows cols h : ℕ) (xs buf : List ℤ) → take rows buf ≡
 unfolding estimateF
 sorted-float rows cols h xs buf e i = ap (λ (l : List ℤ). middleF (map (ofInt binary64) l)) e ∙ sym (median-ints (estimates cols h xs rows 0) (all-estimates cols h xs rows 0 i))
 
--- the same, in the rows' order
+-- of estimates that stand in the rows' order, not yet sorted
 pub counted-in : (rows cols h : ℕ) (xs es : List ℤ) → es ≡ estimates cols h xs rows 0 → cellsInRange cols h xs rows 0 ≡ true → allIn es ≡ true
 counted-in rows cols h xs es e i = rw e (all-estimates cols h xs rows 0 i)
 

@@ -11,7 +11,7 @@ use Rattle.words.specs.Num.{top}
 use Rattle.matrix_storage.specs.Bits.{maxRows, maxCols, hashBits, maskBits, signed}
 use Rattle.countsketch_l2_norm.specs.Sketch.{cellOf, cellAt}
 use Rattle.countsketch_l2_norm.specs.Estimate.{estimates}
-use Rattle.countsketch_l2_norm.specs.Needs.{Ready, CellReady, RowAdded}
+use Rattle.countsketch_l2_norm.specs.inner.Needs.{Ready, CellReady, RowAdded}
 use Rattle.countsketch_l2_norm.proofs.Places.{cell-before, place-asks}
 use Rattle.countsketch_l2_norm.proofs.Rows.{Going, start-rows, ready-row, row-step}
 use Rattle.countsketch_l2_norm.proofs.Estimates.{estimates-none}
@@ -32,7 +32,7 @@ estimates-snoc cols h xs zero q i e =
     ap (λ (j : ℕ). signed h j (cellAt xs (cellOf cols h j)) ∷ []) z
 estimates-snoc cols h xs (suc k) q i e = ap (λ (s : List ℤ). signed h q (cellAt xs (cellOf cols h q)) ∷ s) (estimates-snoc cols h xs k (suc q) i (omega arith))
 
--- r rows have gone, and es are their estimates
+-- r rows are updated, and es are their estimates
 pub record Counted (rows cols h w : ℕ) (xs₀ : List ℤ) (ws₀ : List ℕ) (es xs : List ℤ) (ws : List ℕ) (r : ℕ) : Type 0 where
   pub going : Going rows cols h w xs₀ ws₀ xs ws r
   pub known : es ≡ estimates cols h xs r 0
@@ -70,7 +70,7 @@ row-asks rows cols bits h w xs₀ ws₀ xs ws r d e g l =
 pub added-bits : {cols h w r : ℕ} {xs : List ℤ} {ws : List ℕ} {ys : List ℤ} {vs : List ℕ} {v z : ℤ} → z ≡ v → RowAdded cols h w r xs ws ys vs v → RowAdded cols h w r xs ws ys vs z
 added-bits e a = record { cells = a .cells; norms = a .norms; estimate = e ∙ a .estimate }
 
--- all rows have gone
+-- all rows are updated
 pub count-end : (rows cols h w : ℕ) (xs₀ : List ℤ) (ws₀ : List ℕ) (es xs : List ℤ) (ws : List ℕ) (r : ℕ) → Counted rows cols h w xs₀ ws₀ es xs ws r → rows ≤ r → es ≡ estimates cols h xs rows 0
 count-end rows cols h w xs₀ ws₀ es xs ws r f l =
     let e : r ≡ rows = omega (arith, f .going .all) in

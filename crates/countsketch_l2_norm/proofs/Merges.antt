@@ -13,7 +13,8 @@ use borrow.Author.Tests.{eqb-true, eqb-false}
 use Rattle.words.specs.Num.{top, squareCap, inRange, allIn, capped}
 use Rattle.words.proofs.Bools.{and-left, and-right}
 use Rattle.words.proofs.Squares.{all-step, range-bound, capped-le}
-use Rattle.countsketch_l2_norm.specs.Norms.{normsOf, normAt, setNorm}
+use Rattle.countsketch_l2_norm.specs.Norms.{normsOf, normAt}
+use Rattle.countsketch_l2_norm.specs.inner.Needs.{setNorm}
 use Rattle.countsketch_l2_norm.specs.Sketch.{cellAt}
 use Rattle.countsketch_l2_norm.specs.Merge.{sumBelow, squaresFrom, rowNorm, rowNorms, sums}
 use Rattle.countsketch_l2_norm.proofs.Norms.{norm-at, length-norms, set-same, set-other, length-setNorm}

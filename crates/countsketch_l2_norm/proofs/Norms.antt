@@ -10,7 +10,8 @@ use lib.Dec.{eqb}
 use borrow.Author.Tests.{eqb-true, eqb-false}
 use Rattle.words.specs.Num.{wordSize}
 use Rattle.words.specs.Wide.{twoWords}
-use Rattle.countsketch_l2_norm.specs.Norms.{normsOf, wordsOf, normAt, setNorm}
+use Rattle.countsketch_l2_norm.specs.Norms.{normsOf, wordsOf, normAt}
+use Rattle.countsketch_l2_norm.specs.inner.Needs.{setNorm}
 
 pub length-norms : (ws : List ℕ) (n : ℕ) → length (normsOf ws n) ≡ n
 unfolding normsOf

@@ -4,7 +4,8 @@ use Prim.Native.Nat.{ℕ, suc, _+_, _*_, _/_, _≤_, _<_}
 use native.Mathlib.Omega.{arith}
 use native.Mathlib.Nat.{suc-mul, mul-le-mul, mul-le-mul-right}
 use lib.Arith.{digits-div}
-use Rattle.matrix_storage.specs.Bits.{maxRows, maxCols, hashBits, maskBits, Shaped}
+use Rattle.matrix_storage.specs.Bits.{maxRows, maxCols, hashBits, maskBits}
+use Rattle.matrix_storage.specs.inner.Shaped.{Shaped}
 use Rattle.matrix_storage.proofs.Cells.{row-bits, column-lt}
 use Rattle.countsketch_l2_norm.specs.Sketch.{cellOf}
 

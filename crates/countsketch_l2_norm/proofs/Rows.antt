@@ -11,17 +11,14 @@ use lib.Seq.{getD-set-other}
 use lib.IntN.{ℤ, pos, natAbs, _+ℤ_}
 use lib.Dec.{leb}
 use borrow.Author.Tests.{leb-true}
-use mir.Syntax.{w64}
-use mir.Val.{SFits, toZ, ofZ}
-use mir.Facts.{toZ-ofZ}
 use Rattle.words.specs.Num.{top, shortTop, squareCap, inRange, capped}
 use Rattle.words.proofs.Bools.{and-left, and-right, both, and-cross}
-use Rattle.words.proofs.Signed.{abs-add, back}
+use Rattle.words.proofs.Signed.{abs-add}
 use Rattle.words.proofs.Squares.{range-bound, range-of, capped-small}
 use Rattle.matrix_storage.specs.Bits.{maxRows, maxCols, signed}
-use Rattle.countsketch_l2_norm.specs.Norms.{normsOf, normAt, setNorm}
-use Rattle.countsketch_l2_norm.specs.Sketch.{Sketch, sketchOf, cellOf, cellAt, addCell, addRow, addRows, rowRead, cellRead, cellFits, rowsRead, rowsFit, rowsReady}
-use Rattle.countsketch_l2_norm.specs.Needs.{Ready, CellReady}
+use Rattle.countsketch_l2_norm.specs.Norms.{normsOf, normAt}
+use Rattle.countsketch_l2_norm.specs.inner.Needs.{setNorm, sketchOf, rowsReady, Ready, CellReady}
+use Rattle.countsketch_l2_norm.specs.Sketch.{Sketch, cellOf, cellAt, addCell, addRow, addRows, rowRead, cellRead, cellFits, rowsRead, rowsFit}
 use Rattle.countsketch_l2_norm.proofs.Norms.{norm-at, norm-set, length-setNorm}
 use Rattle.countsketch_l2_norm.proofs.Places.{cell-lt, cell-before}
 
@@ -50,10 +47,6 @@ and-end false = refl
 pub small-ready : (x d : ℤ) (n cols : ℕ) → natAbs x ≤ shortTop → natAbs d ≤ top - shortTop → leb n (cols * squareCap) && leb (natAbs x * natAbs x) n ≡ rowRead x n cols && inRange (x +ℤ d)
 small-ready x d n cols h k =
     rw (capped-small x (omega arith), range-of x (omega arith), range-of (x +ℤ d) (omega (arith, abs-add x d))) (and-end (leb n (cols * squareCap) && leb (capped x) n))
-
--- a counter in range and any number, whose sum is in range, added as the code does
-pub sum-within : (x d : ℤ) → natAbs x ≤ top → SFits w64 d → natAbs (x +ℤ d) ≤ top → toZ w64 (ofZ w64 (toZ w64 (ofZ w64 x) +ℤ toZ w64 (ofZ w64 d))) ≡ x +ℤ d
-sum-within x d h f k = rw (back x (omega arith), toZ-ofZ f) (back (x +ℤ d) (omega arith))
 
 -- what is read of a counter is in range, and it stays so: it may be stored
 pub cell-ready : (rows cols at r : ℕ) (d : ℤ) (xs : List ℤ) (ws : List ℕ) → at < length xs → r < rows → rows ≤ maxRows → cols ≤ maxCols → 2 * rows ≤ length ws

@@ -1,4 +1,4 @@
--- A scan over the rows: what is left decides. Assumes nothing.
+-- A scan over the rows: while all have passed, the test of those left is the test of all. Assumes nothing.
 use mathlib.Core.Path.{_≡_, refl, sym, _∙_}
 use mathlib.Core.Bool.{Bool, true, false, _&&_}
 use Prim.Native.Nat.{ℕ, zero, suc, _+_, _≤_, _<_}

@@ -1,12 +1,11 @@
 -- The L2 norm of a layer.
-use Prim.Native.Nat.{ℕ, _*_, min}
+use Prim.Native.Nat.{ℕ, _*_}
 use mathlib.Core.Bool.{Bool, true, _&&_}
 use mathlib.Core.List.{List, [], _∷_, map}
 use lib.Dec.{leb}
-use lib.IntN.{ℤ, pos}
 use lib.Ieee.{Float}
 use Rattle.words.specs.Num.{squareCap}
-use Rattle.float64.specs.Norm.{normTop, normRead}
+use Rattle.float64.specs.Norm.{normRead}
 use Rattle.float64.specs.Root.{root}
 use Rattle.structure_utils.specs.Median.{median}
 
@@ -22,7 +21,3 @@ l2Of norms = root (l2Squared norms)
 unfoldable pub normsInRange : ℕ → List ℕ → Bool
 normsInRange cols [] = true
 normsInRange cols (n ∷ ns) = leb n (cols * squareCap) && normsInRange cols ns
-
--- a norm "clamped to 2^63 − 1", as the whole number that it is before it becomes a float
-abbrev pub clamped : ℕ → ℤ
-clamped n = pos (min n normTop)

@@ -1,6 +1,6 @@
+pub mod Estimate
+pub mod L2
+pub mod Merge
 pub mod Norms
 pub mod Sketch
-pub mod Estimate
-pub mod Merge
-pub mod L2
-pub mod Needs
+pub mod inner

@@ -23,7 +23,7 @@ squaresFrom a n cells = sumBelow n (λ c. capped (cellAt cells (a + c)))
 abbrev pub rowNorm : ℕ → List ℤ → ℕ → ℕ
 rowNorm cols cells r = squaresFrom (r * cols) cols cells
 
--- of k rows from row r on
+-- the norms of k rows from row r on
 unfoldable pub rowNorms : ℕ → List ℤ → ℕ → ℕ → List ℕ
 rowNorms cols cells zero r = []
 rowNorms cols cells (suc k) r = rowNorm cols cells r ∷ rowNorms cols cells k (suc r)

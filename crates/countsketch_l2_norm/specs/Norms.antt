@@ -1,7 +1,7 @@
 -- Norms as pairs of words: "two words for each row norm (low, then high)".
 use Prim.Native.Nat.{ℕ, zero, suc, _+_, _*_, _/_, _%_}
 use mathlib.Core.List.{List, [], _∷_}
-use lib.ListN.{getD, set, drop}
+use lib.ListN.{getD, drop}
 use Rattle.words.specs.Num.{wordSize}
 use Rattle.words.specs.Wide.{twoWords}
 
@@ -14,9 +14,6 @@ unfoldable pub wordsOf : List ℕ → List ℕ
 wordsOf [] = []
 wordsOf (n ∷ ns) = (n % wordSize) ∷ (n / wordSize) ∷ wordsOf ns
 
--- norm r, and a norm stored
+-- norm r
 abbrev pub normAt : List ℕ → ℕ → ℕ
 normAt ws r = twoWords (getD ws (2 * r) 0) (getD ws (2 * r + 1) 0)
-
-unfoldable pub setNorm : List ℕ → ℕ → ℕ → List ℕ
-setNorm ws r n = set (set ws (2 * r) (n % wordSize)) (2 * r + 1) (n / wordSize)

@@ -7,16 +7,11 @@ use lib.IntN.{ℤ, pos, _+ℤ_}
 use lib.Dec.{leb}
 use Rattle.words.specs.Num.{squareCap, inRange, capped}
 use Rattle.matrix_storage.specs.Bits.{column, signed}
-use Rattle.countsketch_l2_norm.specs.Norms.{normsOf}
 
 -- rows × cols counters by row, then column; a norm for each row
 pub record Sketch : Type 0 where
   pub cells : List ℤ
   pub norms : List ℕ
-
--- the sketch of the slices
-abbrev pub sketchOf : List ℤ → List ℕ → ℕ → Sketch
-sketchOf xs ws rows = record { cells = xs; norms = normsOf ws rows }
 
 -- the place of the counter of row r that a hash names
 abbrev pub cellOf : ℕ → ℕ → ℕ → ℕ
@@ -67,7 +62,3 @@ rowsRead cols h s (suc k) r = cellRead cols (cellOf cols h r) r s && rowsRead co
 unfoldable pub rowsFit : ℕ → ℕ → ℕ → List ℤ → ℕ → ℕ → Bool
 rowsFit cols h w cells zero r = true
 rowsFit cols h w cells (suc k) r = cellFits (cellOf cols h r) (signed h r (pos w)) cells && rowsFit cols h w cells k (suc r)
-
--- both, where it does not matter which of them fails
-abbrev pub rowsReady : ℕ → ℕ → ℕ → Sketch → ℕ → ℕ → Bool
-rowsReady cols h w s k r = rowsRead cols h s k r && rowsFit cols h w (s .cells) k r

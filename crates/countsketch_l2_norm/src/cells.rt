@@ -7,9 +7,9 @@ ghost use lib.IntN.{ℤ, natAbs, _+ℤ_};
 ghost use Rattle.words.specs.Num.{top, inRange, capped};
 ghost use Rattle.words.specs.Wide.{valueOf};
 ghost use Rattle.matrix_storage.specs.Bits.{maxRows, maxCols};
-ghost use Rattle.countsketch_l2_norm.specs.Norms.{normAt, setNorm};
-ghost use Rattle.countsketch_l2_norm.specs.Sketch.{sketchOf, cellAt, addCell, rowRead, cellRead, cellFits};
-ghost use Rattle.countsketch_l2_norm.specs.Needs.{CellReady, CellPlaced, CellDeltaReady};
+ghost use Rattle.countsketch_l2_norm.specs.Norms.{normAt};
+ghost use Rattle.countsketch_l2_norm.specs.inner.Needs.{setNorm, sketchOf, CellReady, CellPlaced, CellDeltaReady};
+ghost use Rattle.countsketch_l2_norm.specs.Sketch.{cellAt, addCell, rowRead, cellRead, cellFits};
 use words::Wide;
 
 // The index of a row's column among the counters.

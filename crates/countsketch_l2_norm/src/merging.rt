@@ -6,11 +6,12 @@ ghost use Prim.Native.Nat.{ℕ, _+_, _*_, _<_, _≤_};
 ghost use lib.ListN.{length};
 ghost use lib.IntN.{ℤ, natAbs, _+ℤ_};
 ghost use Rattle.words.specs.Num.{top, allIn};
-ghost use Rattle.words.specs.Raised.{raisedTop};
+ghost use Rattle.words.specs.inner.Raised.{raisedTop};
 ghost use Rattle.words.specs.Wide.{valueOf};
-ghost use Rattle.matrix_storage.specs.Bits.{maxRows, maxCols, Shaped};
+ghost use Rattle.matrix_storage.specs.Bits.{maxRows, maxCols};
+ghost use Rattle.matrix_storage.specs.inner.Shaped.{Shaped};
 ghost use Rattle.countsketch_l2_norm.specs.Norms.{normsOf};
-ghost use Rattle.countsketch_l2_norm.specs.Sketch.{sketchOf};
+ghost use Rattle.countsketch_l2_norm.specs.inner.Needs.{sketchOf};
 ghost use Rattle.countsketch_l2_norm.specs.Merge.{sums, rowNorm, rowNorms, mergeSketch};
 use crate::cells::put_norm;
 use words::Wide;
@@ -31,8 +32,8 @@ fn sum_of(x: i64, y: i64) -> i64
     x + y
 }
 
-// The bits that the sums of two lists of counters have, raised: `words::raised` says what a word below
-// 2^53 shows. Without a jump on what is read.
+// The bitwise or of the sums of two lists of counters, each raised: `words::raised` says what a result
+// below 2^53 shows. No jump depends on what is read.
 fn sums_joined(xs: &[i64], ys: &[i64]) -> u64
     requires { ⌜ length (now xs) ≡ length (now ys) ⌝ }
     requires { ⌜ (allIn (now xs) ≡ true) × (allIn (now ys) ≡ true) ⌝ }
@@ -57,7 +58,7 @@ pub fn sums_fit(xs: &[i64], ys: &[i64]) -> bool
     if sums_joined(xs, ys) < words::RAISED_TOP {
         return true;
     }
-    // the greatest number of the range, or one out of it
+    // one of the sums is 2^52, which is in range, or out of range: each is tested by itself
     let mut i = 0;
     while i < xs.len() {
         let z = sum_of(xs[i], ys[i]);

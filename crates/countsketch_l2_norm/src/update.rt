@@ -7,10 +7,11 @@ ghost use lib.IntN.{ℤ, pos, _+ℤ_};
 ghost use lib.Dec.{leb};
 ghost use Rattle.words.specs.Num.{top, squareCap, inRange};
 ghost use Rattle.words.specs.Wide.{valueOf};
-ghost use Rattle.matrix_storage.specs.Bits.{maxRows, maxCols, hashBits, maskBits, signed, hashOf, Shaped};
-ghost use Rattle.countsketch_l2_norm.specs.Sketch.{sketchOf, cellOf, addRows, rowRead, rowsRead, rowsFit, rowsReady};
+ghost use Rattle.matrix_storage.specs.Bits.{maxRows, maxCols, hashBits, maskBits, signed, hashOf};
+ghost use Rattle.matrix_storage.specs.inner.Shaped.{Shaped};
+ghost use Rattle.countsketch_l2_norm.specs.Sketch.{cellOf, addRows, rowRead, rowsRead, rowsFit};
+ghost use Rattle.countsketch_l2_norm.specs.inner.Needs.{sketchOf, rowsReady, Ready, CellReady, RowAdded};
 ghost use Rattle.countsketch_l2_norm.specs.Estimate.{estimates, estimateOf, cellsInRange};
-ghost use Rattle.countsketch_l2_norm.specs.Needs.{Ready, CellReady, RowAdded};
 use crate::cells::add_cell;
 use crate::cells::index_of;
 use crate::cells::norm_of;
@@ -115,7 +116,7 @@ fn update_rows(
     }
 }
 
-// The same of five rows, row after row, with the count: their estimates stay in locals.
+// An update of five rows, and the count after it: the rows' estimates stay in locals.
 fn update_five(
     counters: &mut [i64],
     norms: &mut [u64],
@@ -243,8 +244,8 @@ fn row_ready(x: i64, w: Wide, cols: usize, high: u64, low: u64, r: usize, weight
     words::in_range(x + delta_at(high, low, r, weight))
 }
 
-// Whether an update may be made: both questions in one pass, where it does not matter which of them
-// fails.
+// Whether an update may be made: `rows_read` and `rows_fit` in one pass, where it does not matter which
+// of them fails.
 pub fn rows_ready(
     counters: &[i64],
     norms: &[u64],

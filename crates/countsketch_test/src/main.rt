@@ -3,7 +3,7 @@
 ghost use mathlib.Core.Path.{_≡_};
 ghost use mathlib.Core.Bool.{true};
 ghost use Prim.Native.Nat.{_*_, _≤_};
-ghost use Rattle.matrix_storage.specs.Bits.{Shaped};
+ghost use Rattle.matrix_storage.specs.inner.Shaped.{Shaped};
 
 // The greatest layer that is run: 9 rows of 4,096.
 const CELLS: usize = 36864;
@@ -55,8 +55,8 @@ fn estimate(counters: &[i64], rows: usize, cols: usize, high: u64, low: u64) {
     vectors::print(vectors::unsigned(n));
 }
 
-// 2: an update, and the estimate after it. The one question that holds both is asked first, as a
-// caller in a hurry does.
+// 2: an update, and the estimate after it. `rows_ready` judges in one pass whether what is read is in range
+// and whether the update fits; only where it says no are the two asked one by one, for the refusal.
 fn add(
     counters: &mut [i64],
     norms: &mut [u64],
@@ -114,9 +114,6 @@ fn delta(
     }
     if cols <= col {
         vectors::print_refusal(8);
-        return;
-    }
-    if !words::in_range(count) {
         return;
     }
     if !countsketch_l2_norm::cell_read(&*counters, &*norms, rows, cols, row, col) {
@@ -187,7 +184,7 @@ fn keep(op: u64, counters: &[i64], other: &mut [i64]) {
     }
 }
 
-// 8: the counters that were set aside come in.
+// 8: the counters that were set aside are merged in.
 fn merge(counters: &mut [i64], norms: &mut [u64], other: &[i64], rows: usize, cols: usize) {
     if !held(rows, cols, counters.len(), norms.len()) {
         return;
@@ -256,7 +253,7 @@ fn ask(call: Call, counters: &[i64], norms: &[u64], rows: usize, cols: usize) {
     }
 }
 
-// Those that set counters and norms by hand.
+// The operations that set counters and norms by hand.
 fn set(call: Call, counters: &mut [i64], norms: &mut [u64]) {
     let op = call.op;
     if op == 1 {
@@ -273,7 +270,7 @@ fn set(call: Call, counters: &mut [i64], norms: &mut [u64]) {
     }
 }
 
-// Those that the layer has.
+// The operations that call the library to change the layer.
 fn change(
     call: Call,
     counters: &mut [i64],

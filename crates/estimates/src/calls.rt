@@ -3,11 +3,13 @@ ghost use mathlib.Core.Path.{_≡_};
 ghost use mathlib.Core.Bool.{Bool, true, not, _&&_};
 ghost use Prim.Native.Nat.{ℕ, _*_};
 ghost use lib.Dec.{eqb};
-ghost use Rattle.header.specs.Accepted.{Accepted};
-ghost use Rattle.layout.specs.Slices.{normsIn, lent, view};
-ghost use Rattle.layout.specs.Needs.{Standing};
+ghost use Rattle.header.specs.inner.Accepted.{Accepted};
+ghost use Rattle.layout.specs.Slices.{normsIn, view};
+ghost use Rattle.layout.specs.inner.Needs.{Standing};
 ghost use Rattle.estimates.specs.Norms.{isTerminal};
-ghost use Rattle.estimates.specs.Calls.{normsLent, l1Call, l2Call, sumCall, sumAnswer, cardinalityCall, panelCall, noPanel};
+ghost use Rattle.estimates.specs.Calls.{normsLent, l1Call, l2Call, sumCall, cardinalityCall, panelCall, noPanel};
+ghost use Rattle.estimates.specs.inner.Slices.{sumAnswer};
+ghost use Rattle.layout.specs.Lending.{lentIn, lentNow};
 use crate::Answer;
 use crate::PanelAnswer;
 use crate::norms::l2_of;
@@ -40,7 +42,7 @@ pub fn estimate_l1(header: Header) -> Answer
     }
 }
 
-// Whether so many norm words are a shape's.
+// Whether a shape has this number of norm words.
 fn norms_match(shape: Shape, norms: usize) -> bool
     requires { ⌜ Accepted shape ⌝ }
     ensures { λ r. ⌜ r ≡ eqb norms (2 * normsIn shape) ⌝ }
@@ -111,8 +113,8 @@ fn sum_by_mode(
     g: G,
     every: bool,
 ) -> Answer
-    requires { ⌜ Standing (lent header (now counters) (now norms) (now entries) (now counts)) ⌝ }
-    ensures { λ r. ⌜ r ≡ sumAnswer g every (view (lent header (now (counters .entry)) (now (norms .entry)) (now (entries .entry)) (now (counts .entry)))) ⌝ }
+    requires { ⌜ Standing (lentNow header counters norms entries counts) ⌝ }
+    ensures { λ r. ⌜ r ≡ sumAnswer g every (view (lentIn header counters norms entries counts)) ⌝ }
 {
     let mode = header.mode;
     let terminal = is_terminal(mode);
@@ -140,7 +142,7 @@ pub fn estimate_g_sum(
     g: G,
     count_every_key: bool,
 ) -> Answer
-    ensures { λ r. ⌜ r ≡ sumCall g «count_every_key» (lent header (now (counters .entry)) (now (norms .entry)) (now (entries .entry)) (now (counts .entry))) ⌝ }
+    ensures { λ r. ⌜ r ≡ sumCall g «count_every_key» (lentIn header counters norms entries counts) ⌝ }
 {
     let refusal = layout::lent_refusal(header, counters, norms, entries, counts);
     if refusal != 0 {
@@ -166,7 +168,7 @@ pub fn estimate_cardinality(
     entries: &[u64],
     counts: &[i64],
 ) -> Answer
-    ensures { λ r. ⌜ r ≡ cardinalityCall (lent header (now (counters .entry)) (now (norms .entry)) (now (entries .entry)) (now (counts .entry))) ⌝ }
+    ensures { λ r. ⌜ r ≡ cardinalityCall (lentIn header counters norms entries counts) ⌝ }
 {
     estimate_g_sum(header, counters, norms, entries, counts, G::One, true)
 }
@@ -192,7 +194,7 @@ pub fn panel_answer(
     entries: &[u64],
     counts: &[i64],
 ) -> PanelAnswer
-    ensures { λ r. ⌜ r ≡ panelCall (lent header (now (counters .entry)) (now (norms .entry)) (now (entries .entry)) (now (counts .entry))) ⌝ }
+    ensures { λ r. ⌜ r ≡ panelCall (lentIn header counters norms entries counts) ⌝ }
 {
     let a = estimate_l1(header);
     if a.refusal != 0 {

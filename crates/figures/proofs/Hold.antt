@@ -18,7 +18,7 @@ use Rattle.heap.specs.Offer.{find, seat, offer}
 use Rattle.header.specs.Header.{freshHeader, lensFrom, headerOk}
 use Rattle.header.specs.Shape.{shapeRefusal, bottomFrom, bottomOf, bottomLayer}
 use Rattle.layer.specs.Layer.{addSketch, addLayer, addReads, addFits}
-use Rattle.layer.specs.Merge.{whos}
+use Rattle.layer.specs.Merge.{items}
 use Rattle.univmon.specs.Calls.{newCall, updateCall}
 use Rattle.layout.specs.Slices.{lengthsOk, view, flat, freshLent}
 use Rattle.layout.specs.State.{rowsAt, colsAt, cellOff, normOff, candOff, layerAt, putLayer, overLayers, allLayers}
@@ -27,9 +27,9 @@ use Rattle.sums.specs.Layers.{gSum, standardSum}
 use Rattle.sums.specs.Terms.{gOf, factor, counted, addTerm, sumOver}
 use Rattle.estimates.specs.Calls.{l2Call, sumCall}
 use Rattle.estimates.specs.Norms.{l2OfState}
-use Rattle.estimates.specs.Sums.{ownAt, gSumOf, whosRead, layerReads}
+use Rattle.estimates.specs.Sums.{ownAt, gSumOf, itemsRead, layerReads}
 use Rattle.figures.specs.Figures.{same, allHold, relay, afterA, afterB, figures}
 
 pub figures-hold : allHold figures ≡ true
-unfolding ofInt ofBits toBits sub mul div le inRange capped allIn normRead root log2In log2 maskBits hashOf column signed insertBy sortBy middleF median middle estimates estimateF estimateOf cellsInRange l2Squared l2Of normsInRange sumBelow squaresFrom normsOf wordsOf addCell addRows rowsRead rowsFit up candsOf entriesOf find seat offer freshHeader lensFrom headerOk shapeRefusal bottomFrom bottomOf bottomLayer addSketch addLayer addReads addFits whos newCall updateCall lengthsOk view flat freshLent rowsAt colsAt cellOff normOff candOff layerAt putLayer overLayers allLayers updateTests updated gSum standardSum gOf factor counted addTerm sumOver l2Call sumCall l2OfState ownAt gSumOf whosRead layerReads same allHold relay afterA afterB figures
+unfolding ofInt ofBits toBits sub mul div le inRange capped allIn normRead root log2In log2 maskBits hashOf column signed insertBy sortBy middleF median middle estimates estimateF estimateOf cellsInRange l2Squared l2Of normsInRange sumBelow squaresFrom normsOf wordsOf addCell addRows rowsRead rowsFit up candsOf entriesOf find seat offer freshHeader lensFrom headerOk shapeRefusal bottomFrom bottomOf bottomLayer addSketch addLayer addReads addFits items newCall updateCall lengthsOk view flat freshLent rowsAt colsAt cellOff normOff candOff layerAt putLayer overLayers allLayers updateTests updated gSum standardSum gOf factor counted addTerm sumOver l2Call sumCall l2OfState ownAt gSumOf itemsRead layerReads same allHold relay afterA afterB figures
 figures-hold = refl

@@ -44,8 +44,8 @@ allHold (r ∷ rs) = same (r .given) (r .said) && allHold rs
 
 -- ---- what the rows are made of: floats as their bits
 
-abbrev pub bits : Float → ℤ
-bits x = pos (toBits binary64 x)
+abbrev pub bitsZ : Float → ℤ
+bitsZ x = pos (toBits binary64 x)
 
 -- 0 and the layer, or the refusal's number and no layer
 abbrev pub layerBy : BottomLayer → List ℤ
@@ -54,7 +54,7 @@ layerBy (bottom.Refused n) = pos n ∷ []
 
 -- a refusal's number, 0 for none, and the float's bits
 abbrev pub answerWords : Answer → List ℤ
-answerWords a = pos (a .refusal) ∷ bits (a .value) ∷ []
+answerWords a = pos (a .refusal) ∷ bitsZ (a .value) ∷ []
 
 -- "heap size 2, 2 layers"; "4 cols, 2 rows"
 abbrev pub shape : Shape
@@ -77,14 +77,14 @@ recordA = 7 ∷ 0 ∷ high ∷ low ∷ 0 ∷ 0 ∷ []
 abbrev pub recordB : List ℕ
 recordB = 8 ∷ 2 ∷ 3 ∷ 9 ∷ high ∷ 5 ∷ []
 
-abbrev pub fed : Lent → List ℕ → ℤ → Lent
-fed r words w = leftBy r (updateCall kind.Standard r words w) .lends
+abbrev pub updatedBy : Lent → List ℕ → ℤ → Lent
+updatedBy r words w = leftBy r (updateCall kind.Standard r words w) .lends
 
 unfoldable pub afterA : Lent
-afterA = fed relay recordA (pos 5)
+afterA = updatedBy relay recordA (pos 5)
 
 unfoldable pub afterB : Lent
-afterB = fed afterA recordB (pos 4)
+afterB = updatedBy afterA recordB (pos 4)
 
 -- ---- the table
 
@@ -104,13 +104,13 @@ figures =
       said = pos 0 ∷ pos 0 ∷ pos 5 ∷ pos 0 ∷ pos 0 ∷ negsuc 4 ∷ pos 0 ∷ pos 0 ∷ replicate 8 (pos 0);
     }
     ∷ record { given = map pos (normsOf (afterA .norms) 4); said = pos 25 ∷ pos 25 ∷ pos 0 ∷ pos 0 ∷ [] }
-    ∷ record { given = bits (estimateF 2 4 (hashOf high low) (afterA .counters)) ∷ []; said = pos 0x4014000000000000 ∷ [] }
+    ∷ record { given = bitsZ (estimateF 2 4 (hashOf high low) (afterA .counters)) ∷ []; said = pos 0x4014000000000000 ∷ [] }
     ∷ record { given = answerWords (l2Call (afterA .head) (afterA .norms)); said = pos 0 ∷ pos 0x4014000000000000 ∷ [] }
     -- "Capped square of 3,037,000,499: 9,223,372,030,926,249,001. Of 3,037,000,500: 2^63."
     ∷ record { given = pos (capped (pos 3037000499)) ∷ pos (capped (pos 3037000500)) ∷ []; said = pos 9223372030926249001 ∷ pos (2 ^ 63) ∷ [] }
     -- "Norm 2^53 + 1 reads as 2^53. Two capped cells read as 2^63."
-    ∷ record { given = bits (normRead 9007199254740993) ∷ []; said = pos 0x4340000000000000 ∷ [] }
-    ∷ record { given = bits (normRead (rowNorm 2 (pos 3037000500 ∷ negsuc 3037000499 ∷ []) 0)) ∷ []; said = pos 0x43E0000000000000 ∷ [] }
+    ∷ record { given = bitsZ (normRead 9007199254740993) ∷ []; said = pos 0x4340000000000000 ∷ [] }
+    ∷ record { given = bitsZ (normRead (rowNorm 2 (pos 3037000500 ∷ negsuc 3037000499 ∷ []) 0)) ∷ []; said = pos 0x43E0000000000000 ∷ [] }
     -- "Standard mode, heap size 2, 2 layers, key A with bottom hash 0, key B with 2: cardinality 2."
     ∷ record { given = answerWords (cardinalityCall afterB); said = pos 0 ∷ pos 0x4000000000000000 ∷ [] }
     ∷ []

@@ -29,7 +29,7 @@ from-run h (suc k) l = go (eqb (h / 2 ^ suc l % 2) 0) (from-run h k (suc l) ∙ 
     go true ih = omega arith
     go false ih = omega arith
 
--- they are the zeros below the lowest one of the opposites
+-- a run of ones is as long as the complement has trailing zeros, at most k
 run-min : (w k g : ℕ) → k ≤ w → g < 2 ^ w → run k g ≡ min (trailingZeros w (2 ^ w - 1 - g)) k
 unfolding run trailingZeros
 run-min w zero g h b = omega arith

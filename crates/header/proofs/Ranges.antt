@@ -14,7 +14,7 @@ use Rattle.header.specs.Shape.{maxLayers, shapeRefusal}
 use Rattle.header.specs.Totals.{totalsOk}
 use Rattle.header.specs.Header.{lengthOk, lensFrom, headerOk}
 use Rattle.header.specs.declared.Header.{Header}
-use Rattle.header.specs.Accepted.{Accepted}
+use Rattle.header.specs.inner.Accepted.{Accepted}
 use Rattle.header.proofs.Refusals.{accepted-of}
 
 pub record Ranged (h : Header) : Type 0 where

@@ -7,7 +7,7 @@ use borrow.Author.Tests.{eqb-true, eqb-false, ltb-false}
 use lib.Dec.{eqb, ltb}
 use Rattle.matrix_storage.specs.Bits.{maxRows, maxCols, hashBits, maskBits}
 use Rattle.header.specs.Shape.{maxLayers, maxHeap, shapeRefusal, checkedShape}
-use Rattle.header.specs.Accepted.{Accepted}
+use Rattle.header.specs.inner.Accepted.{Accepted}
 use Rattle.header.specs.declared.Shape.{Shape}
 use Rattle.header.specs.declared.CheckedShape.the-variants as checked
 

@@ -87,11 +87,11 @@ module _ (h : Header) (w : ℤ) (m : Mode) where
   unfolding beginHeader
   header-begun a e n =
       ap (λ (b : Answered). b .header) e
-      ∙ ap (λ (f : Scalars). headOf f (h .flags) (h .lens)) (begun-is (scalarsOf h) w m (beginOf (scalarsOf h) w m) refl (sym (ap (λ (b : Answered). b .refusal) e) ∙ n))
+      ∙ ap (λ (f : Scalars). headOf f (h .lens) (h .flags)) (begun-is (scalarsOf h) w m (beginOf (scalarsOf h) w m) refl (sym (ap (λ (b : Answered). b .refusal) e) ∙ n))
 
   pub header-kept : (number (beginTests (scalarsOf h) w m) ≡ 0 → ⊥) → beginHeader h w m .header ≡ h
   unfolding beginHeader
-  header-kept n = ap (λ (f : Scalars). headOf f (h .flags) (h .lens)) (begin-kept (scalarsOf h) w m n)
+  header-kept n = ap (λ (f : Scalars). headOf f (h .lens) (h .flags)) (begin-kept (scalarsOf h) w m n)
 
   pub header-number : beginHeader h w m .refusal ≡ number (beginTests (scalarsOf h) w m)
   unfolding beginHeader beginOf
@@ -120,14 +120,14 @@ and-false : (a : Bool) → a && false ≡ false
 and-false true = refl
 and-false false = refl
 
-pub touched-kept : (h : Header) (l n : ℕ) (b : Bool) → b ≡ true → withLens h (set (h .lens) l n) ≡ withLayer h l (getD (h .flags) l false && b) n
+pub touched-kept : (h : Header) (l n : ℕ) (b : Bool) → b ≡ true → withLens h (set (h .lens) l n) ≡ withLayer h l n (getD (h .flags) l false && b)
 touched-kept h l n b e = ap (λ (fs : List Bool). withLens (withFlags h fs) (set (h .lens) l n)) same
   where
     same : h .flags ≡ set (h .flags) l (getD (h .flags) l false && b)
     same = sym (ap (set (h .flags) l) (ap (λ (x : Bool). getD (h .flags) l false && x) e ∙ and-true (getD (h .flags) l false)) ∙ set-getD (h .flags) l false)
 
 pub touched-lost : (h : Header) (l n : ℕ) (b : Bool) → b ≡ false
-    → withFlags (withLens h (set (h .lens) l n)) (set (h .flags) l false) ≡ withLayer h l (getD (h .flags) l false && b) n
+    → withFlags (withLens h (set (h .lens) l n)) (set (h .flags) l false) ≡ withLayer h l n (getD (h .flags) l false && b)
 touched-lost h l n b e = ap (λ (fs : List Bool). withLens (withFlags h fs) (set (h .lens) l n)) same
   where
     same : set (h .flags) l false ≡ set (h .flags) l (getD (h .flags) l false && b)

@@ -1,4 +1,4 @@
--- A sweep: a test of many places from the first on that stops nowhere; what was found and what is left decide together. Assumes nothing.
+-- A sweep: many places are tested one by one, and no failure ends it. The result so far and the test of those left make the test of all. Assumes nothing.
 use mathlib.Core.Path.{_≡_, refl, sym, ap, _∙_}
 use mathlib.Core.Bool.{Bool, true, false, _&&_}
 use Prim.Native.Nat.{ℕ, zero, suc, _+_, _≤_, _<_}
@@ -13,7 +13,7 @@ pub and-all : (a : Bool) → a && true ≡ a
 and-all true = refl
 and-all false = refl
 
--- f k i is the test of k places from i on; so far it has been found to be ok
+-- f k i is the test of k places from i on; ok is the result so far
 pub record Sweep (f : ℕ → ℕ → Bool) (many first at : ℕ) (ok : Bool) : Type 0 where
   pub left : ℕ
   pub all : left + at ≡ many + first

@@ -2,7 +2,7 @@
 use Prim.Native.Nat.{ℕ, zero, suc, _-_}
 use mathlib.Core.Bool.{Bool, true, false, cond, not, _&&_}
 use mathlib.Core.List.{List, _∷_, _++_}
-use lib.ListN.{getD, set, replicate}
+use lib.ListN.{getD, set, replicate, length}
 use lib.IntN.{ℤ, natAbs}
 use lib.Signed.{nonNeg}
 use lib.Dec.{eqb, ltb, leb}
@@ -17,6 +17,7 @@ use Rattle.header.specs.declared.Header.{Header}
 use Rattle.header.specs.declared.Scalars.{Scalars}
 use Rattle.header.specs.declared.AnsweredLent.{AnsweredLent}
 use Rattle.header.specs.declared.Answered.{Answered}
+use mathlib.Core.Path.{_≡_}
 
 -- ---- headers from nothing
 
@@ -52,19 +53,19 @@ withFlags h fs = record { shape = h .shape; totals = h .totals; mode = h .mode; 
 abbrev pub withLens : Header → List ℕ → Header
 withLens h ns = record { shape = h .shape; totals = h .totals; mode = h .mode; flags = h .flags; lens = ns }
 
--- layer l's flag and length
-abbrev pub withLayer : Header → ℕ → Bool → ℕ → Header
-withLayer h l b n = withLens (withFlags h (set (h .flags) l b)) (set (h .lens) l n)
+-- layer l's length and flag
+abbrev pub withLayer : Header → ℕ → ℕ → Bool → Header
+withLayer h l n b = withLens (withFlags h (set (h .flags) l b)) (set (h .lens) l n)
 
--- all flags and lengths
-abbrev pub withLayers : Header → List Bool → List ℕ → Header
-withLayers h fs ns = withLens (withFlags h fs) ns
+-- all lengths and flags
+abbrev pub withLayers : Header → List ℕ → List Bool → Header
+withLayers h ns fs = withLens (withFlags h fs) ns
 
--- the header of what is lent beside lengths and flags
-abbrev pub headOf : Scalars → List Bool → List ℕ → Header
-headOf f fs ns = record { shape = f .shape; totals = f .totals; mode = f .mode; flags = fs; lens = ns }
+-- the header that scalars, lengths and flags make
+abbrev pub headOf : Scalars → List ℕ → List Bool → Header
+headOf f ns fs = record { shape = f .shape; totals = f .totals; mode = f .mode; flags = fs; lens = ns }
 
--- and what is left without them
+-- a header without lengths and flags
 abbrev pub scalarsOf : Header → Scalars
 scalarsOf h = record { shape = h .shape; totals = h .totals; mode = h .mode }
 
@@ -113,7 +114,7 @@ beginOf f w m =
 -- "The header's own steps hand back the changed header.": the same of a whole header, whose lengths and flags stay
 unfoldable pub beginHeader : Header → ℤ → Mode → Answered
 beginHeader h w m =
-    record { refusal = beginOf (scalarsOf h) w m .refusal; header = headOf (beginOf (scalarsOf h) w m .scalars) (h .flags) (h .lens) }
+    record { refusal = beginOf (scalarsOf h) w m .refusal; header = headOf (beginOf (scalarsOf h) w m .scalars) (h .lens) (h .flags) }
 
 -- ---- "A header is in range if `new` accepts its dimensions, its weight is 0 to 2^52, each length is at most the heap size, and past the last layer
 -- lengths are 0 and flags false."
@@ -129,3 +130,8 @@ lensFrom layers size lens flags (suc k) l = lengthOk l layers size (getD lens l 
 
 unfoldable pub headerOk : Header → Bool
 headerOk h = eqb (shapeRefusal (h .shape)) 0 && totalsOk (h .totals) && lensFrom (h .shape .layers) (h .shape .«heap_size») (h .lens) (h .flags) maxLayers 0
+
+-- lengths and flags have a place for each layer that a shape may have
+pub record Headed (h : Header) : Type 0 where
+  pub lens : length (h .lens) ≡ maxLayers
+  pub flags : length (h .flags) ≡ maxLayers

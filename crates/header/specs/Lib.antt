@@ -1,4 +1,5 @@
+pub mod Header
+pub mod Lending
 pub mod Shape
 pub mod Totals
-pub mod Header
-pub mod Accepted
+pub mod inner

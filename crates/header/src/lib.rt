@@ -11,7 +11,8 @@ ghost use Rattle.words.specs.Tests.{number};
 ghost use Rattle.header.specs.declared.Mode.{Mode};
 ghost use Rattle.header.specs.Totals.{noTotals, updateTotals, addTotals, setWeight, totalsOk, totalsTests};
 ghost use Rattle.header.specs.Shape.{maxLayers, shapeRefusal, checkedShape, sameShape, bottomOf, bottomLayer};
-ghost use Rattle.header.specs.Header.{zeroHeader, freshHeader, withTotals, withMode, withFlags, withLens, withLayer, withLayers, headOf, scalarsOf, clash, joined, beginTests, beginOf, beginHeader, freshFlags, lensFrom, headerOk};
+ghost use Rattle.header.specs.Header.{zeroHeader, freshHeader, withTotals, withMode, withFlags, withLens, withLayer, withLayers, scalarsOf, clash, joined, begun, begunScalars, beginTests, beginOf, beginHeader, freshFlags, lensFrom, headerOk};
+ghost use Rattle.header.specs.Lending.{headIn};
 
 // Heap size, rows, columns and layers.
 pub struct Shape {
@@ -162,8 +163,8 @@ pub fn check_shape(heap_size: usize, rows: usize, cols: usize, layers: usize) ->
     }
 }
 
-// The last layer that a key with this bottom hash reaches, of at least one layer: as many as there
-// are ones from bit 1 on, by the zeros of their opposites, so that no jump depends on the hash.
+// The last layer that a key with this bottom hash reaches: the number of ones in a row from bit 1 on, at
+// most layers - 1. They are counted as the trailing zeros of the complement, not bit by bit.
 pub fn bottom_of(hash: u64, layers: usize) -> usize
     requires { ⌜ (1 ≤ layers) × (layers ≤ maxLayers) ⌝ }
     ensures { λ r. ⌜ (r ≡ bottomOf hash layers) × (r < layers) ⌝ }
@@ -331,7 +332,7 @@ impl Header {
     // then copies the header no more than storing in place would.
     pub fn touched(self, layer: usize, len: usize, kept: bool) -> Self
         requires { ⌜ layer < maxLayers ⌝ }
-        ensures { λ r. ⌜ r ≡ withLayer self layer (getD (self .flags) layer false && kept) len ⌝ }
+        ensures { λ r. ⌜ r ≡ withLayer self layer len (getD (self .flags) layer false && kept) ⌝ }
     {
         if kept {
             return self.with_len(layer, len);
@@ -345,11 +346,22 @@ impl Header {
         lens: [usize; Shape::MAX_LAYERS],
         flags: [bool; Shape::MAX_LAYERS],
     ) -> Self
-        ensures { λ r. ⌜ r ≡ withLayers self flags lens ⌝ }
+        ensures { λ r. ⌜ r ≡ withLayers self lens flags ⌝ }
     {
         self.lens = lens;
         self.flags = flags;
         self
+    }
+
+    // The same of a whole header, for a merge.
+    pub fn begin(self, totals: Totals, mode: Mode) -> Self
+        requires { ⌜ number (totalsTests (self .totals) totals) ≡ 0 ⌝ }
+        ensures { λ r. ⌜ r ≡ begun self totals mode ⌝ }
+    {
+        let scalars = self.scalars().begin(totals, mode);
+        let sum = scalars.totals;
+        let next = scalars.mode;
+        self.with_totals(sum).with_mode(next)
     }
 
     // Totals and mode of an update: 5, 6 or 7 and the header as it was, or 0 and the header that the
@@ -403,7 +415,7 @@ impl Totals {
         self.weight <= words::MAX_WEIGHT
     }
 
-    // 7 where the sum would pass 2^52, 0 where not; of any two.
+    // 7 where the sum of two totals would pass 2^52, else 0; for totals out of range too.
     pub fn sum_refusal(self, more: Totals) -> u64
         ensures { λ r. ⌜ r ≡ number (totalsTests self more) ⌝ }
     {
@@ -442,6 +454,21 @@ impl Scalars {
             .sum_refusal(Totals::of_update(words::magnitude(weight)))
     }
 
+    // The totals of an update or of a second state come in, once they are judged, and an unset mode
+    // takes theirs.
+    fn begin(self, totals: Totals, mode: Mode) -> Self
+        requires { ⌜ number (totalsTests (self .totals) totals) ≡ 0 ⌝ }
+        ensures { λ r. ⌜ r ≡ begunScalars self totals mode ⌝ }
+    {
+        let shape = self.shape;
+        let before = self.mode;
+        Scalars {
+            shape,
+            totals: self.totals.plus(totals),
+            mode: join(before, mode),
+        }
+    }
+
     // An update's beginning without lengths and flags, which it does not change; for any totals that
     // were there.
     pub fn begin_update(self, weight: i64, mode: Mode) -> AnsweredLent
@@ -454,17 +481,9 @@ impl Scalars {
                 scalars: self,
             };
         }
-        let shape = self.shape;
-        let before = self.mode;
-        let scalars = Scalars {
-            shape,
-            totals: self.totals
-                .plus(Totals::of_update(words::magnitude(weight))),
-            mode: join(before, mode),
-        };
         AnsweredLent {
             refusal: 0,
-            scalars,
+            scalars: self.begin(Totals::of_update(words::magnitude(weight)), mode),
         }
     }
 }
@@ -485,8 +504,8 @@ fn fresh_flags(layers: usize) -> [bool; Shape::MAX_LAYERS]
 
 // ---- ranges
 
-// Whether the layers' lengths are at most the heap size. No test ends the loop early: in a header
-// that is right all are looked at, and a sum of tests has no jump.
+// Whether the layers' lengths are at most the heap size. No test ends the loop early: in a header that
+// is in range all are looked at anyway, and tests that are joined by `&` have no jump.
 fn lens_few(lens: &[usize], layers: usize, heap_size: usize) -> bool
     requires { ⌜ layers ≤ length (now lens) ⌝ }
     ensures { λ r. ⌜ ((flags : List Bool) → r ≡ lensFrom layers «heap_size» (now (lens .entry)) flags layers 0) ⌝ }
@@ -517,7 +536,7 @@ fn rest_clear(lens: &[usize], flags: &[bool], layers: usize) -> bool
 // Whether dimensions, totals, lengths and flags are in range; of the mode nothing is asked.
 pub fn fields_in_range(shape: Shape, totals: Totals, lens: &[usize], flags: &[bool]) -> bool
     requires { ⌜ (length (now lens) ≡ maxLayers) × (length (now flags) ≡ maxLayers) ⌝ }
-    ensures { λ r. ⌜ ((m : Mode) → r ≡ headerOk (headOf (record { shape = shape; totals = totals; mode = m }) (now (flags .entry)) (now (lens .entry)))) ⌝ }
+    ensures { λ r. ⌜ ((m : Mode) → r ≡ headerOk (headIn (record { shape = shape; totals = totals; mode = m }) lens flags)) ⌝ }
 {
     if shape.refusal() != 0 {
         return false;

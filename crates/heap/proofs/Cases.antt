@@ -15,14 +15,14 @@ split P true x y f g = f refl
 split P false x y f g = g refl
 
 pub offer-cases {ℓ} : (size : ℕ) (t : Table) (c : Cand) (P : Offered → Type ℓ)
-    → (placeOf (c .who .key) t < t .len → P (record { table = rescore t (placeOf (c .who .key) t) c; answer = Rescored }))
-    → (t .len ≤ placeOf (c .who .key) t → t .len < size → P (record { table = seat t c; answer = Seated }))
-    → (t .len ≤ placeOf (c .who .key) t → size ≤ t .len → ltZ (countAt (t .cands) 0) (c .count) ≡ true
-    → P (record { table = replaceRoot t c; answer = Displaced (getD (t .cands) 0 noCand .who .key) }))
-    → (t .len ≤ placeOf (c .who .key) t → size ≤ t .len → ltZ (countAt (t .cands) 0) (c .count) ≡ false → P (record { table = t; answer = TurnedAway }))
+    → (placeOf (c .item .key) t < t .len → P (record { table = rescore t (placeOf (c .item .key) t) c; answer = Rescored }))
+    → (t .len ≤ placeOf (c .item .key) t → t .len < size → P (record { table = seat t c; answer = Seated }))
+    → (t .len ≤ placeOf (c .item .key) t → size ≤ t .len → ltZ (countAt (t .cands) 0) (c .count) ≡ true
+    → P (record { table = replaceRoot t c; answer = Displaced (getD (t .cands) 0 noCand .item .key) }))
+    → (t .len ≤ placeOf (c .item .key) t → size ≤ t .len → ltZ (countAt (t .cands) 0) (c .count) ≡ false → P (record { table = t; answer = TurnedAway }))
     → P (offer size t c)
 unfolding offer displace
 offer-cases size t c P known new more less =
-    split P (ltb (placeOf (c .who .key) t) (t .len)) _ _ (λ e. known (ltb-true _ _ e))
+    split P (ltb (placeOf (c .item .key) t) (t .len)) _ _ (λ e. known (ltb-true _ _ e))
     (λ e. split P (ltb (t .len) size) _ _ (λ f. new (ltb-false _ _ e) (ltb-true _ _ f))
     (λ f. split P (ltZ (countAt (t .cands) 0) (c .count)) _ _ (λ g. more (ltb-false _ _ e) (ltb-false _ _ f) g) (λ g. less (ltb-false _ _ e) (ltb-false _ _ f) g)))

@@ -9,15 +9,15 @@ use lib.IntN.{ℤ}
 use Rattle.words.specs.Num.{inRange, allIn}
 use Rattle.heap_moves.specs.Cands.{Cand, noCand}
 use Rattle.heap_moves.specs.Flat.{candOf, countsOf}
-use Rattle.heap_moves.specs.Totals.{Each}
+use Rattle.heap_moves.specs.inner.Totals.{Each}
 use Rattle.heap_moves.proofs.Moved.{each-set, each-next}
 use Rattle.heap.specs.Offer.{Table, Offered, offer}
 use Rattle.heap.proofs.Effects.{Effect, rescored, seated, displaced, turned-away, offer-effect}
 use Rattle.words.proofs.Bools.{both}
 
--- what holds of an entry whatever its count
+-- what holds of an entry still holds when its count becomes v
 abbrev pub Recounts : (Cand → Type 0) → ℤ → Type 0
-Recounts P v = (x : Cand) → P x → P (candOf (x .who) v)
+Recounts P v = (x : Cand) → P x → P (candOf (x .item) v)
 
 module _ (size : ℕ) (t : Table) (c : Cand) (some : 0 < size) (long : length (t .cands) ≡ size) (small : t .len ≤ size) where
   effect-small : (o : Offered) → Effect size t c o → o .table .len ≤ size
@@ -32,7 +32,7 @@ module _ (size : ℕ) (t : Table) (c : Cand) (some : 0 < size) (long : length (t
   effect-each : (P : Cand → Type 0) → P c → Recounts P (c .count) → Each P (t .len) (t .cands) → (o : Offered) → Effect size t c o → Each P (o .table .len) (o .table .cands)
   effect-each P p re h o (rescored i hi g a n m) =
       subst (λ (z : ℕ). Each P z (o .table .cands)) (sym n)
-      (m .all P (each-set P (t .len) (t .cands) i (candOf (getD (t .cands) i noCand .who) (c .count)) (omega arith) (re (getD (t .cands) i noCand) (h i hi)) h))
+      (m .all P (each-set P (t .len) (t .cands) i (candOf (getD (t .cands) i noCand .item) (c .count)) (omega arith) (re (getD (t .cands) i noCand) (h i hi)) h))
   effect-each P p re h o (seated g r a n m) =
       subst (λ (z : ℕ). Each P z (o .table .cands)) (sym n)
       (m .all P (λ i hi. each-next P (t .len) (t .cands) c (omega arith) p h i (omega arith)))

@@ -5,7 +5,7 @@ use native.Mathlib.Omega.{arith}
 use mathlib.Core.List.{List}
 use lib.ListN.{length, getD, set, length-set}
 use lib.IntN.{ℤ}
-use Rattle.heap_moves.specs.declared.Who.{Who}
+use Rattle.heap_moves.specs.declared.Item.{Item}
 use Rattle.heap_moves.specs.Cands.{Cand, noCand, recount}
 use Rattle.heap_moves.specs.Flat.{candsOf, candOf, entriesOf, countsOf}
 use Rattle.heap_moves.proofs.Rounds.{cands-entries, length-entries, length-counts}
@@ -13,9 +13,9 @@ use Rattle.heap_moves.proofs.Order.{update-ordered, last-ordered, root-ordered}
 use Rattle.heap_moves.proofs.Rests.{up-long, down-long, update-long, rest-set, up-rest, down-rest, update-rest}
 use Rattle.heap_moves.proofs.Views.{length-cands}
 use Rattle.heap.specs.declared.Answer.{Answer}
-use Rattle.heap.specs.Offer.{Table, Offered, placeOf, rescore, seat, replaceRoot, offer, lenBy}
-use Rattle.heap.specs.Slices.{tableOf, offeredOf, offered}
-use Rattle.heap.specs.Sound.{Sound}
+use Rattle.heap.specs.Offer.{Table, Offered, placeOf, rescore, seat, replaceRoot, offer}
+use Rattle.heap.specs.inner.Slices.{lenBy, tableOf, offeredOf, offered}
+use Rattle.heap.specs.inner.Sound.{Sound}
 use Rattle.heap.proofs.Cases.{offer-cases}
 
 -- ---- lengths
@@ -30,13 +30,13 @@ pub offer-long : (size : ℕ) (t : Table) (c : Cand) → length (offer size t c 
 unfolding rescore seat replaceRoot
 offer-long size t c =
     offer-cases size t c (λ (o : Offered). length (o .table .cands) ≡ length (t .cands))
-    (λ h. update-long (t .len) (recount (t .cands) (placeOf (c .who .key) t) (c .count)) (placeOf (c .who .key) t) ∙ simp length-set)
+    (λ h. update-long (t .len) (recount (t .cands) (placeOf (c .item .key) t) (c .count)) (placeOf (c .item .key) t) ∙ simp length-set)
     (λ h k. up-long (t .len) (set (t .cands) (t .len) c) (t .len) ∙ simp length-set)
     (λ h k q. down-long (t .len) (t .len) (set (t .cands) 0 c) 0 ∙ simp length-set) (λ h k q. refl)
 
 -- ---- what the clauses of `offer` say together
 
-module _ (es : List ℕ) (ns : List ℤ) (size len : ℕ) (w : Who) (v : ℤ) (es′ : List ℕ) (ns′ : List ℤ) (a : Answer)
+module _ (es : List ℕ) (ns : List ℤ) (size len : ℕ) (w : Item) (v : ℤ) (es′ : List ℕ) (ns′ : List ℤ) (a : Answer)
     (words : es′ ≡ entriesOf (offered es ns size len w v .table .cands)) (counts : ns′ ≡ countsOf (offered es ns size len w v .table .cands)) (said : a ≡ offered es ns size len w v .answer) where
   pub offer-cands : candsOf es′ ns′ ≡ offered es ns size len w v .table .cands
   offer-cands = ap₂ candsOf words counts ∙ cands-entries (offered es ns size len w v .table .cands)
@@ -94,11 +94,11 @@ offer-sound size t c z s =
     cs = t .cands
 
     i : ℕ
-    i = placeOf (c .who .key) t
+    i = placeOf (c .item .key) t
 
     -- the entry of the known key, with the new count
     again : Cand
-    again = record { who = getD (t .cands) (placeOf (c .who .key) t) noCand .who; count = c .count }
+    again = record { item = getD (t .cands) (placeOf (c .item .key) t) noCand .item; count = c .count }
 
     fits : t .len ≤ length (t .cands)
     fits = omega (arith, s .long, s .used)

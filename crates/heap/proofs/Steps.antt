@@ -11,15 +11,15 @@ use mir.Val.{toZ, ofZ}
 use mir.Facts.{toZ-ofZ}
 use borrow.Author.Needs.{sfits-of}
 use borrow.Author.Tests.{lt-ltb, le-ltb}
-use Rattle.heap_moves.specs.declared.Who.{Who}
+use Rattle.heap_moves.specs.declared.Item.{Item}
 use Rattle.heap_moves.specs.Cands.{Cand, recount, up, down, updateAt}
 use Rattle.heap_moves.specs.Flat.{candsOf, candOf, entriesOf, countsOf}
 use Rattle.heap_moves.proofs.Views.{cand-at, count-at, recount-view}
 use Rattle.heap_moves.proofs.Rounds.{entries-are, counts-are}
 use Rattle.heap.specs.declared.Answer.{Answer}
 use Rattle.heap.specs.declared.Answer.the-variants.{Rescored, Seated, Displaced, TurnedAway}
-use Rattle.heap.specs.Offer.{Offered, find, rescore, seat, replaceRoot, displace, offer, lenBy}
-use Rattle.heap.specs.Slices.{tableOf, offeredOf}
+use Rattle.heap.specs.Offer.{Offered, find, rescore, seat, replaceRoot, displace, offer}
+use Rattle.heap.specs.inner.Slices.{lenBy, tableOf, offeredOf}
 
 -- A signed argument that is handed on comes back as v′, with v′ ≡ v.
 
@@ -31,7 +31,7 @@ rescore-view es ns n i v v′ same cs q =
 table-path : {a b : List Cand} {n : ℕ} {x : Answer} → a ≡ b → _≡_ {A = Offered} (record { table = record { cands = a; len = n }; answer = x }) (record { table = record { cands = b; len = n }; answer = x })
 table-path {a} {b} {n} {x} p = λ i. record { table = record { cands = p i; len = n }; answer = x }
 
-module _ (es : List ℕ) (ns : List ℤ) (len : ℕ) (w : Who) (v v′ : ℤ) (same : v′ ≡ v) where
+module _ (es : List ℕ) (ns : List ℤ) (len : ℕ) (w : Item) (v v′ : ℤ) (same : v′ ≡ v) where
   pub seat-view : (cs ds : List Cand) → cs ≡ set (candsOf es ns) len (candOf w v′) → ds ≡ up len cs len → ds ≡ seat (tableOf es ns len) (candOf w v) .cands
   unfolding seat
   seat-view cs ds p q = q ∙ ap (λ (z : List Cand). up len z len) (p ∙ ap (λ (x : ℤ). set (candsOf es ns) len (candOf w x)) same)
@@ -40,12 +40,12 @@ module _ (es : List ℕ) (ns : List ℤ) (len : ℕ) (w : Who) (v v′ : ℤ) (s
   root-less : (b : Bool) → mag (getD ns 0 (pos 0)) < 2 ^ 63 → ltZ (toZ w64 (ofZ w64 (getD ns 0 (pos 0)))) v′ ≡ b → ltZ (getD ns 0 (pos 0)) v ≡ b
   root-less b f t = rw (toZ-ofZ {w = w64} {z = getD ns 0 (pos 0)} (sfits-of f), same) at t
 
-  pub displace-yes : (es₂ : List ℕ) (ns₂ : List ℤ) (cs : List Cand) (out : ℕ) → 0 < length ns → mag (getD ns 0 (pos 0)) < 2 ^ 63
-      → ltZ (toZ w64 (ofZ w64 (getD ns 0 (pos 0)))) v′ ≡ true → out ≡ getD es 0 0
+  pub displace-yes : (es₂ : List ℕ) (ns₂ : List ℤ) (cs : List Cand) (a : Answer) → 0 < length ns → mag (getD ns 0 (pos 0)) < 2 ^ 63
+      → ltZ (toZ w64 (ofZ w64 (getD ns 0 (pos 0)))) v′ ≡ true → a ≡ Displaced (getD es 0 0)
       → cs ≡ set (candsOf es ns) 0 (candOf w v′) → candsOf es₂ ns₂ ≡ down len len cs 0
-      → offeredOf es₂ ns₂ len (Displaced out) ≡ displace (tableOf es ns len) (candOf w v)
+      → offeredOf es₂ ns₂ len a ≡ displace (tableOf es ns len) (candOf w v)
   unfolding displace replaceRoot
-  displace-yes es₂ ns₂ cs out h f t o p q =
+  displace-yes es₂ ns₂ cs a h f t o p q =
       rw (count-at es ns 0 h, root-less true f t, cand-at es ns 0 h, o)
       (table-path (q ∙ ap (λ (z : List Cand). down len len z 0) (p ∙ ap (λ (x : ℤ). set (candsOf es ns) 0 (candOf w x)) same)))
 

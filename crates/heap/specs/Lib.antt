@@ -1,5 +1,2 @@
 pub mod Offer
-pub mod Slices
-pub mod Keys
-pub mod Sound
-pub mod Fours
+pub mod inner

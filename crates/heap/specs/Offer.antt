@@ -17,7 +17,7 @@ pub record Table : Type 0 where
 -- "a key is found as the first match in array order": its place, or the list's length if it stands nowhere
 unfoldable pub find : ℕ → List Cand → ℕ
 find k [] = zero
-find k (c ∷ cs) = cond (eqb (c .who .key) k) zero (suc (find k cs))
+find k (c ∷ cs) = cond (eqb (c .item .key) k) zero (suc (find k cs))
 
 -- "among its layer's candidates"
 abbrev pub placeOf : ℕ → Table → ℕ
@@ -44,13 +44,13 @@ replaceRoot t c = record { cands = down (t .len) (t .len) (set (t .cands) 0 c) 0
 unfoldable pub displace : Table → Cand → Offered
 displace t c =
     cond (ltZ (countAt (t .cands) 0) (c .count))
-    (record { table = replaceRoot t c; answer = Displaced (getD (t .cands) 0 noCand .who .key) })
+    (record { table = replaceRoot t c; answer = Displaced (getD (t .cands) 0 noCand .item .key) })
     (record { table = t; answer = TurnedAway })
 
 -- a candidate offered to a table of `size` places
 unfoldable pub offer : ℕ → Table → Cand → Offered
 offer size t c =
-    cond (ltb (placeOf (c .who .key) t) (t .len)) (record { table = rescore t (placeOf (c .who .key) t) c; answer = Rescored })
+    cond (ltb (placeOf (c .item .key) t) (t .len)) (record { table = rescore t (placeOf (c .item .key) t) c; answer = Rescored })
     (cond (ltb (t .len) size) (record { table = seat t c; answer = Seated })
     (displace t c))
 
@@ -63,10 +63,3 @@ keptBy TurnedAway = false
 
 abbrev pub kept : Offered → Bool
 kept o = keptBy (o .answer)
-
--- the length after an offer
-abbrev pub lenBy : Answer → ℕ → ℕ
-lenBy Rescored n = n
-lenBy Seated n = n + 1
-lenBy (Displaced k) n = n
-lenBy TurnedAway n = n

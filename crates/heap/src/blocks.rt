@@ -1,14 +1,14 @@
-// The front of a scan, four places at a time: one jump for four tests. What it passes over is found
-// right; the plain scan behind it says which place stopped it.
+// The first part of the scan for a key: four entries at a time, with one jump for four tests. It stops
+// before four of which one has the key, or where fewer are left; the plain scan goes on from there.
 ghost use mathlib.Core.Path.{_≡_};
 ghost use mathlib.Core.Logic.{_≢_};
 ghost use Prim.Native.Nat.{ℕ, _+_, _*_, _≤_, _<_};
 ghost use lib.ListN.{length, getD};
-ghost use Rattle.heap.specs.Fours.{fourOther};
+ghost use Rattle.words.specs.inner.Fours.{fourOther};
 
 fn four_other(entries: &[u64], a: usize, key: u64) -> bool
     requires { ⌜ a + 13 ≤ length (now entries) ⌝ }
-    ensures { λ r. ⌜ r ≡ fourOther (now (entries .entry)) key a ⌝ }
+    ensures { λ r. ⌜ r ≡ fourOther (getD (now (entries .entry)) a 0) (getD (now (entries .entry)) (a + 4) 0) (getD (now (entries .entry)) (a + 8) 0) (getD (now (entries .entry)) (a + 12) 0) key ⌝ }
 {
     let p = entries[a] != key;
     let q = entries[a + 4] != key;

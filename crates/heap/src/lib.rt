@@ -11,10 +11,10 @@ ghost use lib.IntN.{ℤ};
 ghost use Rattle.words.specs.Num.{allIn};
 ghost use Rattle.heap_moves.specs.Cands.{mostCands, recount, updateAt};
 ghost use Rattle.heap_moves.specs.Flat.{candsOf, candOf, entriesOf, countsOf};
-ghost use Rattle.heap_moves.specs.Post.{Two};
+ghost use Rattle.heap_moves.specs.inner.Post.{Two};
 ghost use Rattle.heap.specs.Offer;
-ghost use Rattle.heap.specs.Offer.{keptBy, lenBy};
-ghost use Rattle.heap.specs.Slices.{Room, tableOf, offeredOf, offered};
+ghost use Rattle.heap.specs.Offer.{keptBy};
+ghost use Rattle.heap.specs.inner.Slices.{lenBy, Room, tableOf, offeredOf, offered};
 
 // What an offered candidate did: got a new count, was seated, displaced a key, or was turned away.
 pub enum Answer {
@@ -50,7 +50,7 @@ fn rescore(entries: &mut [u64], counts: &mut [i64], n: usize, i: usize, v: i64)
 }
 
 // A new key takes the first free place, and moves up.
-fn seat(entries: &mut [u64], counts: &mut [i64], len: usize, w: heap_moves::Who, v: i64)
+fn seat(entries: &mut [u64], counts: &mut [i64], len: usize, w: heap_moves::Item, v: i64)
     requires { ⌜ Two (length (now entries)) (length (now counts)) len len ⌝ }
     ensures { λ r. ⌜ candsOf (now (entries .exit)) (now (counts .exit)) ≡ Rattle.heap.specs.Offer.seat (tableOf (now (entries .entry)) (now (counts .entry)) len) (candOf w v) .cands ⌝ }
 {
@@ -63,7 +63,7 @@ fn displace(
     entries: &mut [u64],
     counts: &mut [i64],
     len: usize,
-    w: heap_moves::Who,
+    w: heap_moves::Item,
     v: i64,
 ) -> Answer
     requires { ⌜ Two (length (now entries)) (length (now counts)) 0 0 ⌝ }
@@ -85,7 +85,7 @@ pub fn offer(
     counts: &mut [i64],
     size: usize,
     len: usize,
-    w: heap_moves::Who,
+    w: heap_moves::Item,
     v: i64,
 ) -> Answer
     requires { ⌜ Room (length (now entries)) (length (now counts)) size len ⌝ }

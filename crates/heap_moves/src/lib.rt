@@ -9,14 +9,14 @@ ghost use mathlib.Core.Bool.{not};
 ghost use mathlib.Core.List.{List};
 ghost use lib.ListN.{length, set};
 ghost use Rattle.heap_moves.specs.Cands.{smaller, swapped, up, leftOr, lower, down, stays, updateAt};
-ghost use Rattle.heap_moves.specs.Flat.{candsOf, store4, whoOf, candOf};
-ghost use Rattle.heap_moves.specs.Post.{Two};
+ghost use Rattle.heap_moves.specs.Flat.{candsOf, itemOf, candOf};
+ghost use Rattle.heap_moves.specs.inner.Post.{store4, Two};
 
 // The greatest heap size: the most candidates of a layer.
 pub const MAX_HEAP_SIZE: usize = 1024;
 
-// Who is counted: the key, its bottom hash, and the halves of this layer's hash.
-pub struct Who {
+// An item: a key, its bottom hash, and the halves of one layer's hash.
+pub struct Item {
     pub key: u64,
     pub bottom: u64,
     pub high: u64,
@@ -24,12 +24,12 @@ pub struct Who {
 }
 
 // The entry at place i.
-pub fn who_at(entries: &[u64], i: usize) -> Who
+pub fn item_at(entries: &[u64], i: usize) -> Item
     requires { ⌜ 4 * i + 4 ≤ length (now entries) ⌝ }
-    ensures { λ r. ⌜ r ≡ whoOf (now (entries .entry)) i ⌝ }
+    ensures { λ r. ⌜ r ≡ itemOf (now (entries .entry)) i ⌝ }
 {
     let a = 4 * i;
-    Who {
+    Item {
         key: entries[a],
         bottom: entries[a + 1],
         high: entries[a + 2],
@@ -38,7 +38,7 @@ pub fn who_at(entries: &[u64], i: usize) -> Who
 }
 
 // Stores an entry's four words at place i.
-fn put_who(entries: &mut [u64], i: usize, w: Who)
+fn put_item(entries: &mut [u64], i: usize, w: Item)
     requires { ⌜ 4 * i + 4 ≤ length (now entries) ⌝ }
     ensures { λ r. ⌜ now (entries .exit) ≡ store4 (now (entries .entry)) i w ⌝ }
 {
@@ -50,11 +50,11 @@ fn put_who(entries: &mut [u64], i: usize, w: Who)
 }
 
 // Stores an entry and its count at place i.
-pub fn put_cand(entries: &mut [u64], counts: &mut [i64], i: usize, w: Who, n: i64)
+pub fn put_cand(entries: &mut [u64], counts: &mut [i64], i: usize, w: Item, n: i64)
     requires { ⌜ Two (length (now entries)) (length (now counts)) i i ⌝ }
     ensures { λ r. ⌜ candsOf (now (entries .exit)) (now (counts .exit)) ≡ set (candsOf (now (entries .entry)) (now (counts .entry))) i (candOf w n) ⌝ }
 {
-    put_who(entries, i, w);
+    put_item(entries, i, w);
     counts[i] = n;
 }
 
@@ -63,12 +63,12 @@ fn swap_entries(entries: &mut [u64], counts: &mut [i64], i: usize, j: usize)
     requires { ⌜ Two (length (now entries)) (length (now counts)) i j ⌝ }
     ensures { λ r. ⌜ candsOf (now (entries .exit)) (now (counts .exit)) ≡ swapped (candsOf (now (entries .entry)) (now (counts .entry))) i j ⌝ }
 {
-    let w = who_at(entries, i);
-    let v = who_at(entries, j);
+    let w = item_at(entries, i);
+    let v = item_at(entries, j);
     let n = counts[i];
     let m = counts[j];
-    put_who(entries, i, v);
-    put_who(entries, j, w);
+    put_item(entries, i, v);
+    put_item(entries, j, w);
     counts[i] = m;
     counts[j] = n;
 }

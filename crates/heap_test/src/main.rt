@@ -1,7 +1,7 @@
 // Runs stored offers through one layer's candidates and prints what they answer and leave: `stdout`
 // holds the oracle's answers. A line of `stdin` is an operation, the number of its words, and the words.
 use heap::Answer;
-use heap_moves::Who;
+use heap_moves::Item;
 
 // A heap of at most 16 places: how many it has, and how many are used.
 struct Lone {
@@ -37,7 +37,7 @@ fn new(entries: &mut [u64; 64], counts: &mut [i64; 16], size: usize) -> Lone {
 }
 
 // The whole slices are the heap: `size` counts, and four words for each.
-fn offer_all(entries: &mut [u64], counts: &mut [i64], len: usize, w: Who, v: i64) -> Answer {
+fn offer_all(entries: &mut [u64], counts: &mut [i64], len: usize, w: Item, v: i64) -> Answer {
     let size = counts.len();
     if size == 0 {
         return Answer::TurnedAway;
@@ -55,7 +55,7 @@ fn offer_all(entries: &mut [u64], counts: &mut [i64], len: usize, w: Who, v: i64
 }
 
 // 2: an offer.
-fn offer(entries: &mut [u64], counts: &mut [i64], h: Lone, w: Who, v: i64) -> Lone {
+fn offer(entries: &mut [u64], counts: &mut [i64], h: Lone, w: Item, v: i64) -> Lone {
     let size = h.size;
     let len = h.len;
     if 16 < size {
@@ -106,13 +106,13 @@ fn show(entries: &[u64; 64], counts: &[i64; 16], h: Lone) {
     }
     let mut i = 0;
     while i < len {
-        let w = heap_moves::who_at(entries, i);
+        let w = heap_moves::item_at(entries, i);
         show_entry(w, counts[i]);
         i += 1;
     }
 }
 
-fn show_entry(w: Who, n: i64) {
+fn show_entry(w: Item, n: i64) {
     vectors::print(w.key);
     vectors::print(w.bottom);
     vectors::print(w.high);
@@ -142,7 +142,7 @@ fn run(entries: &mut [u64; 64], counts: &mut [i64; 16], h: Lone, op: u64, text: 
             entries,
             counts,
             h,
-            Who {
+            Item {
                 key: a,
                 bottom,
                 high,

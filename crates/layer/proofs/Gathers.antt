@@ -7,28 +7,28 @@ use mathlib.Core.Bool.{Bool, true, false, cond}
 use mathlib.Core.List.{List, [], _∷_, _++_}
 use lib.ListN.{length, getD, replicate, length-append}
 use lib.IntN.{ℤ, pos}
-use Rattle.heap_moves.specs.declared.Who.{Who}
+use Rattle.heap_moves.specs.declared.Item.{Item}
 use Rattle.heap.specs.declared.Answer.{Answer}
 use Rattle.heap_moves.specs.Cands.{Cand, noCand}
-use Rattle.heap.specs.Offer.{Table, lenBy}
-use Rattle.heap_moves.specs.Flat.{whoOf, candsOf, candOf, entriesOf, countsOf}
-use Rattle.heap.specs.Slices.{tableOf, offered}
+use Rattle.heap.specs.Offer.{Table}
+use Rattle.heap.specs.inner.Slices.{lenBy, tableOf, offered}
+use Rattle.heap_moves.specs.Flat.{itemOf, candsOf, candOf, entriesOf, countsOf}
 use Rattle.heap.proofs.Sounds.{offer-table}
 use Rattle.countsketch_l2_norm.specs.Estimate.{estimateOf}
 use Rattle.layer.specs.declared.Dims.{Dims}
 use Rattle.layer.specs.declared.Merged.{Merged}
 use Rattle.layer.specs.Layer.{hashBy, countOf, offerTo, noTable}
 use Rattle.layer.specs.Merge.{hasKey, firsts, offerAll}
-use Rattle.layer.specs.Gather.{Front, Gathered, mergeTable, offerOne, gather, whosFrom, whosOf, keysOf, firstAt, gatheredOf}
+use Rattle.layer.specs.inner.Gather.{Front, Gathered, mergeTable, offerOne, gather, itemsFrom, itemsOf, keysOf, firstAt, gatheredOf}
 use Rattle.layer.proofs.Steps.{offer-few}
-use Rattle.layer.proofs.Firsts.{firsts-append, front-whos, Finds, find-has, find-hasnt, Seen, seen-none, seen-known, seen-new}
+use Rattle.layer.proofs.Firsts.{firsts-append, front-items, Finds, find-has, find-hasnt, Seen, seen-none, seen-known, seen-new}
 
 gathered-path : {a b : Table} {m n : ℕ} → a ≡ b → m ≡ n → _≡_ {A = Gathered} (record { table = a; keys = m }) (record { table = b; keys = n })
 gathered-path p q = λ i. record { table = p i; keys = q i }
 
 -- ---- one offer
 
-pub one-view : (d : Dims) (cells : List ℤ) (w : Who) (es es′ : List ℕ) (ns ns′ : List ℤ) (g : Merged) (a : Answer) (v : ℤ) (r : ℕ) → v ≡ estimateOf (d .rows) (d .cols) (hashBy w) cells
+pub one-view : (d : Dims) (cells : List ℤ) (w : Item) (es es′ : List ℕ) (ns ns′ : List ℤ) (g : Merged) (a : Answer) (v : ℤ) (r : ℕ) → v ≡ estimateOf (d .rows) (d .cols) (hashBy w) cells
     → es′ ≡ entriesOf (offered es ns (d .size) (g .len) w v .table .cands) → ns′ ≡ countsOf (offered es ns (d .size) (g .len) w v .table .cands)
     → a ≡ offered es ns (d .size) (g .len) w v .answer → r ≡ lenBy a (g .len)
     → gatheredOf es′ ns′ (record { len = r; keys = g .keys + 1 }) ≡ offerOne d cells w (gatheredOf es ns g)
@@ -41,9 +41,9 @@ one-view d cells w es es′ ns ns′ g a v r ev words counts said e =
 
 -- ---- an entry, if it is the first of its key
 
-module _ (d : Dims) (cells : List ℤ) (bef : List ℕ) (m : ℕ) (src : List ℕ) (i : ℕ) (w : Who) (is : w ≡ whoOf src i) (r : ℕ) (there : Finds bef m (w .key) r) (g : Gathered) where
+module _ (d : Dims) (cells : List ℤ) (bef : List ℕ) (m : ℕ) (src : List ℕ) (i : ℕ) (w : Item) (is : w ≡ itemOf src i) (r : ℕ) (there : Finds bef m (w .key) r) (g : Gathered) where
   key : w .key ≡ getD src (4 * i) 0
-  key = ap (λ (x : Who). x .key) is
+  key = ap (λ (x : Item). x .key) is
 
   pub first-there : r < m → g ≡ firstAt d cells bef m src i g
   unfolding firstAt
@@ -56,30 +56,30 @@ module _ (d : Dims) (cells : List ℤ) (bef : List ℕ) (m : ℕ) (src : List �
   pub first-new : m ≤ r → (q : ℕ) → Finds src i (w .key) q → i ≤ q → (g′ : Gathered) → g′ ≡ offerOne d cells w g → g′ ≡ firstAt d cells bef m src i g
   unfolding firstAt
   first-new h q here k g′ e =
-      e ∙ ap (λ (x : Who). offerOne d cells x g) is
-      ∙ sym (ap (λ (b : Bool). cond b g (cond (hasKey (getD src (4 * i) 0) (keysOf src i)) g (offerOne d cells (whoOf src i) g))) (rw key at (find-hasnt bef m (w .key) r there h))
-      ∙ ap (λ (b : Bool). cond b g (offerOne d cells (whoOf src i) g)) (rw key at (find-hasnt src i (w .key) q here k)))
+      e ∙ ap (λ (x : Item). offerOne d cells x g) is
+      ∙ sym (ap (λ (b : Bool). cond b g (cond (hasKey (getD src (4 * i) 0) (keysOf src i)) g (offerOne d cells (itemOf src i) g))) (rw key at (find-hasnt bef m (w .key) r there h))
+      ∙ ap (λ (b : Bool). cond b g (offerOne d cells (itemOf src i) g)) (rw key at (find-hasnt src i (w .key) q here k)))
 
 -- ---- the loop
 
-gather-known : (d : Dims) (cells : List ℤ) (seen : List ℕ) (w : Who) (ws : List Who) (g : Gathered) → hasKey (w .key) seen ≡ true → gather d cells seen (w ∷ ws) g ≡ gather d cells seen ws g
+gather-known : (d : Dims) (cells : List ℤ) (seen : List ℕ) (w : Item) (ws : List Item) (g : Gathered) → hasKey (w .key) seen ≡ true → gather d cells seen (w ∷ ws) g ≡ gather d cells seen ws g
 unfolding gather firsts
 gather-known d cells seen w ws g h = rw h
 
-gather-new : (d : Dims) (cells : List ℤ) (seen : List ℕ) (w : Who) (ws : List Who) (g : Gathered) → hasKey (w .key) seen ≡ false
+gather-new : (d : Dims) (cells : List ℤ) (seen : List ℕ) (w : Item) (ws : List Item) (g : Gathered) → hasKey (w .key) seen ≡ false
     → gather d cells seen (w ∷ ws) g ≡ gather d cells (w .key ∷ seen) ws (offerOne d cells w g)
 unfolding gather firsts offerAll offerOne
 gather-new d cells seen w ws g h = rw h (gathered-path refl (omega arith))
 
-whos-left : (src : List ℕ) (n i : ℕ) → i < n → whosFrom src (n - i) i ≡ whoOf src i ∷ whosFrom src (n - (i + 1)) (i + 1)
-unfolding whosFrom
-whos-left src n i h = let s : n - i ≡ suc (n - (i + 1)) = omega arith in rw s (ap (λ (z : ℕ). whoOf src i ∷ whosFrom src (n - (i + 1)) z) (sym (add-one i)))
+items-left : (src : List ℕ) (n i : ℕ) → i < n → itemsFrom src (n - i) i ≡ itemOf src i ∷ itemsFrom src (n - (i + 1)) (i + 1)
+unfolding itemsFrom
+items-left src n i h = let s : n - i ≡ suc (n - (i + 1)) = omega arith in rw s (ap (λ (z : ℕ). itemOf src i ∷ itemsFrom src (n - (i + 1)) z) (sym (add-one i)))
 
-one-used : (d : Dims) (cells : List ℤ) (w : Who) (g : Gathered) → g .table .len ≤ d .size → offerOne d cells w g .table .len ≤ d .size
+one-used : (d : Dims) (cells : List ℤ) (w : Item) (g : Gathered) → g .table .len ≤ d .size → offerOne d cells w g .table .len ≤ d .size
 unfolding offerOne
 one-used d cells w g h = offer-few (d .size) (g .table) (candOf w (countOf d w cells)) h
 
-one-keys : (d : Dims) (cells : List ℤ) (w : Who) (g : Gathered) → offerOne d cells w g .keys ≡ g .keys + 1
+one-keys : (d : Dims) (cells : List ℤ) (w : Item) (g : Gathered) → offerOne d cells w g .keys ≡ g .keys + 1
 unfolding offerOne
 one-keys d cells w g = refl
 
@@ -92,11 +92,11 @@ pub record GatherInv (d : Dims) (cells : List ℤ) (bef : List ℕ) (m : ℕ) (s
   pub few : g .keys ≤ g₀ .keys + i
   pub seen : List ℕ
   pub same : Seen bef m src i seen
-  pub goes : gather d cells seen (whosFrom src (n - i) i) (gatheredOf es ns g) ≡ gather d cells (keysOf bef m) (whosOf src n) (gatheredOf es₀ ns₀ g₀)
+  pub goes : gather d cells seen (itemsFrom src (n - i) i) (gatheredOf es ns g) ≡ gather d cells (keysOf bef m) (itemsOf src n) (gatheredOf es₀ ns₀ g₀)
 
 pub gather-holds : (d : Dims) (cells : List ℤ) (bef : List ℕ) (m : ℕ) (src : List ℕ) (n : ℕ) (es₀ : List ℕ) (ns₀ : List ℤ) (g₀ : Merged) → g₀ .len ≤ d .size → GatherInv d cells bef m src n es₀ ns₀ g₀ es₀ ns₀ g₀ 0
 gather-holds d cells bef m src n es₀ ns₀ g₀ h =
-    record { words = refl; counts = refl; low = omega arith; used = h; few = omega arith; seen = keysOf bef m; same = seen-none bef m src; goes = ap (λ (z : ℕ). gather d cells (keysOf bef m) (whosFrom src z 0) (gatheredOf es₀ ns₀ g₀)) e }
+    record { words = refl; counts = refl; low = omega arith; used = h; few = omega arith; seen = keysOf bef m; same = seen-none bef m src; goes = ap (λ (z : ℕ). gather d cells (keysOf bef m) (itemsFrom src z 0) (gatheredOf es₀ ns₀ g₀)) e }
   where
     e : n - 0 ≡ n
     e = omega arith
@@ -114,8 +114,8 @@ gather-again d cells bef m src n es₀ ns₀ g₀ es es′ ns ns′ g g′ i v h
     G : Gathered
     G = gatheredOf es ns g
 
-    old : gather d cells (v .seen) (whoOf src i ∷ whosFrom src (n - (i + 1)) (i + 1)) G ≡ gather d cells (keysOf bef m) (whosOf src n) (gatheredOf es₀ ns₀ g₀)
-    old = rw (whos-left src n i h) at (v .goes)
+    old : gather d cells (v .seen) (itemOf src i ∷ itemsFrom src (n - (i + 1)) (i + 1)) G ≡ gather d cells (keysOf bef m) (itemsOf src n) (gatheredOf es₀ ns₀ g₀)
+    old = rw (items-left src n i h) at (v .goes)
 
     known : hasKey k (v .seen) ≡ true → gatheredOf es′ ns′ g′ ≡ G → GatherInv d cells bef m src n es₀ ns₀ g₀ es′ ns′ g′ (i + 1)
     known p q =
@@ -127,20 +127,20 @@ gather-again d cells bef m src n es₀ ns₀ g₀ es es′ ns ns′ g g′ i v h
           few = omega (arith, v .few, ap (λ (x : Gathered). x .keys) q);
           seen = v .seen;
           same = seen-known bef m src i (v .seen) (v .same) p;
-          goes = rw q (sym (gather-known d cells (v .seen) (whoOf src i) (whosFrom src (n - (i + 1)) (i + 1)) G p) ∙ old);
+          goes = rw q (sym (gather-known d cells (v .seen) (itemOf src i) (itemsFrom src (n - (i + 1)) (i + 1)) G p) ∙ old);
         }
 
-    new : hasKey k (v .seen) ≡ false → gatheredOf es′ ns′ g′ ≡ offerOne d cells (whoOf src i) G → GatherInv d cells bef m src n es₀ ns₀ g₀ es′ ns′ g′ (i + 1)
+    new : hasKey k (v .seen) ≡ false → gatheredOf es′ ns′ g′ ≡ offerOne d cells (itemOf src i) G → GatherInv d cells bef m src n es₀ ns₀ g₀ es′ ns′ g′ (i + 1)
     new p q =
         record {
           words = lw ∙ v .words;
           counts = lc ∙ v .counts;
           low = omega arith;
-          used = omega (arith, one-used d cells (whoOf src i) G (v .used), ap (λ (x : Gathered). x .table .len) q);
-          few = omega (arith, v .few, ap (λ (x : Gathered). x .keys) q, one-keys d cells (whoOf src i) G);
+          used = omega (arith, one-used d cells (itemOf src i) G (v .used), ap (λ (x : Gathered). x .table .len) q);
+          few = omega (arith, v .few, ap (λ (x : Gathered). x .keys) q, one-keys d cells (itemOf src i) G);
           seen = k ∷ v .seen;
           same = seen-new bef m src i (v .seen) (v .same);
-          goes = ap (gather d cells (k ∷ v .seen) (whosFrom src (n - (i + 1)) (i + 1))) q ∙ sym (gather-new d cells (v .seen) (whoOf src i) (whosFrom src (n - (i + 1)) (i + 1)) G p) ∙ old;
+          goes = ap (gather d cells (k ∷ v .seen) (itemsFrom src (n - (i + 1)) (i + 1))) q ∙ sym (gather-new d cells (v .seen) (itemOf src i) (itemsFrom src (n - (i + 1)) (i + 1)) G p) ∙ old;
         }
 
     go : (a : Bool) → hasKey k (keysOf bef m) ≡ a → (b : Bool) → hasKey k (keysOf src i) ≡ b → GatherInv d cells bef m src n es₀ ns₀ g₀ es′ ns′ g′ (i + 1)
@@ -149,15 +149,15 @@ gather-again d cells bef m src n es₀ ns₀ g₀ es es′ ns ns′ g g′ i v h
     go false p false q = new (v .same k ∙ rw (p, q)) (rw (p, q) at e)
 
 pub gather-done : (d : Dims) (cells : List ℤ) (bef : List ℕ) (m : ℕ) (src : List ℕ) (n : ℕ) (es₀ : List ℕ) (ns₀ : List ℤ) (g₀ : Merged) (es : List ℕ) (ns : List ℤ) (g : Merged) (i : ℕ)
-    → GatherInv d cells bef m src n es₀ ns₀ g₀ es ns g i → n ≤ i → gatheredOf es ns g ≡ gather d cells (keysOf bef m) (whosOf src n) (gatheredOf es₀ ns₀ g₀)
-unfolding gather firsts offerAll whosFrom
+    → GatherInv d cells bef m src n es₀ ns₀ g₀ es ns g i → n ≤ i → gatheredOf es ns g ≡ gather d cells (keysOf bef m) (itemsOf src n) (gatheredOf es₀ ns₀ g₀)
+unfolding gather firsts offerAll itemsFrom
 gather-done d cells bef m src n es₀ ns₀ g₀ es ns g i v h =
     let s : n - i ≡ 0 = omega arith in
     gathered-path refl (omega arith) ∙ rw s at (v .goes)
 
 -- ---- two in turn
 
-offers-append : (d : Dims) (cells : List ℤ) (xs ys : List Who) (t : Table) → offerAll d cells (xs ++ ys) t ≡ offerAll d cells ys (offerAll d cells xs t)
+offers-append : (d : Dims) (cells : List ℤ) (xs ys : List Item) (t : Table) → offerAll d cells (xs ++ ys) t ≡ offerAll d cells ys (offerAll d cells xs t)
 unfolding offerAll
 offers-append d cells [] ys t = refl
 offers-append d cells (a ∷ xs) ys t = offers-append d cells xs ys (offerTo d a cells t .table)
@@ -171,28 +171,28 @@ zero-cands (suc n) = ap (λ (z : ℕ). candsOf (replicate z 0) (pos 0 ∷ replic
     four = omega arith
 
 keys-none : (es : List ℕ) → keysOf es 0 ≡ []
-unfolding whosFrom
+unfolding itemsFrom
 keys-none es = refl
 
 pub merge-two : (d : Dims) (cells : List ℤ) (es cp ot : List ℕ) (len len₂ : ℕ) (es₁ es₂ es₃ : List ℕ) (ns₁ ns₂ ns₃ : List ℤ) (g₂ g₃ : Merged)
     → Front (4 * len) es cp → es₁ ≡ replicate (4 * d .size) 0 → ns₁ ≡ replicate (d .size) (pos 0)
-    → gatheredOf es₂ ns₂ g₂ ≡ gather d cells (keysOf cp 0) (whosOf cp len) (gatheredOf es₁ ns₁ (record { len = 0; keys = 0 }))
-    → gatheredOf es₃ ns₃ g₃ ≡ gather d cells (keysOf cp len) (whosOf ot len₂) (gatheredOf es₂ ns₂ g₂)
-    → gatheredOf es₃ ns₃ g₃ ≡ mergeTable d cells (whosOf es len ++ whosOf ot len₂)
+    → gatheredOf es₂ ns₂ g₂ ≡ gather d cells (keysOf cp 0) (itemsOf cp len) (gatheredOf es₁ ns₁ (record { len = 0; keys = 0 }))
+    → gatheredOf es₃ ns₃ g₃ ≡ gather d cells (keysOf cp len) (itemsOf ot len₂) (gatheredOf es₂ ns₂ g₂)
+    → gatheredOf es₃ ns₃ g₃ ≡ mergeTable d cells (itemsOf es len ++ itemsOf ot len₂)
 unfolding mergeTable gather noTable
 merge-two d cells es cp ot len len₂ es₁ es₂ es₃ ns₁ ns₂ ns₃ g₂ g₃ f e n p q = gathered-path table keys
   where
-    same : whosOf cp len ≡ whosOf es len
-    same = front-whos es cp (4 * len) len 0 f (omega arith)
+    same : itemsOf cp len ≡ itemsOf es len
+    same = front-items es cp (4 * len) len 0 f (omega arith)
 
     empty : candsOf es₁ ns₁ ≡ replicate (d .size) noCand
     empty = ap₂ candsOf e n ∙ zero-cands (d .size)
 
-    fst : List Who
-    fst = firsts [] (whosOf es len)
+    fst : List Item
+    fst = firsts [] (itemsOf es len)
 
-    snd : List Who
-    snd = firsts (keysOf es len) (whosOf ot len₂)
+    snd : List Item
+    snd = firsts (keysOf es len) (itemsOf ot len₂)
 
     p′ : gatheredOf es₂ ns₂ g₂ ≡ record { table = offerAll d cells fst (record { cands = replicate (d .size) noCand; len = 0 }); keys = 0 + length fst }
     p′ = rw (keys-none cp, same, empty) at p
@@ -200,11 +200,11 @@ merge-two d cells es cp ot len len₂ es₁ es₂ es₃ ns₁ ns₂ ns₃ g₂ g
     q′ : gatheredOf es₃ ns₃ g₃ ≡ record { table = offerAll d cells snd (tableOf es₂ ns₂ (g₂ .len)); keys = g₂ .keys + length snd }
     q′ = rw same at q
 
-    table : tableOf es₃ ns₃ (g₃ .len) ≡ offerAll d cells (firsts [] (whosOf es len ++ whosOf ot len₂)) (record { cands = replicate (d .size) noCand; len = 0 })
+    table : tableOf es₃ ns₃ (g₃ .len) ≡ offerAll d cells (firsts [] (itemsOf es len ++ itemsOf ot len₂)) (record { cands = replicate (d .size) noCand; len = 0 })
     table =
         ap (λ (x : Gathered). x .table) q′ ∙ ap (offerAll d cells snd) (ap (λ (x : Gathered). x .table) p′)
         ∙ sym (offers-append d cells fst snd (record { cands = replicate (d .size) noCand; len = 0 }))
-        ∙ ap (λ (z : List Who). offerAll d cells z (record { cands = replicate (d .size) noCand; len = 0 })) (sym (firsts-append (whosOf es len) (whosOf ot len₂)))
+        ∙ ap (λ (z : List Item). offerAll d cells z (record { cands = replicate (d .size) noCand; len = 0 })) (sym (firsts-append (itemsOf es len) (itemsOf ot len₂)))
 
-    keys : g₃ .keys ≡ length (firsts [] (whosOf es len ++ whosOf ot len₂))
-    keys = rw (firsts-append (whosOf es len) (whosOf ot len₂), length-append fst snd) (omega (arith, ap (λ (x : Gathered). x .keys) p′, ap (λ (x : Gathered). x .keys) q′))
+    keys : g₃ .keys ≡ length (firsts [] (itemsOf es len ++ itemsOf ot len₂))
+    keys = rw (firsts-append (itemsOf es len) (itemsOf ot len₂), length-append fst snd) (omega (arith, ap (λ (x : Gathered). x .keys) p′, ap (λ (x : Gathered). x .keys) q′))

@@ -8,23 +8,24 @@ use lib.ListN.{length, take, length-replicate}
 use lib.IntN.{ℤ}
 use lib.Dec.{leb}
 use Rattle.words.specs.Num.{allIn}
-use Rattle.countsketch_l2_norm.specs.Sketch.{Sketch, sketchOf}
+use Rattle.countsketch_l2_norm.specs.Sketch.{Sketch}
+use Rattle.countsketch_l2_norm.specs.inner.Needs.{sketchOf}
 use Rattle.countsketch_l2_norm.specs.Merge.{sums, mergeSketch}
 use Rattle.countsketch_l2_norm.proofs.Merges.{length-sums, length-rowNorms}
-use Rattle.heap_moves.specs.declared.Who.{Who}
+use Rattle.heap_moves.specs.declared.Item.{Item}
 use Rattle.heap_moves.specs.Cands.{noCand}
 use Rattle.heap_moves.proofs.Rounds.{counts-cands}
 use Rattle.heap.specs.Offer.{Table}
-use Rattle.heap.specs.Slices.{tableOf}
+use Rattle.heap.specs.inner.Slices.{tableOf}
 use Rattle.heap.proofs.Sounds.{offer-long}
 use Rattle.layer.specs.declared.Dims.{Dims}
 use Rattle.layer.specs.declared.Merged.{Merged}
-use Rattle.layer.specs.Layer.{Layer, layerOf, offerTo, noTable}
-use Rattle.layer.specs.Merge.{whos, bothWhos, offerAll, mergeLayer, mergeReads, mergeFits}
-use Rattle.layer.specs.Gather.{gatheredOf, mergeTable, whosOf}
-use Rattle.layer.specs.Needs.{Fits}
+use Rattle.layer.specs.Layer.{Layer, offerTo, noTable}
+use Rattle.layer.specs.inner.Needs.{layerOf, Fits}
+use Rattle.layer.specs.Merge.{items, bothItems, offerAll, mergeLayer, mergeReads, mergeFits}
+use Rattle.layer.specs.inner.Gather.{gatheredOf, mergeTable, itemsOf}
 use Rattle.layer.proofs.Steps.{offer-few}
-use Rattle.layer.proofs.Firsts.{whos-table}
+use Rattle.layer.proofs.Firsts.{items-table}
 
 -- ---- the tests
 
@@ -43,28 +44,28 @@ merge-fits-are d xs ws es ns len flag xs₂ ws₂ es₂ ns₂ len₂ flag₂ = r
 
 pub merge-is : (d : Dims) (xs : List ℤ) (ws es : List ℕ) (ns : List ℤ) (len : ℕ) (xs₂ : List ℤ) (es₂ : List ℕ) (len₂ : ℕ) (xs′ : List ℤ) (ws′ es′ : List ℕ) (ns′ : List ℤ) (r : Merged)
     → sketchOf xs′ ws′ (d .rows) ≡ mergeSketch (d .rows) (d .cols) (sketchOf xs ws (d .rows)) (sketchOf xs₂ [] (d .rows))
-    → gatheredOf es′ ns′ r ≡ mergeTable d xs′ (whosOf es len ++ whosOf es₂ len₂) → len ≤ length ns
+    → gatheredOf es′ ns′ r ≡ mergeTable d xs′ (itemsOf es len ++ itemsOf es₂ len₂) → len ≤ length ns
     → (ws₂ : List ℕ) (ns₂ : List ℤ) (flag flag₂ : Bool) → len₂ ≤ length ns₂
     → layerOf d xs′ ws′ es′ ns′ (r .len) (flag && flag₂ && leb (r .keys) (d .size)) ≡ mergeLayer d (layerOf d xs ws es ns len flag) (layerOf d xs₂ ws₂ es₂ ns₂ len₂ flag₂)
 unfolding mergeLayer mergeTable
 merge-is d xs ws es ns len xs₂ es₂ len₂ xs′ ws′ es′ ns′ r sketch table l ws₂ ns₂ flag flag₂ l₂ =
     let cells : xs′ ≡ sums xs xs₂ = ap (λ (s : Sketch). s .cells) sketch in
-    let who : whosOf es len ++ whosOf es₂ len₂ ≡ whos (tableOf es ns len) ++ whos (tableOf es₂ ns₂ len₂) = ap₂ (λ (a b : List Who). a ++ b) (sym (whos-table es ns len l)) (sym (whos-table es₂ ns₂ len₂ l₂)) in
-    let g : gatheredOf es′ ns′ r ≡ mergeTable d (sums xs xs₂) (whos (tableOf es ns len) ++ whos (tableOf es₂ ns₂ len₂)) = table ∙ ap₂ (mergeTable d) cells who in
+    let item : itemsOf es len ++ itemsOf es₂ len₂ ≡ items (tableOf es ns len) ++ items (tableOf es₂ ns₂ len₂) = ap₂ (λ (a b : List Item). a ++ b) (sym (items-table es ns len l)) (sym (items-table es₂ ns₂ len₂ l₂)) in
+    let g : gatheredOf es′ ns′ r ≡ mergeTable d (sums xs xs₂) (items (tableOf es ns len) ++ items (tableOf es₂ ns₂ len₂)) = table ∙ ap₂ (mergeTable d) cells item in
     λ i. record { sketch = sketch i; table = g i .table; flag = flag && flag₂ && leb (g i .keys) (d .size) }
 
 -- ---- no more candidates than seats; a layer keeps its lengths
 
-offers-few : (d : Dims) (cells : List ℤ) (ws : List Who) (t : Table) → t .len ≤ d .size → offerAll d cells ws t .len ≤ d .size
+offers-few : (d : Dims) (cells : List ℤ) (ws : List Item) (t : Table) → t .len ≤ d .size → offerAll d cells ws t .len ≤ d .size
 unfolding offerAll
 offers-few d cells [] t h = h
 offers-few d cells (w ∷ ws) t h = offers-few d cells ws (offerTo d w cells t .table) (offer-few (d .size) t _ h)
 
 pub merge-few : (d : Dims) (a b : Layer) → mergeLayer d a b .table .len ≤ d .size
 unfolding mergeLayer
-merge-few d a b = offers-few d (sums (a .sketch .cells) (b .sketch .cells)) (bothWhos (a .table) (b .table)) (noTable (d .size)) (omega arith)
+merge-few d a b = offers-few d (sums (a .sketch .cells) (b .sketch .cells)) (bothItems (a .table) (b .table)) (noTable (d .size)) (omega arith)
 
-offers-long : (d : Dims) (cells : List ℤ) (ws : List Who) (t : Table) → length (offerAll d cells ws t .cands) ≡ length (t .cands)
+offers-long : (d : Dims) (cells : List ℤ) (ws : List Item) (t : Table) → length (offerAll d cells ws t .cands) ≡ length (t .cands)
 unfolding offerAll
 offers-long d cells [] t = refl
 offers-long d cells (w ∷ ws) t = offers-long d cells ws (offerTo d w cells t .table) ∙ offer-long (d .size) t _
@@ -75,5 +76,5 @@ merge-lengths d a b f g =
     record {
       cells = length-sums (a .sketch .cells) (b .sketch .cells) (f .cells ∙ sym (g .cells)) ∙ f .cells;
       norms = length-rowNorms (d .cols) (sums (a .sketch .cells) (b .sketch .cells)) (d .rows) 0;
-      cands = offers-long d (sums (a .sketch .cells) (b .sketch .cells)) (bothWhos (a .table) (b .table)) (noTable (d .size)) ∙ length-replicate (d .size) noCand;
+      cands = offers-long d (sums (a .sketch .cells) (b .sketch .cells)) (bothItems (a .table) (b .table)) (noTable (d .size)) ∙ length-replicate (d .size) noCand;
     }

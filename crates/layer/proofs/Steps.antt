@@ -5,82 +5,83 @@ use mathlib.Core.List.{List}
 use Prim.Native.Nat.{ℕ, _+_, _*_, _≤_}
 use native.Mathlib.Omega.{arith}
 use lib.IntN.{ℤ}
-use Rattle.countsketch_l2_norm.specs.Sketch.{Sketch, sketchOf, addCell, addRows}
+use Rattle.countsketch_l2_norm.specs.Sketch.{Sketch, addCell, addRows}
+use Rattle.countsketch_l2_norm.specs.inner.Needs.{sketchOf}
 use Rattle.countsketch_l2_norm.specs.Estimate.{estimateOf}
 use Rattle.countsketch_l2_norm.proofs.After.{length-rows, length-rows-norms}
-use Rattle.heap_moves.specs.declared.Who.{Who}
+use Rattle.heap_moves.specs.declared.Item.{Item}
 use Rattle.heap_moves.specs.Flat.{candOf, entriesOf, countsOf}
 use Rattle.heap.specs.declared.Answer.{Answer}
 use Rattle.heap_moves.specs.Cands.{Cand}
-use Rattle.heap.specs.Offer.{Table, Offered, offer, rescore, seat, replaceRoot, keptBy, lenBy, kept}
+use Rattle.heap.specs.Offer.{Table, Offered, offer, rescore, seat, replaceRoot, keptBy, kept}
+use Rattle.heap.specs.inner.Slices.{lenBy, tableOf, offered}
 use Rattle.heap.proofs.Cases.{offer-cases}
-use Rattle.heap.specs.Slices.{tableOf, offered}
 use Rattle.heap.proofs.Sounds.{offer-len, offer-table, offer-long}
 use Rattle.layer.specs.declared.Dims.{Dims}
-use Rattle.layer.specs.Layer.{Layer, Item, layerOf, item, hashBy, countOf, offerTo, addSketch, addLayer, addAnswer}
-use Rattle.layer.specs.Needs.{Fits}
-use Rattle.layer.specs.Delta.{Delta, delta, deltaLayer, deltaAnswer}
+use Rattle.layer.specs.Layer.{Layer, LayerUpdate, hashBy, countOf, offerTo, addSketch, addLayer, addAnswer, layerUpdate}
+use Rattle.layer.specs.inner.Needs.{layerOf, Fits, delta}
+use Rattle.layer.specs.Delta.{Delta, deltaLayer, deltaAnswer}
 
 -- a sketch, and the offer of a key with its count from the new counters
-module _ (d : Dims) (who : Who) (s : Sketch) (es : List ℕ) (ns : List ℤ) (len : ℕ) (xs′ : List ℤ) (ws′ es′ : List ℕ) (ns′ : List ℤ) (a : Answer) (v : ℤ)
-    (sketch : sketchOf xs′ ws′ (d .rows) ≡ s) (count : v ≡ estimateOf (d .rows) (d .cols) (hashBy who) xs′)
-    (words : es′ ≡ entriesOf (offered es ns (d .size) len who v .table .cands)) (counts : ns′ ≡ countsOf (offered es ns (d .size) len who v .table .cands))
-    (said : a ≡ offered es ns (d .size) len who v .answer) where
+module _ (d : Dims) (item : Item) (s : Sketch) (es : List ℕ) (ns : List ℤ) (len : ℕ) (xs′ : List ℤ) (ws′ es′ : List ℕ) (ns′ : List ℤ) (a : Answer) (v : ℤ)
+    (sketch : sketchOf xs′ ws′ (d .rows) ≡ s) (count : v ≡ estimateOf (d .rows) (d .cols) (hashBy item) xs′)
+    (words : es′ ≡ entriesOf (offered es ns (d .size) len item v .table .cands)) (counts : ns′ ≡ countsOf (offered es ns (d .size) len item v .table .cands))
+    (said : a ≡ offered es ns (d .size) len item v .answer) where
   -- the offer is the definition's
-  same-offer : offered es ns (d .size) len who v ≡ offerTo d who (s .cells) (tableOf es ns len)
-  same-offer = ap (λ (n : ℤ). offer (d .size) (tableOf es ns len) (candOf who n)) (count ∙ ap (λ (t : Sketch). countOf d who (t .cells)) sketch)
+  same-offer : offered es ns (d .size) len item v ≡ offerTo d item (s .cells) (tableOf es ns len)
+  same-offer = ap (λ (n : ℤ). offer (d .size) (tableOf es ns len) (candOf item n)) (count ∙ ap (λ (t : Sketch). countOf d item (t .cells)) sketch)
 
-  pub answered : a ≡ offerTo d who (s .cells) (tableOf es ns len) .answer
+  pub answered : a ≡ offerTo d item (s .cells) (tableOf es ns len) .answer
   answered = said ∙ ap (λ (o : Offered). o .answer) same-offer
 
   pub stepped : (flag every : Bool) → layerOf d xs′ ws′ es′ ns′ (lenBy a len) (flag && (keptBy a && every))
-      ≡ record { sketch = s; table = offerTo d who (s .cells) (tableOf es ns len) .table; flag = flag && (kept (offerTo d who (s .cells) (tableOf es ns len)) && every) }
+      ≡ record { sketch = s; table = offerTo d item (s .cells) (tableOf es ns len) .table; flag = flag && (kept (offerTo d item (s .cells) (tableOf es ns len)) && every) }
   stepped flag every =
-      let t : tableOf es′ ns′ (lenBy a len) ≡ offerTo d who (s .cells) (tableOf es ns len) .table =
-      offer-table es ns (d .size) len who v es′ ns′ a words counts said ∙ ap (λ (o : Offered). o .table) same-offer in
+      let t : tableOf es′ ns′ (lenBy a len) ≡ offerTo d item (s .cells) (tableOf es ns len) .table =
+      offer-table es ns (d .size) len item v es′ ns′ a words counts said ∙ ap (λ (o : Offered). o .table) same-offer in
       λ i. record { sketch = sketch i; table = t i; flag = flag && (keptBy (answered i) && every) }
 
 and-true : (a : Bool) → a && true ≡ a
 and-true true = refl
 and-true false = refl
 
-pub add-is : (d : Dims) (who : Who) (w : ℕ) (xs : List ℤ) (ws es : List ℕ) (ns : List ℤ) (len : ℕ) (xs′ : List ℤ) (ws′ es′ : List ℕ) (ns′ : List ℤ) (a : Answer) (v : ℤ)
-    → sketchOf xs′ ws′ (d .rows) ≡ addRows (d .cols) (hashBy who) w (d .rows) 0 (sketchOf xs ws (d .rows)) → v ≡ estimateOf (d .rows) (d .cols) (hashBy who) xs′
-    → es′ ≡ entriesOf (offered es ns (d .size) len who v .table .cands) → ns′ ≡ countsOf (offered es ns (d .size) len who v .table .cands)
-    → a ≡ offered es ns (d .size) len who v .answer
-    → ((flag : Bool) → layerOf d xs′ ws′ es′ ns′ (lenBy a len) (flag && keptBy a) ≡ addLayer d (item who w) (layerOf d xs ws es ns len flag))
-    × ((flag : Bool) → a ≡ addAnswer d (item who w) (layerOf d xs ws es ns len flag))
+pub add-is : (d : Dims) (item : Item) (w : ℕ) (xs : List ℤ) (ws es : List ℕ) (ns : List ℤ) (len : ℕ) (xs′ : List ℤ) (ws′ es′ : List ℕ) (ns′ : List ℤ) (a : Answer) (v : ℤ)
+    → sketchOf xs′ ws′ (d .rows) ≡ addRows (d .cols) (hashBy item) w (d .rows) 0 (sketchOf xs ws (d .rows)) → v ≡ estimateOf (d .rows) (d .cols) (hashBy item) xs′
+    → es′ ≡ entriesOf (offered es ns (d .size) len item v .table .cands) → ns′ ≡ countsOf (offered es ns (d .size) len item v .table .cands)
+    → a ≡ offered es ns (d .size) len item v .answer
+    → ((flag : Bool) → layerOf d xs′ ws′ es′ ns′ (lenBy a len) (flag && keptBy a) ≡ addLayer d (layerUpdate item w) (layerOf d xs ws es ns len flag))
+    × ((flag : Bool) → a ≡ addAnswer d (layerUpdate item w) (layerOf d xs ws es ns len flag))
 unfolding addLayer addAnswer addSketch
-add-is d who w xs ws es ns len xs′ ws′ es′ ns′ a v e f g h k =
-    let s = addRows (d .cols) (hashBy who) w (d .rows) 0 (sketchOf xs ws (d .rows)) in
-    let o = offerTo d who (s .cells) (tableOf es ns len) in (
+add-is d item w xs ws es ns len xs′ ws′ es′ ns′ a v e f g h k =
+    let s = addRows (d .cols) (hashBy item) w (d .rows) 0 (sketchOf xs ws (d .rows)) in
+    let o = offerTo d item (s .cells) (tableOf es ns len) in (
       λ flag.
           ap (λ (b : Bool). layerOf d xs′ ws′ es′ ns′ (lenBy a len) (flag && b)) (sym (and-true (keptBy a)))
-          ∙ stepped d who s es ns len xs′ ws′ es′ ns′ a v e f g h k flag true
+          ∙ stepped d item s es ns len xs′ ws′ es′ ns′ a v e f g h k flag true
           ∙ (λ i. record { sketch = s; table = o .table; flag = flag && and-true (kept o) i }),
-      λ flag. answered d who s es ns len xs′ ws′ es′ ns′ a v e f g h k,
+      λ flag. answered d item s es ns len xs′ ws′ es′ ns′ a v e f g h k,
     )
 
-pub delta-is : (d : Dims) (row col : ℕ) (n : ℤ) (who : Who) (xs : List ℤ) (ws es : List ℕ) (ns : List ℤ) (len : ℕ) (xs′ : List ℤ) (ws′ es′ : List ℕ) (ns′ : List ℤ) (a : Answer) (v : ℤ)
-    → sketchOf xs′ ws′ (d .rows) ≡ addCell (row * d .cols + col) row n (sketchOf xs ws (d .rows)) → v ≡ estimateOf (d .rows) (d .cols) (hashBy who) xs′
-    → es′ ≡ entriesOf (offered es ns (d .size) len who v .table .cands) → ns′ ≡ countsOf (offered es ns (d .size) len who v .table .cands)
-    → a ≡ offered es ns (d .size) len who v .answer
-    → ((flag every : Bool) → layerOf d xs′ ws′ es′ ns′ (lenBy a len) (flag && (keptBy a && every)) ≡ deltaLayer d (delta row col n who every) (layerOf d xs ws es ns len flag))
-    × ((flag every : Bool) → a ≡ deltaAnswer d (delta row col n who every) (layerOf d xs ws es ns len flag))
+pub delta-is : (d : Dims) (row col : ℕ) (n : ℤ) (item : Item) (xs : List ℤ) (ws es : List ℕ) (ns : List ℤ) (len : ℕ) (xs′ : List ℤ) (ws′ es′ : List ℕ) (ns′ : List ℤ) (a : Answer) (v : ℤ)
+    → sketchOf xs′ ws′ (d .rows) ≡ addCell (row * d .cols + col) row n (sketchOf xs ws (d .rows)) → v ≡ estimateOf (d .rows) (d .cols) (hashBy item) xs′
+    → es′ ≡ entriesOf (offered es ns (d .size) len item v .table .cands) → ns′ ≡ countsOf (offered es ns (d .size) len item v .table .cands)
+    → a ≡ offered es ns (d .size) len item v .answer
+    → ((flag every : Bool) → layerOf d xs′ ws′ es′ ns′ (lenBy a len) (flag && (keptBy a && every)) ≡ deltaLayer d (delta row col n item every) (layerOf d xs ws es ns len flag))
+    × ((flag every : Bool) → a ≡ deltaAnswer d (delta row col n item every) (layerOf d xs ws es ns len flag))
 unfolding deltaLayer deltaAnswer
-delta-is d row col n who xs ws es ns len xs′ ws′ es′ ns′ a v e f g h k =
+delta-is d row col n item xs ws es ns len xs′ ws′ es′ ns′ a v e f g h k =
     let s = addCell (row * d .cols + col) row n (sketchOf xs ws (d .rows)) in (
-      λ flag every. stepped d who s es ns len xs′ ws′ es′ ns′ a v e f g h k flag every,
-      λ flag every. answered d who s es ns len xs′ ws′ es′ ns′ a v e f g h k,
+      λ flag every. stepped d item s es ns len xs′ ws′ es′ ns′ a v e f g h k flag every,
+      λ flag every. answered d item s es ns len xs′ ws′ es′ ns′ a v e f g h k,
     )
 
 -- ---- the answer says which length and which flag a layer has then
 
-pub add-len : (d : Dims) (u : Item) (l : Layer) → addLayer d u l .table .len ≡ lenBy (addAnswer d u l) (l .table .len)
+pub add-len : (d : Dims) (u : LayerUpdate) (l : Layer) → addLayer d u l .table .len ≡ lenBy (addAnswer d u l) (l .table .len)
 unfolding addLayer addAnswer
 add-len d u l = offer-len (d .size) (l .table) _
 
-pub add-flag : (d : Dims) (u : Item) (l : Layer) → addLayer d u l .flag ≡ (l .flag && keptBy (addAnswer d u l))
+pub add-flag : (d : Dims) (u : LayerUpdate) (l : Layer) → addLayer d u l .flag ≡ (l .flag && keptBy (addAnswer d u l))
 unfolding addLayer addAnswer
 add-flag d u l = refl
 
@@ -98,7 +99,7 @@ pub offer-few : (size : ℕ) (t : Table) (c : Cand) → t .len ≤ size → offe
 unfolding rescore seat replaceRoot
 offer-few size t c h = offer-cases size t c (λ (o : Offered). o .table .len ≤ size) (λ p. h) (λ p q. omega arith) (λ p q e. h) (λ p q e. h)
 
-pub add-few : (d : Dims) (u : Item) (l : Layer) → l .table .len ≤ d .size → addLayer d u l .table .len ≤ d .size
+pub add-few : (d : Dims) (u : LayerUpdate) (l : Layer) → l .table .len ≤ d .size → addLayer d u l .table .len ≤ d .size
 unfolding addLayer
 add-few d u l h = offer-few (d .size) (l .table) _ h
 
@@ -108,11 +109,11 @@ delta-few d u l h = offer-few (d .size) (l .table) _ h
 
 -- ---- a layer keeps its lengths
 
-pub add-lengths : (d : Dims) (u : Item) (l : Layer) → Fits d l → Fits d (addLayer d u l)
+pub add-lengths : (d : Dims) (u : LayerUpdate) (l : Layer) → Fits d l → Fits d (addLayer d u l)
 unfolding addLayer addSketch
 add-lengths d u l f =
     record {
-      cells = length-rows (d .cols) (hashBy (u .who)) (u .weight) (d .rows) 0 (l .sketch) ∙ f .cells;
-      norms = length-rows-norms (d .cols) (hashBy (u .who)) (u .weight) (d .rows) 0 (l .sketch) ∙ f .norms;
+      cells = length-rows (d .cols) (hashBy (u .item)) (u .weight) (d .rows) 0 (l .sketch) ∙ f .cells;
+      norms = length-rows-norms (d .cols) (hashBy (u .item)) (u .weight) (d .rows) 0 (l .sketch) ∙ f .norms;
       cands = offer-long (d .size) (l .table) _ ∙ f .cands;
     }

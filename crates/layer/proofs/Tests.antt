@@ -9,25 +9,27 @@ use lib.Seq.{getD-set-same, getD-set-other}
 use lib.IntN.{ℤ, pos}
 use Rattle.words.specs.Num.{allIn, inRange}
 use Rattle.words.proofs.Bools.{and-left, and-right, both}
-use Rattle.countsketch_l2_norm.specs.Sketch.{sketchOf, cellOf, cellAt, cellRead, rowsRead, rowsFit, rowsReady}
+use Rattle.countsketch_l2_norm.specs.Sketch.{cellOf, cellAt, cellRead, rowsRead, rowsFit}
+use Rattle.countsketch_l2_norm.specs.inner.Needs.{sketchOf, rowsReady}
 use Rattle.countsketch_l2_norm.specs.Estimate.{cellsInRange}
-use Rattle.heap_moves.specs.declared.Who.{Who}
+use Rattle.heap_moves.specs.declared.Item.{Item}
 use Rattle.heap_moves.proofs.Rounds.{counts-cands}
 use Rattle.layer.specs.declared.Dims.{Dims}
-use Rattle.layer.specs.Layer.{layerOf, item, hashBy, addReads, addFits}
-use Rattle.layer.specs.Delta.{delta, deltaReads}
+use Rattle.layer.specs.Layer.{hashBy, addReads, addFits, layerUpdate}
+use Rattle.layer.specs.inner.Needs.{layerOf, delta}
+use Rattle.layer.specs.Delta.{deltaReads}
 
 -- ---- an update
 
-pub reads-are : (d : Dims) (who : Who) (w : ℕ) (xs : List ℤ) (ws es : List ℕ) (ns : List ℤ) (len : ℕ) (flag : Bool)
-    → addReads d (item who w) (layerOf d xs ws es ns len flag) ≡ rowsRead (d .cols) (hashBy who) (sketchOf xs ws (d .rows)) (d .rows) 0 && allIn (take len ns)
+pub reads-are : (d : Dims) (item : Item) (w : ℕ) (xs : List ℤ) (ws es : List ℕ) (ns : List ℤ) (len : ℕ) (flag : Bool)
+    → addReads d (layerUpdate item w) (layerOf d xs ws es ns len flag) ≡ rowsRead (d .cols) (hashBy item) (sketchOf xs ws (d .rows)) (d .rows) 0 && allIn (take len ns)
 unfolding addReads
-reads-are d who w xs ws es ns len flag = ap (λ (l : List ℤ). rowsRead (d .cols) (hashBy who) (sketchOf xs ws (d .rows)) (d .rows) 0 && allIn (take len l)) (counts-cands es ns)
+reads-are d item w xs ws es ns len flag = ap (λ (l : List ℤ). rowsRead (d .cols) (hashBy item) (sketchOf xs ws (d .rows)) (d .rows) 0 && allIn (take len l)) (counts-cands es ns)
 
-pub fits-are : (d : Dims) (who : Who) (w : ℕ) (xs : List ℤ) (ws es : List ℕ) (ns : List ℤ) (len : ℕ) (flag : Bool)
-    → addFits d (item who w) (layerOf d xs ws es ns len flag) ≡ rowsFit (d .cols) (hashBy who) w xs (d .rows) 0
+pub fits-are : (d : Dims) (item : Item) (w : ℕ) (xs : List ℤ) (ws es : List ℕ) (ns : List ℤ) (len : ℕ) (flag : Bool)
+    → addFits d (layerUpdate item w) (layerOf d xs ws es ns len flag) ≡ rowsFit (d .cols) (hashBy item) w xs (d .rows) 0
 unfolding addFits
-fits-are d who w xs ws es ns len flag = refl
+fits-are d item w xs ws es ns len flag = refl
 
 -- the order of three tests
 and-turn : (a b c : Bool) → a && b && c ≡ a && c && b
@@ -37,21 +39,21 @@ and-turn true false true = refl
 and-turn true false false = refl
 and-turn false b c = refl
 
-pub ready-are : (d : Dims) (who : Who) (w : ℕ) (xs : List ℤ) (ws es : List ℕ) (ns : List ℤ) (len : ℕ) (flag : Bool)
-    → rowsReady (d .cols) (hashBy who) w (sketchOf xs ws (d .rows)) (d .rows) 0 && allIn (take len ns)
-    ≡ addReads d (item who w) (layerOf d xs ws es ns len flag) && addFits d (item who w) (layerOf d xs ws es ns len flag)
-ready-are d who w xs ws es ns len flag =
-    rw (reads-are d who w xs ws es ns len flag, fits-are d who w xs ws es ns len flag)
-    (and-turn (rowsRead (d .cols) (hashBy who) (sketchOf xs ws (d .rows)) (d .rows) 0) (rowsFit (d .cols) (hashBy who) w xs (d .rows) 0) (allIn (take len ns)))
+pub ready-are : (d : Dims) (item : Item) (w : ℕ) (xs : List ℤ) (ws es : List ℕ) (ns : List ℤ) (len : ℕ) (flag : Bool)
+    → rowsReady (d .cols) (hashBy item) w (sketchOf xs ws (d .rows)) (d .rows) 0 && allIn (take len ns)
+    ≡ addReads d (layerUpdate item w) (layerOf d xs ws es ns len flag) && addFits d (layerUpdate item w) (layerOf d xs ws es ns len flag)
+ready-are d item w xs ws es ns len flag =
+    rw (reads-are d item w xs ws es ns len flag, fits-are d item w xs ws es ns len flag)
+    (and-turn (rowsRead (d .cols) (hashBy item) (sketchOf xs ws (d .rows)) (d .rows) 0) (rowsFit (d .cols) (hashBy item) w xs (d .rows) 0) (allIn (take len ns)))
 
 -- ---- a delta
 
-pub delta-reads-are : (d : Dims) (row col : ℕ) (n : ℤ) (who : Who) (every : Bool) (xs : List ℤ) (ws es : List ℕ) (ns : List ℤ) (len : ℕ) (flag : Bool)
-    → deltaReads d (delta row col n who every) (layerOf d xs ws es ns len flag)
-    ≡ cellRead (d .cols) (row * d .cols + col) row (sketchOf xs ws (d .rows)) && cellsInRange (d .cols) (hashBy who) xs (d .rows) 0 && allIn (take len ns)
+pub delta-reads-are : (d : Dims) (row col : ℕ) (n : ℤ) (item : Item) (every : Bool) (xs : List ℤ) (ws es : List ℕ) (ns : List ℤ) (len : ℕ) (flag : Bool)
+    → deltaReads d (delta row col n item every) (layerOf d xs ws es ns len flag)
+    ≡ cellRead (d .cols) (row * d .cols + col) row (sketchOf xs ws (d .rows)) && cellsInRange (d .cols) (hashBy item) xs (d .rows) 0 && allIn (take len ns)
 unfolding deltaReads
-delta-reads-are d row col n who every xs ws es ns len flag =
-    ap (λ (l : List ℤ). cellRead (d .cols) (row * d .cols + col) row (sketchOf xs ws (d .rows)) && cellsInRange (d .cols) (hashBy who) xs (d .rows) 0 && allIn (take len l)) (counts-cands es ns)
+delta-reads-are d row col n item every xs ws es ns len flag =
+    ap (λ (l : List ℤ). cellRead (d .cols) (row * d .cols + col) row (sketchOf xs ws (d .rows)) && cellsInRange (d .cols) (hashBy item) xs (d .rows) 0 && allIn (take len l)) (counts-cands es ns)
 
 -- the counters that a hash names stay in range where one counter is set to a value in range
 pub cells-set : (cols h : ℕ) (xs : List ℤ) (at : ℕ) (v : ℤ) (k r : ℕ) → at < length xs → inRange v ≡ true → cellsInRange cols h xs k r ≡ true → cellsInRange cols h (set xs at v) k r ≡ true

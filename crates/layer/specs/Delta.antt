@@ -4,22 +4,19 @@ use mathlib.Core.Bool.{Bool, _&&_}
 use lib.IntN.{ℤ}
 use Rattle.countsketch_l2_norm.specs.Sketch.{Sketch, addCell, cellRead, cellFits}
 use Rattle.countsketch_l2_norm.specs.Estimate.{cellsInRange}
-use Rattle.heap_moves.specs.declared.Who.{Who}
+use Rattle.heap_moves.specs.declared.Item.{Item}
 use Rattle.heap.specs.declared.Answer.{Answer}
 use Rattle.heap.specs.Offer.{Offered, kept}
 use Rattle.layer.specs.declared.Dims.{Dims}
 use Rattle.layer.specs.Layer.{Layer, hashBy, offerTo, countsRead}
 
--- the counter that a delta names, what it adds, whose it is, and whether every insert was promoted
+-- the row and column of the counter that a delta names, what it adds, the item that is counted, and whether every insert was promoted
 pub record Delta : Type 0 where
   pub row : ℕ
   pub col : ℕ
   pub count : ℤ
-  pub who : Who
+  pub item : Item
   pub every : Bool
-
-abbrev pub delta : ℕ → ℕ → ℤ → Who → Bool → Delta
-delta row col n who every = record { row = row; col = col; count = n; who = who; every = every }
 
 abbrev pub placeBy : Dims → Delta → ℕ
 placeBy d u = u .row * d .cols + u .col
@@ -30,7 +27,7 @@ deltaSketch d u s = addCell (placeBy d u) (u .row) (u .count) s
 
 -- then the key is offered with its estimate
 abbrev pub deltaOffer : Dims → Delta → Layer → Offered
-deltaOffer d u l = offerTo d (u .who) (deltaSketch d u (l .sketch) .cells) (l .table)
+deltaOffer d u l = offerTo d (u .item) (deltaSketch d u (l .sketch) .cells) (l .table)
 
 -- the flag falls where a key was lost or not every insert was promoted
 unfoldable pub deltaLayer : Dims → Delta → Layer → Layer
@@ -45,7 +42,7 @@ deltaAnswer d u l = deltaOffer d u l .answer
 -- what it reads is in range: its cell and norm, the cells of the key's estimate, and the candidates
 unfoldable pub deltaReads : Dims → Delta → Layer → Bool
 deltaReads d u l =
-    cellRead (d .cols) (placeBy d u) (u .row) (l .sketch) && cellsInRange (d .cols) (hashBy (u .who)) (l .sketch .cells) (d .rows) 0 && countsRead (l .table)
+    cellRead (d .cols) (placeBy d u) (u .row) (l .sketch) && cellsInRange (d .cols) (hashBy (u .item)) (l .sketch .cells) (d .rows) 0 && countsRead (l .table)
 
 -- its counter does not leave the range
 unfoldable pub deltaFits : Dims → Delta → Layer → Bool

@@ -1,5 +1,4 @@
-pub mod Layer
 pub mod Delta
+pub mod Layer
 pub mod Merge
-pub mod Needs
-pub mod Gather
+pub mod inner

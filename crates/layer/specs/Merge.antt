@@ -8,7 +8,7 @@ use lib.Dec.{eqb, leb}
 use Rattle.words.specs.Num.{allIn}
 use Rattle.countsketch_l2_norm.specs.Sketch.{Sketch}
 use Rattle.countsketch_l2_norm.specs.Merge.{sums, mergeSketch}
-use Rattle.heap_moves.specs.declared.Who.{Who}
+use Rattle.heap_moves.specs.declared.Item.{Item}
 use Rattle.heap_moves.specs.Cands.{Cand}
 use Rattle.heap.specs.Offer.{Table}
 use Rattle.layer.specs.declared.Dims.{Dims}
@@ -19,27 +19,27 @@ hasKey k [] = false
 hasKey k (x ∷ xs) = eqb x k || hasKey k xs
 
 -- "first entry order, self's candidates and then the other's, with the first entry's hashes": the first entries of keys not seen before
-unfoldable pub firsts : List ℕ → List Who → List Who
+unfoldable pub firsts : List ℕ → List Item → List Item
 firsts seen [] = []
 firsts seen (w ∷ ws) = cond (hasKey (w .key) seen) (firsts seen ws) (w ∷ firsts (w .key ∷ seen) ws)
 
--- who stands in a table
-unfoldable pub whos : Table → List Who
-whos t = map (λ (c : Cand). c .who) (take (t .len) (t .cands))
+-- the items of a table's candidates
+unfoldable pub items : Table → List Item
+items t = map (λ (c : Cand). c .item) (take (t .len) (t .cands))
 
 -- the distinct keys of two tables
-abbrev pub bothWhos : Table → Table → List Who
-bothWhos a b = firsts [] (whos a ++ whos b)
+abbrev pub bothItems : Table → Table → List Item
+bothItems a b = firsts [] (items a ++ items b)
 
 -- "A merge recounts the candidates from the merged counters": each is offered with its count
-unfoldable pub offerAll : Dims → List ℤ → List Who → Table → Table
+unfoldable pub offerAll : Dims → List ℤ → List Item → Table → Table
 offerAll d cells [] t = t
 offerAll d cells (w ∷ ws) t = offerAll d cells ws (offerTo d w cells t .table)
 
 unfoldable pub mergeLayer : Dims → Layer → Layer → Layer
 mergeLayer d a b =
     let s : Sketch = mergeSketch (d .rows) (d .cols) (a .sketch) (b .sketch) in
-    let ws : List Who = bothWhos (a .table) (b .table) in
+    let ws : List Item = bothItems (a .table) (b .table) in
     record { sketch = s; table = offerAll d (s .cells) ws (noTable (d .size)); flag = a .flag && b .flag && leb (length ws) (d .size) }
 
 -- a merge reads every counter and every candidate of both, and no norm

@@ -1,16 +1,17 @@
 // An update of one layer: the counters take it, then the key is offered with its new count.
 use crate::Dims;
 use heap::Answer;
-use heap_moves::Who;
+use heap_moves::Item;
 ghost use mathlib.Core.Path.{_≡_};
 ghost use mathlib.Core.Bool.{Bool, _&&_};
 ghost use mathlib.Core.List.{List};
 ghost use Prim.Native.Nat.{ℕ, _≤_};
 ghost use lib.ListN.{length};
 ghost use Rattle.words.specs.Num.{top};
-ghost use Rattle.heap.specs.Offer.{keptBy, lenBy};
-ghost use Rattle.layer.specs.Layer.{layerOf, item, addLayer, addAnswer, addReads, addFits};
-ghost use Rattle.layer.specs.Needs.{Housed, AddReady};
+ghost use Rattle.heap.specs.Offer.{keptBy};
+ghost use Rattle.heap.specs.inner.Slices.{lenBy};
+ghost use Rattle.layer.specs.Layer.{addLayer, addAnswer, addReads, addFits, layerUpdate};
+ghost use Rattle.layer.specs.inner.Needs.{layerOf, Housed, AddReady};
 
 // Whether all that an update reads of the layer is in range.
 pub fn add_reads(
@@ -19,12 +20,12 @@ pub fn add_reads(
     counts: &[i64],
     d: Dims,
     len: usize,
-    who: Who,
+    item: Item,
 ) -> bool
     requires { ⌜ Housed d (length (now counters)) (length (now norms)) (length (now counts)) len ⌝ }
-    ensures { λ r. ⌜ ((es : List ℕ) (flag : Bool) (w : ℕ) → r ≡ addReads d (item who w) (layerOf d (now (counters .entry)) (now (norms .entry)) es (now (counts .entry)) len flag)) ⌝ }
+    ensures { λ r. ⌜ ((es : List ℕ) (flag : Bool) (w : ℕ) → r ≡ addReads d (layerUpdate item w) (layerOf d (now (counters .entry)) (now (norms .entry)) es (now (counts .entry)) len flag)) ⌝ }
 {
-    if !countsketch_l2_norm::rows_read(counters, norms, d.rows, d.cols, who.high, who.low) {
+    if !countsketch_l2_norm::rows_read(counters, norms, d.rows, d.cols, item.high, item.low) {
         return false;
     }
     heap::counts_in_range(counts, len)
@@ -37,21 +38,21 @@ pub fn add_ready(
     counts: &[i64],
     d: Dims,
     len: usize,
-    who: Who,
+    item: Item,
     weight: u64,
 ) -> bool
     requires { ⌜ Housed d (length (now counters)) (length (now norms)) (length (now counts)) len ⌝ }
     requires { ⌜ weight ≤ top ⌝ }
-    ensures { λ r. ⌜ ((es : List ℕ) (flag : Bool) → r ≡ addReads d (item who weight) (layerOf d (now (counters .entry)) (now (norms .entry)) es (now (counts .entry)) len flag)
-        && addFits d (item who weight) (layerOf d (now (counters .entry)) (now (norms .entry)) es (now (counts .entry)) len flag)) ⌝ }
+    ensures { λ r. ⌜ ((es : List ℕ) (flag : Bool) → r ≡ addReads d (layerUpdate item weight) (layerOf d (now (counters .entry)) (now (norms .entry)) es (now (counts .entry)) len flag)
+        && addFits d (layerUpdate item weight) (layerOf d (now (counters .entry)) (now (norms .entry)) es (now (counts .entry)) len flag)) ⌝ }
 {
     if !countsketch_l2_norm::rows_ready(
         counters,
         norms,
         d.rows,
         d.cols,
-        who.high,
-        who.low,
+        item.high,
+        item.low,
         weight,
     ) {
         return false;
@@ -59,7 +60,7 @@ pub fn add_ready(
     heap::counts_in_range(counts, len)
 }
 
-// The update: what the candidates answered.
+// Makes the update, and answers what the offer of the key did.
 pub fn add(
     counters: &mut [i64],
     norms: &mut [u64],
@@ -67,18 +68,18 @@ pub fn add(
     counts: &mut [i64],
     d: Dims,
     len: usize,
-    who: Who,
+    item: Item,
     weight: u64,
 ) -> Answer
-    requires { ⌜ AddReady d len who weight (now counters) (now norms) (now entries) (now counts) ⌝ }
+    requires { ⌜ AddReady d len item weight (now counters) (now norms) (now entries) (now counts) ⌝ }
     ensures { λ r. ⌜ ((flag : Bool) → layerOf d (now (counters .exit)) (now (norms .exit)) (now (entries .exit)) (now (counts .exit)) (lenBy r len) (flag && keptBy r)
-        ≡ addLayer d (item who weight) (layerOf d (now (counters .entry)) (now (norms .entry)) (now (entries .entry)) (now (counts .entry)) len flag)) ⌝ }
-    ensures { λ r. ⌜ ((flag : Bool) → r ≡ addAnswer d (item who weight) (layerOf d (now (counters .entry)) (now (norms .entry)) (now (entries .entry)) (now (counts .entry)) len flag)) ⌝ }
+        ≡ addLayer d (layerUpdate item weight) (layerOf d (now (counters .entry)) (now (norms .entry)) (now (entries .entry)) (now (counts .entry)) len flag)) ⌝ }
+    ensures { λ r. ⌜ ((flag : Bool) → r ≡ addAnswer d (layerUpdate item weight) (layerOf d (now (counters .entry)) (now (norms .entry)) (now (entries .entry)) (now (counts .entry)) len flag)) ⌝ }
 {
     let rows = d.rows;
     let cols = d.cols;
-    let high = who.high;
-    let low = who.low;
+    let high = item.high;
+    let low = item.low;
     let count = countsketch_l2_norm::update_and_count(
         counters,
         norms,
@@ -88,5 +89,5 @@ pub fn add(
         low,
         weight,
     );
-    heap::offer(entries, counts, d.size, len, who, count)
+    heap::offer(entries, counts, d.size, len, item, count)
 }

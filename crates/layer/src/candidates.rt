@@ -5,21 +5,21 @@ use crate::Merged;
 use crate::filling::copy_words;
 use crate::filling::zero_counts;
 use crate::filling::zero_words;
-use heap_moves::Who;
+use heap_moves::Item;
 ghost use mathlib.Core.Path.{_≡_};
 ghost use mathlib.Core.List.{_++_};
 ghost use Prim.Native.Nat.{ℕ, _+_, _*_, _≤_, _<_};
 ghost use lib.ListN.{length};
 ghost use Rattle.heap_moves.specs.Cands.{mostCands};
-ghost use Rattle.layer.specs.Gather.{gatheredOf, mergeTable, offerOne, gather, whosOf, keysOf, firstAt, CountersRead, Seats, Entries, Sofar};
+ghost use Rattle.layer.specs.inner.Gather.{gatheredOf, mergeTable, offerOne, gather, itemsOf, keysOf, firstAt, CountersRead, Seats, Entries, Sofar};
 
-// One more key, with its count.
+// Offers one more key, with its count.
 fn offer_one(
     entries: &mut [u64],
     counts: &mut [i64],
     d: Dims,
     g: Merged,
-    w: Who,
+    w: Item,
     counters: &[i64],
 ) -> Merged
     requires { ⌜ Seats d (length (now entries)) (length (now counts)) ⌝ }
@@ -36,8 +36,8 @@ fn offer_one(
     }
 }
 
-// The i-th entry of the source, if its key stands in none of the entries before it and in none of m
-// others.
+// Offers the i-th entry of the source, unless its key stands in an entry before it there or in one of
+// the first m entries of `before`.
 fn offer_first(
     entries: &mut [u64],
     counts: &mut [i64],
@@ -57,7 +57,7 @@ fn offer_first(
     ensures { λ r. ⌜ gatheredOf (now (entries .exit)) (now (counts .exit)) r
         ≡ firstAt d (now (counters .entry)) (now (before .entry)) m (now (source .entry)) i (gatheredOf (now (entries .entry)) (now (counts .entry)) g) ⌝ }
 {
-    let w = heap_moves::who_at(source, i);
+    let w = heap_moves::item_at(source, i);
     let there = heap::find(before, m, w.key);
     if there < m {
         return g;
@@ -69,7 +69,7 @@ fn offer_first(
     offer_one(entries, counts, d, g, w, counters)
 }
 
-// The first n entries of the source, each key once, without those of m other entries.
+// Offers the first n entries of the source, each key once, but no key of the first m of `before`.
 fn offer_firsts(
     entries: &mut [u64],
     counts: &mut [i64],
@@ -87,7 +87,7 @@ fn offer_firsts(
     requires { ⌜ Entries (length (now source)) n ⌝ }
     requires { ⌜ Entries (length (now before)) m ⌝ }
     ensures { λ r. ⌜ (gatheredOf (now (entries .exit)) (now (counts .exit)) r
-        ≡ gather d (now (counters .entry)) (keysOf (now (before .entry)) m) (whosOf (now (source .entry)) n) (gatheredOf (now (entries .entry)) (now (counts .entry)) start))
+        ≡ gather d (now (counters .entry)) (keysOf (now (before .entry)) m) (itemsOf (now (source .entry)) n) (gatheredOf (now (entries .entry)) (now (counts .entry)) start))
         × Sofar d r (start .keys + n) ⌝ }
 {
     let mut g = start;
@@ -99,8 +99,8 @@ fn offer_firsts(
     g
 }
 
-// The layer's own candidates, then the other's. The slices are zeroed and filled anew, so the own
-// entries are copied out first; no old count is read, since all are counted anew.
+// Offers the layer's own candidates, then the other's. The slices are zeroed and filled anew, so the
+// layer's entries are copied out first; no old count is read, since all are counted anew.
 pub fn merge_candidates(
     entries: &mut [u64],
     counts: &mut [i64],
@@ -114,7 +114,7 @@ pub fn merge_candidates(
     requires { ⌜ len ≤ d .size ⌝ }
     requires { ⌜ CountersRead d (now counters) ⌝ }
     requires { ⌜ Entries (length (now other)) «other_len» ⌝ }
-    ensures { λ r. ⌜ gatheredOf (now (entries .exit)) (now (counts .exit)) r ≡ mergeTable d (now (counters .entry)) (whosOf (now (entries .entry)) len ++ whosOf (now (other .entry)) «other_len») ⌝ }
+    ensures { λ r. ⌜ gatheredOf (now (entries .exit)) (now (counts .exit)) r ≡ mergeTable d (now (counters .entry)) (itemsOf (now (entries .entry)) len ++ itemsOf (now (other .entry)) «other_len») ⌝ }
 {
     let mut copy = [0u64; 4 * heap_moves::MAX_HEAP_SIZE];
     copy_words(&*entries, &mut copy, 4 * len);

@@ -1,7 +1,7 @@
 // A delta on one counter of a layer, and the offer of its key.
 use crate::Dims;
 use heap::Answer;
-use heap_moves::Who;
+use heap_moves::Item;
 ghost use mathlib.Core.Path.{_≡_};
 ghost use mathlib.Core.Bool.{Bool, true, _&&_};
 ghost use mathlib.Core.List.{List};
@@ -9,13 +9,13 @@ ghost use Prim.Native.Nat.{ℕ, _+_, _*_, _<_};
 ghost use lib.ListN.{length};
 ghost use lib.IntN.{ℤ};
 ghost use Rattle.words.specs.Num.{inRange};
-ghost use Rattle.matrix_storage.specs.Bits.{Shaped};
-ghost use Rattle.heap_moves.specs.declared.Who.{Who};
+ghost use Rattle.matrix_storage.specs.inner.Shaped.{Shaped};
+ghost use Rattle.heap_moves.specs.declared.Item.{Item};
 ghost use Rattle.countsketch_l2_norm.specs.Sketch.{cellAt};
-ghost use Rattle.heap.specs.Offer.{keptBy, lenBy};
-ghost use Rattle.layer.specs.Layer.{layerOf};
-ghost use Rattle.layer.specs.Delta.{delta, deltaLayer, deltaAnswer, deltaReads, deltaFits};
-ghost use Rattle.layer.specs.Needs.{Housed, DeltaReady};
+ghost use Rattle.heap.specs.Offer.{keptBy};
+ghost use Rattle.heap.specs.inner.Slices.{lenBy};
+ghost use Rattle.layer.specs.inner.Needs.{layerOf, delta, Housed, DeltaReady};
+ghost use Rattle.layer.specs.Delta.{deltaLayer, deltaAnswer, deltaReads, deltaFits};
 
 // Whether all that a delta reads of the layer is in range.
 pub fn delta_reads(
@@ -26,16 +26,16 @@ pub fn delta_reads(
     len: usize,
     row: usize,
     col: usize,
-    who: Who,
+    item: Item,
 ) -> bool
     requires { ⌜ Housed d (length (now counters)) (length (now norms)) (length (now counts)) len ⌝ }
     requires { ⌜ (row < d .rows) × (col < d .cols) ⌝ }
-    ensures { λ r. ⌜ ((es : List ℕ) (flag every : Bool) (n : ℤ) → r ≡ deltaReads d (delta row col n who every) (layerOf d (now (counters .entry)) (now (norms .entry)) es (now (counts .entry)) len flag)) ⌝ }
+    ensures { λ r. ⌜ ((es : List ℕ) (flag every : Bool) (n : ℤ) → r ≡ deltaReads d (delta row col n item every) (layerOf d (now (counters .entry)) (now (norms .entry)) es (now (counts .entry)) len flag)) ⌝ }
 {
     if !countsketch_l2_norm::cell_read(counters, norms, d.rows, d.cols, row, col) {
         return false;
     }
-    if !countsketch_l2_norm::cells_in(counters, d.rows, d.cols, who.high, who.low) {
+    if !countsketch_l2_norm::cells_in(counters, d.rows, d.cols, item.high, item.low) {
         return false;
     }
     heap::counts_in_range(counts, len)
@@ -47,12 +47,12 @@ pub fn delta_fits(counters: &[i64], d: Dims, row: usize, col: usize, count: i64)
     requires { ⌜ Shaped (d .rows) (d .cols) ⌝ }
     requires { ⌜ length (now counters) ≡ d .rows * d .cols ⌝ }
     requires { ⌜ inRange (cellAt (now counters) (row * d .cols + col)) ≡ true ⌝ }
-    ensures { λ r. ⌜ ((ws es : List ℕ) (ns : List ℤ) (len : ℕ) (flag every : Bool) (who : Who) → r ≡ deltaFits d (delta row col count who every) (layerOf d (now (counters .entry)) ws es ns len flag)) ⌝ }
+    ensures { λ r. ⌜ ((ws es : List ℕ) (ns : List ℤ) (len : ℕ) (flag every : Bool) (item : Item) → r ≡ deltaFits d (delta row col count item every) (layerOf d (now (counters .entry)) ws es ns len flag)) ⌝ }
 {
     countsketch_l2_norm::cell_fits(counters, d.rows, d.cols, row, col, count)
 }
 
-// The delta: what the candidates answered.
+// Makes the delta, and answers what the offer of the key did.
 pub fn apply_delta(
     counters: &mut [i64],
     norms: &mut [u64],
@@ -63,16 +63,16 @@ pub fn apply_delta(
     row: usize,
     col: usize,
     count: i64,
-    who: Who,
+    item: Item,
 ) -> Answer
-    requires { ⌜ DeltaReady d len row col count who (now counters) (now norms) (now entries) (now counts) ⌝ }
+    requires { ⌜ DeltaReady d len row col count item (now counters) (now norms) (now entries) (now counts) ⌝ }
     ensures { λ r. ⌜ ((flag every : Bool) → layerOf d (now (counters .exit)) (now (norms .exit)) (now (entries .exit)) (now (counts .exit)) (lenBy r len) (flag && (keptBy r && every))
-        ≡ deltaLayer d (delta row col count who every) (layerOf d (now (counters .entry)) (now (norms .entry)) (now (entries .entry)) (now (counts .entry)) len flag)) ⌝ }
-    ensures { λ r. ⌜ ((flag every : Bool) → r ≡ deltaAnswer d (delta row col count who every) (layerOf d (now (counters .entry)) (now (norms .entry)) (now (entries .entry)) (now (counts .entry)) len flag)) ⌝ }
+        ≡ deltaLayer d (delta row col count item every) (layerOf d (now (counters .entry)) (now (norms .entry)) (now (entries .entry)) (now (counts .entry)) len flag)) ⌝ }
+    ensures { λ r. ⌜ ((flag every : Bool) → r ≡ deltaAnswer d (delta row col count item every) (layerOf d (now (counters .entry)) (now (norms .entry)) (now (entries .entry)) (now (counts .entry)) len flag)) ⌝ }
 {
     let rows = d.rows;
     let cols = d.cols;
     countsketch_l2_norm::apply_delta(counters, norms, rows, cols, row, col, count);
-    let n = countsketch_l2_norm::count_with_hash(&*counters, rows, cols, who.high, who.low);
-    heap::offer(entries, counts, d.size, len, who, n)
+    let n = countsketch_l2_norm::count_with_hash(&*counters, rows, cols, item.high, item.low);
+    heap::offer(entries, counts, d.size, len, item, n)
 }

@@ -3,7 +3,7 @@ ghost use mathlib.Core.Path.{_≡_};
 ghost use Prim.Native.Nat.{ℕ, _≤_};
 ghost use lib.ListN.{length, replicate};
 ghost use lib.IntN.{pos};
-ghost use Rattle.layer.specs.Gather.{Front};
+ghost use Rattle.layer.specs.inner.Gather.{Front};
 
 // The first n words of `from`, to the front of `to`.
 pub fn copy_words(from: &[u64], to: &mut [u64], n: usize)

@@ -12,9 +12,9 @@ ghost use lib.IntN.{ℤ};
 ghost use lib.Dec.{leb};
 ghost use Rattle.words.specs.Num.{allIn};
 ghost use Rattle.layer.specs.declared.Dims.{Dims};
-ghost use Rattle.layer.specs.Layer.{layerOf};
+ghost use Rattle.layer.specs.inner.Needs.{layerOf};
 ghost use Rattle.layer.specs.Merge.{mergeLayer, mergeReads, mergeFits};
-ghost use Rattle.layer.specs.Gather.{LayerMergeReady};
+ghost use Rattle.layer.specs.inner.Gather.{LayerMergeReady};
 
 // Whether all that a merge reads of the two layers is in range: every counter and every candidate.
 pub fn merge_reads(

@@ -17,10 +17,10 @@ use Rattle.heap_moves.proofs.Rounds.{entries-cands, counts-cands, cands-entries
 use Rattle.header.specs.declared.Header.{Header}
 use Rattle.layout.specs.State.{State}
 use Rattle.layout.specs.Slices.{Lent, cellsIn, normsIn, candsIn, lengthsOk, lentOk, view, flat}
-use Rattle.layout.specs.Needs.{Standing}
+use Rattle.layout.specs.inner.Needs.{Standing}
 use Rattle.layout.proofs.Replaced.{Sized}
 
--- a norm's two words are told from it only if each of them is a word
+-- nothing is lost, where each norm word is below 2 ^ 64
 pub flat-view : (r : Lent) → Standing r → ((k : ℕ) → getD (r .norms) k 0 < wordSize) → flat (view r) ≡ r
 unfolding view flat
 flat-view r z w = λ i. record { head = r .head; counters = r .counters; norms = p i; entries = q i; counts = t i }

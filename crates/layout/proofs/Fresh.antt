@@ -13,8 +13,8 @@ use Rattle.heap_moves.specs.Cands.{noCand}
 use Rattle.header.specs.declared.Shape.{Shape}
 use Rattle.header.specs.Shape.{maxLayers}
 use Rattle.header.specs.Header.{freshFlags, freshHeader}
-use Rattle.header.specs.Accepted.{Accepted}
-use Rattle.layer.specs.Layer.{noLayer}
+use Rattle.header.specs.inner.Accepted.{Accepted}
+use Rattle.layer.specs.inner.Needs.{noLayer}
 use Rattle.layout.specs.State.{rowsAt, colsAt, dimsAt, cellOff, normOff, candOff, layerAt, newState}
 use Rattle.layout.proofs.Offsets.{off-step}
 use Rattle.words.proofs.Lists.{getD-all, part-all}

@@ -13,13 +13,13 @@ use Rattle.words.proofs.Parts.{length-part, length-put}
 use Rattle.matrix_storage.specs.Bits.{maxRows, maxCols}
 use Rattle.header.specs.Shape.{maxLayers, maxHeap}
 use Rattle.header.specs.Header.{withLayer}
-use Rattle.layer.specs.Layer.{Layer, layerOf}
-use Rattle.layer.specs.Needs.{Housed}
+use Rattle.layer.specs.Layer.{Layer}
+use Rattle.layer.specs.inner.Needs.{layerOf, Housed}
 use Rattle.layout.specs.declared.Span.{Span}
 use Rattle.layout.specs.State.{rowsAt, colsAt, dimsAt, cellOff, normOff, candOff, layerAt, putLayer}
 use Rattle.layout.specs.Slices.{Lent, lent, view}
-use Rattle.layout.specs.Spans.{spanOf}
-use Rattle.layout.specs.Needs.{Standing}
+use Rattle.layout.specs.inner.Spans.{spanOf}
+use Rattle.layout.specs.inner.Needs.{Standing}
 use Rattle.layout.proofs.Pieces.{Piece, cells-piece, norms-piece, words-piece, seats-piece, words-long}
 use Rattle.layout.proofs.Views.{shapeBy, layer-view, put-view, housed-here}
 
@@ -50,7 +50,7 @@ handed r l s =
 -- the state after the parts have come back with other contents, and the header has the layer's new flag and length
 abbrev pub returned : Lent → ℕ → Span → List ℤ → List ℕ → List ℕ → List ℤ → ℕ → Bool → Lent
 returned r l s xs ws es ns len flag =
-    lent (withLayer (r .head) l flag len) (putPart (s .cells) (s .«cells_end» - s .cells) (r .counters) xs) (putPart (s .norms) (s .«norms_end» - s .norms) (r .norms) ws)
+    lent (withLayer (r .head) l len flag) (putPart (s .cells) (s .«cells_end» - s .cells) (r .counters) xs) (putPart (s .norms) (s .«norms_end» - s .norms) (r .norms) ws)
     (putPart (s .words) (s .«words_end» - s .words) (r .entries) es) (putPart (s .seats) (s .«seats_end» - s .seats) (r .counts) ns)
 
 module _ {r : Lent} {l : ℕ} {s : Span} (p : Spanned r l s) where
@@ -89,7 +89,7 @@ module _ {r : Lent} {l : ℕ} {s : Span} (p : Spanned r l s) where
   pub back-view : (xs : List ℤ) (ws es : List ℕ) (ns : List ℤ) (len : ℕ) (flag : Bool) (y : Layer) → Back xs ws es ns
       → layerOf (dimsAt (shapeBy r) l) xs ws es ns len flag ≡ y → view (returned r l s xs ws es ns len flag) ≡ putLayer (view r) l y
   back-view xs ws es ns len flag y b e =
-      (λ i. view (lent (withLayer (r .head) l flag len) (cell-piece .put xs i) (norm-piece .put ws i) (word-piece .put es i) (seat-piece .put ns i)))
+      (λ i. view (lent (withLayer (r .head) l len flag) (cell-piece .put xs i) (norm-piece .put ws i) (word-piece .put es i) (seat-piece .put ns i)))
       ∙ put-view r (p .standing .sizes) l (p .inside) xs ws es ns len flag y (b .norms ∙ housed .norms) (b .words ∙ word-length ∙ ap (λ (k : ℕ). 4 * k) (sym (b .seats ∙ housed .seats))) e
 
   -- the state still fits together

@@ -20,7 +20,7 @@ no-yes n t e = let z : _≡_ {A = ℕ} 0 1 = cc in omega arith
 pub no-inj : (n m : ℕ) → Outcome.no n ≡ Outcome.no m → n ≡ m
 no-inj n m e = cc
 
--- a call that is accepted passed every test, and one that passes them is
+-- a call is accepted exactly if none of its tests holds
 pub judged : (ts : List (Bool × ℕ)) (r t : Lent) → judge ts r ≡ Outcome.yes t → (t ≡ r) × Off ts
 judged [] r t e = (sym (yes-inj r t e), tt)
 judged (x ∷ ts) r t e = go (judged ts r t) (x .0) refl e

@@ -16,7 +16,7 @@ use Rattle.header.specs.Header.{freshHeader, headerOk}
 use Rattle.header.proofs.Ranges.{ranged-of, len-few}
 use Rattle.layout.specs.Slices.{Lent, cellsIn, normsIn, candsIn, lengthsOk, lent, lentOk, view, freshLent}
 use Rattle.layout.specs.Outcomes.{left, lentTests}
-use Rattle.layout.specs.Needs.{Sizes, Standing}
+use Rattle.layout.specs.inner.Needs.{Sizes, Standing}
 use Rattle.layout.proofs.States.{Long}
 
 pub sizes-of : (sh : Shape) (a b c d : ℕ) → lengthsOk sh a b c d ≡ true → Sizes sh a b c d
@@ -54,7 +54,7 @@ pub long-view : (r : Lent) → Standing r → Long (view r)
 unfolding view
 long-view r z = record { counters = z .sizes .cells; norms = length-norms (r .norms) _; cands = length-cands (r .entries) (r .counts) ∙ z .sizes .counts }
 
--- what is not refused for header or lengths
+-- where header and lengths are not refused, they fit together
 pub stands-of : (r : Lent) → number (lentTests r) ≡ 0 → Standing r
 stands-of r z =
     let p = off-number (lentTests r) refl z in

@@ -4,11 +4,12 @@ use Prim.Native.Nat.{ℕ, zero, suc, _+_, _*_, _≤_, _<_}
 use native.Mathlib.Nat.{suc-mul, mul-assoc, mul-le-mul, le-trans, le-refl}
 use native.Mathlib.Decide.{ℕ-discrete}
 use native.Mathlib.Omega.{arith}
-use Rattle.matrix_storage.specs.Bits.{maxRows, maxCols, Shaped}
+use Rattle.matrix_storage.specs.Bits.{maxRows, maxCols}
+use Rattle.matrix_storage.specs.inner.Shaped.{Shaped}
 use Rattle.countsketch_l2_norm.specs.Merge.{sumBelow}
 use Rattle.header.specs.declared.Shape.{Shape}
 use Rattle.header.specs.Shape.{maxLayers, maxHeap}
-use Rattle.header.specs.Accepted.{Accepted}
+use Rattle.header.specs.inner.Accepted.{Accepted}
 use Rattle.layout.specs.State.{rowsAt, colsAt, cellOff, normOff, candOff}
 use Rattle.layout.specs.Slices.{cellsIn, normsIn, candsIn}
 

@@ -10,11 +10,11 @@ use Rattle.words.proofs.Parts.{length-part}
 use Rattle.matrix_storage.specs.Bits.{maxRows, maxCols}
 use Rattle.header.specs.declared.Shape.{Shape}
 use Rattle.header.specs.Shape.{maxLayers, maxHeap}
-use Rattle.header.specs.Accepted.{Accepted}
+use Rattle.header.specs.inner.Accepted.{Accepted}
 use Rattle.layout.specs.declared.Span.{Span}
 use Rattle.layout.specs.State.{rowsAt, colsAt, cellOff, normOff, candOff}
 use Rattle.layout.specs.Slices.{cellsIn, normsIn, candsIn}
-use Rattle.layout.specs.Spans.{spanOf}
+use Rattle.layout.specs.inner.Spans.{spanOf}
 use Rattle.layout.proofs.Offsets.{cell-end, norm-end, cand-end, cells-bound, norms-bound, seats-bound}
 
 -- ---- how long the parts of layer l are

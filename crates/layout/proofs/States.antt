@@ -13,7 +13,7 @@ use Rattle.words.proofs.Parts.{length-part, put-before, put-after}
 use Rattle.heap_moves.specs.Cands.{Cand}
 use Rattle.header.specs.declared.Shape.{Shape}
 use Rattle.layer.specs.Layer.{Layer}
-use Rattle.layer.specs.Needs.{Fits}
+use Rattle.layer.specs.inner.Needs.{Fits}
 use Rattle.layout.proofs.Offsets.{off-step, cell-end, norm-end, cand-end}
 use Rattle.layout.specs.State.{State, rowsAt, colsAt, dimsAt, cellOff, normOff, candOff, layerAt, putLayer, allLayers}
 

@@ -19,11 +19,11 @@ use Rattle.heap_moves.proofs.Parts.{cands-part, cands-put}
 use Rattle.header.specs.declared.Shape.{Shape}
 use Rattle.header.specs.Header.{withLayer}
 use Rattle.layer.specs.declared.Dims.{Dims}
-use Rattle.layer.specs.Layer.{Layer, layerOf}
-use Rattle.layer.specs.Needs.{Housed}
+use Rattle.layer.specs.Layer.{Layer}
+use Rattle.layer.specs.inner.Needs.{layerOf, Housed}
 use Rattle.layout.specs.State.{dimsAt, cellOff, normOff, candOff, layerAt, putLayer}
 use Rattle.layout.specs.Slices.{Lent, lent, normsIn, view}
-use Rattle.layout.specs.Needs.{Sizes, Standing}
+use Rattle.layout.specs.inner.Needs.{Sizes, Standing}
 use Rattle.layout.proofs.Offsets.{norm-end, shaped-at}
 use Rattle.layout.proofs.Pieces.{cells-long, norms-long, seats-long}
 
@@ -118,7 +118,7 @@ module _ (r : Lent) (z : Sizes (shapeBy r) (length (r .counters)) (length (r .no
   pub put-view : (xs : List ℤ) (ws es : List ℕ) (ns : List ℤ) (len : ℕ) (flag : Bool) (y : Layer)
       → length ws ≡ 2 * dimsAt (shapeBy r) l .rows → length es ≡ 4 * length ns
       → layerOf (dimsAt (shapeBy r) l) xs ws es ns len flag ≡ y
-      → view (lent (withLayer (r .head) l flag len) (putPart (cellOff (shapeBy r) l) (dimsAt (shapeBy r) l .rows * dimsAt (shapeBy r) l .cols) (r .counters) xs)
+      → view (lent (withLayer (r .head) l len flag) (putPart (cellOff (shapeBy r) l) (dimsAt (shapeBy r) l .rows * dimsAt (shapeBy r) l .cols) (r .counters) xs)
       (putPart (2 * normOff (shapeBy r) l) (2 * dimsAt (shapeBy r) l .rows) (r .norms) ws) (putPart (4 * candOff (shapeBy r) l) (4 * dimsAt (shapeBy r) l .size) (r .entries) es)
       (putPart (candOff (shapeBy r) l) (dimsAt (shapeBy r) l .size) (r .counts) ns))
       ≡ putLayer (view r) l y
@@ -139,9 +139,9 @@ module _ (r : Lent) (z : Sizes (shapeBy r) (length (r .counters)) (length (r .no
           (ap (putPart (candOff (shapeBy r) l) (d .size) (r .counts)) (counts-are es ns (candsOf es ns) refl))
           ∙ cands-put (candOff (shapeBy r) l) (d .size) (r .entries) (r .counts) (candsOf es ns) four
 
-      whole : view (lent (withLayer (r .head) l flag len) (putPart (cellOff (shapeBy r) l) (d .rows * d .cols) (r .counters) xs) (putPart (2 * normOff (shapeBy r) l) (2 * d .rows) (r .norms) ws)
+      whole : view (lent (withLayer (r .head) l len flag) (putPart (cellOff (shapeBy r) l) (d .rows * d .cols) (r .counters) xs) (putPart (2 * normOff (shapeBy r) l) (2 * d .rows) (r .norms) ws)
           (putPart (4 * candOff (shapeBy r) l) (4 * d .size) (r .entries) es) (putPart (candOff (shapeBy r) l) (d .size) (r .counts) ns)) ≡ putLayer (view r) l (layerOf d xs ws es ns len flag)
-      whole = λ i. record { head = withLayer (r .head) l flag len; counters = putPart (cellOff (shapeBy r) l) (d .rows * d .cols) (r .counters) xs; norms = p i; cands = q i }
+      whole = λ i. record { head = withLayer (r .head) l len flag; counters = putPart (cellOff (shapeBy r) l) (d .rows * d .cols) (r .counters) xs; norms = p i; cands = q i }
 
 -- the parts are as long as the functions on one layer ask
 pub housed-here : (r : Lent) → Standing r → (l : ℕ) → l < shapeBy r .layers → let d = dimsAt (shapeBy r) l in

@@ -1,6 +1,6 @@
-pub mod State
-pub mod Slices
-pub mod Spans
-pub mod Records
+pub mod Lending
 pub mod Outcomes
-pub mod Needs
+pub mod Records
+pub mod Slices
+pub mod State
+pub mod inner

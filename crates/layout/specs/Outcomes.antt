@@ -4,11 +4,13 @@ use mathlib.Core.Bool.{Bool, cond, not}
 use mathlib.Core.List.{List, [], _∷_, _++_}
 use lib.ListN.{length}
 use lib.Dec.{eqb}
+use Rattle.header.specs.declared.Shape.{Shape}
+use Rattle.header.specs.declared.Header.{Header}
 use Rattle.header.specs.Header.{headerOk}
 use Rattle.layout.specs.Records.{recordLength}
-use Rattle.layout.specs.Slices.{Lent, lentOk}
+use Rattle.layout.specs.Slices.{Lent, lengthsOk}
 
--- a refusal's number, or the header and slices after it
+-- a refusal's number, or the header and slices after an accepted call
 pub data Outcome : Type 0 where
   no : ℕ → Outcome
   yes : Lent → Outcome
@@ -30,12 +32,23 @@ abbrev pub leftBy : Lent → Outcome → Left
 leftBy r (Outcome.no n) = left n r
 leftBy r (Outcome.yes t) = left 0 t
 
+-- what a call leaves
+abbrev pub leftAfter : (Lent → Outcome) → Lent → Left
+leftAfter f r = leftBy r (f r)
+
 -- ---- the first tests of a call: "9 for lengths and headers, 12"
 
--- 9 "wrong slice length; header out of range"
-abbrev pub lentTests : Lent → List (Bool × ℕ)
-lentTests r = (not (headerOk (r .head)), 9) ∷ (not (lentOk r), 9) ∷ []
+-- 9 "wrong slice length; header out of range", by the lengths of the slices
+abbrev pub sizeTests : Header → ℕ → ℕ → ℕ → ℕ → List (Bool × ℕ)
+sizeTests h xs ws es ns = (not (headerOk h), 9) ∷ (not (lengthsOk (h .shape) xs ws es ns), 9) ∷ []
 
--- and 12 "record length wrong"
+abbrev pub lentTests : Lent → List (Bool × ℕ)
+lentTests r = sizeTests (r .head) (length (r .counters)) (length (r .norms)) (length (r .entries)) (length (r .counts))
+
+-- 12 "record length wrong", of n words
+abbrev pub recordTest : Shape → ℕ → Bool × ℕ
+recordTest sh n = (not (eqb n (recordLength (sh .layers))), 12)
+
+-- header, lengths and record
 abbrev pub recordTests : Lent → List ℕ → List (Bool × ℕ)
-recordTests r words = lentTests r ++ ((not (eqb (length words) (recordLength (r .head .shape .layers))), 12) ∷ [])
+recordTests r words = lentTests r ++ (recordTest (r .head .shape) (length words) ∷ [])

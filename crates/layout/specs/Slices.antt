@@ -11,6 +11,7 @@ use Rattle.header.specs.declared.Shape.{Shape}
 use Rattle.header.specs.declared.Header.{Header}
 use Rattle.header.specs.Header.{freshHeader}
 use Rattle.layout.specs.State.{State, cellOff, normOff, candOff}
+use Rattle.layout.specs.declared.Extent.{Extent}
 
 -- "one signed word per counter, two words for each row norm (low, then high) .. four words each .. and a signed count in a second slice"
 pub record Lent : Type 0 where
@@ -56,3 +57,7 @@ freshLent sh =
       entries = replicate (4 * candsIn sh) 0;
       counts = replicate (candsIn sh) (pos 0);
     }
+
+-- how much of each slice a shape uses
+abbrev pub extentOf : Shape → Extent
+extentOf sh = record { cells = cellsIn sh; norms = 2 * normsIn sh; words = 4 * candsIn sh; seats = candsIn sh }

@@ -61,7 +61,7 @@ putLayer s l y =
     let sh : Shape = shapeOf s in
     let d : Dims = dimsAt sh l in
     record {
-      head = withLayer (s .head) l (y .flag) (y .table .len);
+      head = withLayer (s .head) l (y .table .len) (y .flag);
       counters = putPart (cellOff sh l) (d .rows * d .cols) (s .counters) (y .sketch .cells);
       norms = putPart (normOff sh l) (d .rows) (s .norms) (y .sketch .norms);
       cands = putPart (candOff sh l) (d .size) (s .cands) (y .table .cands);

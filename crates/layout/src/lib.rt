@@ -4,7 +4,7 @@ mod parts;
 
 use header::Header;
 use header::Shape;
-use heap_moves::Who;
+use heap_moves::Item;
 use layer::Dims;
 pub use parts::cells_at;
 pub use parts::norms_at;
@@ -15,12 +15,13 @@ ghost use Prim.Native.Nat.{ℕ, _+_, _*_, _≤_, _<_};
 ghost use lib.ListN.{length};
 ghost use Rattle.words.specs.Tests.{number};
 ghost use Rattle.header.specs.Shape.{maxLayers};
-ghost use Rattle.header.specs.Accepted.{Accepted};
+ghost use Rattle.header.specs.inner.Accepted.{Accepted};
 ghost use Rattle.layout.specs.State.{dimsAt};
-ghost use Rattle.layout.specs.Slices.{lengthsOk, lent};
+ghost use Rattle.layout.specs.Slices.{lengthsOk, extentOf};
 ghost use Rattle.layout.specs.Outcomes.{lentTests};
-ghost use Rattle.layout.specs.Spans.{extentOf, spanOf};
-ghost use Rattle.layout.specs.Records.{whoAt};
+ghost use Rattle.layout.specs.inner.Spans.{spanOf};
+ghost use Rattle.layout.specs.Records.{itemAt};
+ghost use Rattle.layout.specs.Lending.{lentIn};
 
 // Counters, norm words, entry words and counts of a shape.
 pub struct Extent {
@@ -76,7 +77,7 @@ pub fn lent_refusal(
     entries: &[u64],
     counts: &[i64],
 ) -> u64
-    ensures { λ r. ⌜ r ≡ number (lentTests (lent h (now (counters .entry)) (now (norms .entry)) (now (entries .entry)) (now (counts .entry)))) ⌝ }
+    ensures { λ r. ⌜ r ≡ number (lentTests (lentIn h counters norms entries counts)) ⌝ }
 {
     if !h.in_range() {
         return 9;
@@ -144,16 +145,16 @@ pub fn dims(shape: Shape, l: usize) -> Dims
     }
 }
 
-// Who a record names, with the hash of a layer.
-pub fn who_in(words: &[u64], l: usize) -> Who
-    requires { ⌜ (l < maxLayers) × (4 + 2 * l ≤ length (now words)) ⌝ }
-    ensures { λ r. ⌜ r ≡ whoAt (now (words .entry)) l ⌝ }
+// The item that a record names, with the hash of layer l.
+pub fn item_in(record: &[u64], l: usize) -> Item
+    requires { ⌜ (l < maxLayers) × (4 + 2 * l ≤ length (now «record»)) ⌝ }
+    ensures { λ r. ⌜ r ≡ itemAt (now («record» .entry)) l ⌝ }
 {
     let at = 2 + 2 * l;
-    Who {
-        key: words[0],
-        bottom: words[1],
-        high: words[at],
-        low: words[at + 1],
+    Item {
+        key: record[0],
+        bottom: record[1],
+        high: record[at],
+        low: record[at + 1],
     }
 }

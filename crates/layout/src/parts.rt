@@ -5,7 +5,7 @@ ghost use mathlib.Core.Path.{_≡_};
 ghost use Prim.Native.Nat.{ℕ, _*_, _<_};
 ghost use lib.ListN.{length};
 ghost use Rattle.words.specs.Parts.{part};
-ghost use Rattle.header.specs.Accepted.{Accepted};
+ghost use Rattle.header.specs.inner.Accepted.{Accepted};
 ghost use Rattle.layout.specs.State.{rowsAt, colsAt, cellOff, normOff, candOff};
 ghost use Rattle.layout.specs.Slices.{cellsIn, normsIn, candsIn};
 

@@ -31,7 +31,7 @@ fn cell(high: u64, low: u64, row: usize, rows: usize, cols: usize) {
     }
 }
 
-// Puts a value in among the first n, where it is in range: the number of values then.
+// Inserts a value among the first n, if it is in range and there is room. Answers how many there are then.
 fn put(buf: &mut [i64; MAX_ROWS], n: usize, v: i64) -> usize
     requires { ⌜ (n ≤ maxRows) × (length (now buf) ≡ maxRows) ⌝ }
     requires { ⌜ allIn (take n (now buf)) ≡ true ⌝ }

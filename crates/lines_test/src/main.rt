@@ -84,7 +84,7 @@ fn say_shape(out: &mut [u8], heap: u64, rows: u64, cols: u64, layers: u64) -> us
     put_newline(out, e)
 }
 
-// An answer to `(show)` with some numbers as bits, and the last bits of another as flags.
+// An answer to `(show)` with three numbers as the floats' bits, and the low bits of a fourth as flags.
 fn say_show(out: &mut [u8], l1: u64, l2: u64, keys: u64, bits: u64) -> usize {
     let mut flags = [false; FLAGS];
     let mut i = 0;

@@ -54,7 +54,7 @@ power-one n j e =
     let e′ : n ≡ 1 * 2 ^ j + 0 = omega arith in
     ap ones e′ ∙ ones-cat j 1 0 (pow-pos j)
 
--- what the code computes is maskBits
+-- the place j of n's highest 1, which the leading zeros give: it is log2 n
 pub record Top (n : ℕ) : Type 0 where
   pub j : ℕ
   pub zeros : leadingZeros 64 n + suc j ≡ 64
@@ -93,7 +93,7 @@ mask-twice n h u =
     either true x y p q = p
     either false x y p q = q
 
--- a number that no power of two below it exceeds has no more bits
+-- a number up to 2 ^ k has at most k mask bits
 pub mask-within : (k n : ℕ) → k < 64 → 1 ≤ n → n ≤ 2 ^ k → maskBits n ≤ k
 unfolding maskBits
 mask-within k n h p u = go (eqb n (2 ^ log2 n)) refl
@@ -110,7 +110,7 @@ mask-within k n h p u = go (eqb n (2 ^ log2 n)) refl
         lt-of-not-le (λ (g : k ≤ t .j). eqb-false n (2 ^ log2 n) e (le-antisymm (omega (arith, u, pow-mono g, ap (λ (x : ℕ). 2 ^ x) (t .is))) (rw (t .is) (t .lower)))) in
         omega (arith, t .is, q)
 
--- a number of one word has at most 64
+-- a number of one word has at most 64 mask bits
 pub mask-most : (n : ℕ) → 1 ≤ n → n < 2 ^ 64 → maskBits n ≤ 64
 unfolding maskBits
 mask-most n h u = either (eqb n (2 ^ log2 n)) (omega (arith, t .zeros, t .is)) (omega (arith, t .zeros, t .is))

@@ -1,4 +1,4 @@
--- A chunk on the way: what is answered so far are the answers to the lines of the part that was taken. Assumes nothing.
+-- In the middle of a chunk: the answers so far are those to the lines of the part that was taken. Assumes nothing.
 use Prim.Native.Nat.{ℕ, suc, min, _+_, _≤_, _<_}
 use mathlib.Core.Path.{_≡_, refl, sym, ap, _∙_}
 use mathlib.Core.Bool.{Bool, true, false, cond}
@@ -9,7 +9,8 @@ use lib.ListN.{length, take, drop, take-append-drop, length-drop}
 use lib.Seq.{take-all, take-add}
 use Rattle.words.proofs.Bools.{never}
 use Rattle.layout.specs.Slices.{Lent}
-use Rattle.panel_lines.specs.Split.{mostHeld, push, chunkLines, chunkHeld, Stepped, stepOf, stepped}
+use Rattle.panel_lines.specs.Split.{mostHeld, push, chunkLines, chunkHeld}
+use Rattle.panel_lines.specs.inner.Steps.{Stepped, stepOf, stepped}
 use Rattle.panel_lines.proofs.Chunks.{lines-append, held-append, step-open}
 use Rattle.panel_step.specs.Panel.{longest, answerLine, answersOf, Found, found, put, behind}
 use Rattle.panel_step.proofs.Runs.{first-behind, none-behind, more-behind}

@@ -4,16 +4,16 @@ use header::Shape;
 use panel_lines::split::MOST_HELD;
 use panel_lines::split::take_line;
 use panel_step::LONGEST;
+use panel_step::LineAnswered;
 use panel_step::MAX_CANDIDATES;
 use panel_step::MAX_COUNTERS;
-use panel_step::Told;
 use panel_step::answer_line;
 ghost use mathlib.Core.Path.{_≡_};
 ghost use Prim.Native.Nat.{ℕ, min, _+_, _≤_};
 ghost use lib.ListN.{length, take};
-ghost use Rattle.layout.specs.Slices.{lent};
 ghost use Rattle.panel_lines.specs.Split.{mostHeld, chunkLines, chunkHeld};
 ghost use Rattle.panel_step.specs.Panel.{longest, answerLine, answersOf, found, put, behind};
+ghost use Rattle.layout.specs.Lending.{lentIn, lentOut};
 
 // The bytes that are read at once, and the most that are written at once. Larger ones save no time, and all that the program holds
 // is on the stack: these two, the slices of `main` and the working space of a sum, 167 KB in all.
@@ -23,7 +23,7 @@ const ANSWERS: usize = 16384;
 
 // What is known after a part of a chunk: the header, the bytes held of the line that goes on, the bytes of the answers, and how
 // much of the chunk was taken.
-struct Taken {
+struct ChunkAnswered {
     header: Header,
     held: usize,
     len: usize,
@@ -36,7 +36,7 @@ struct Going {
     held: usize,
 }
 
-// Answers the line in the first k bytes, behind the answers that `out` has up to a place.
+// Answers the line in the first k bytes of `line`, from place `at` of `out` on, behind earlier answers.
 fn reply(
     line: &[u8],
     k: usize,
@@ -47,11 +47,11 @@ fn reply(
     counts: &mut [i64],
     out: &mut [u8],
     at: usize,
-) -> Told
+) -> LineAnswered
     requires { ⌜ k ≤ length (now line) ⌝ }
     requires { ⌜ at + longest ≤ length (now out) ⌝ }
-    ensures { λ r. ⌜ found (lent (r .header) (now (counters .exit)) (now (norms .exit)) (now (entries .exit)) (now (counts .exit))) (r .len) (now (out .exit))
-        ≡ behind at (answerLine (lent header (now (counters .entry)) (now (norms .entry)) (now (entries .entry)) (now (counts .entry))) (take k (now (line .entry)))) (now (out .entry)) ⌝ }
+    ensures { λ r. ⌜ found (lentOut (r .header) counters norms entries counts) (r .len) (now (out .exit))
+        ≡ behind at (answerLine (lentIn header counters norms entries counts) (take k (now (line .entry)))) (now (out .entry)) ⌝ }
     ensures { λ r. ⌜ r .len ≤ at + longest ⌝ }
 {
     let t = answer_line(
@@ -64,14 +64,14 @@ fn reply(
         &mut out[at..],
     );
     let next = t.header;
-    Told {
+    LineAnswered {
         header: next,
         len: at + t.len,
     }
 }
 
-// Answers the lines that end in a chunk, from the start of `out` on, as long as the longest answer has room there; so what is taken of the
-// chunk is a part of it. What `line` has past the held bytes is left open.
+// Answers the lines that end in a chunk, from the start of `out` on, and stops where the longest answer has no more room there; so it may
+// take only a part of the chunk. What `line` has past the held bytes is left open.
 fn take_chunk(
     chunk: &[u8],
     line: &mut [u8],
@@ -82,12 +82,12 @@ fn take_chunk(
     entries: &mut [u64],
     counts: &mut [i64],
     out: &mut [u8],
-) -> Taken
+) -> ChunkAnswered
     requires { ⌜ held ≤ mostHeld ⌝ }
     requires { ⌜ mostHeld ≤ length (now line) ⌝ }
     requires { ⌜ longest ≤ length (now out) ⌝ }
-    ensures { λ r. ⌜ found (lent (r .header) (now (counters .exit)) (now (norms .exit)) (now (entries .exit)) (now (counts .exit))) (r .len) (now (out .exit))
-        ≡ put (answersOf (lent header (now (counters .entry)) (now (norms .entry)) (now (entries .entry)) (now (counts .entry))) (chunkLines (take held (now (line .entry))) (take (r .next) (now (chunk .entry))))) (now (out .entry)) ⌝ }
+    ensures { λ r. ⌜ found (lentOut (r .header) counters norms entries counts) (r .len) (now (out .exit))
+        ≡ put (answersOf (lentIn header counters norms entries counts) (chunkLines (take held (now (line .entry))) (take (r .next) (now (chunk .entry))))) (now (out .entry)) ⌝ }
     ensures { λ r. ⌜ take (r .held) (now (line .exit)) ≡ chunkHeld (take held (now (line .entry))) (take (r .next) (now (chunk .entry))) ⌝ }
     ensures { λ r. ⌜ (r .held ≤ mostHeld) × (r .len ≤ length (now (out .entry))) ⌝ }
     ensures { λ r. ⌜ (min 1 (length (now (chunk .entry))) ≤ r .next) × (r .next ≤ length (now (chunk .entry))) ⌝ }
@@ -113,7 +113,7 @@ fn take_chunk(
             n = k;
         }
     }
-    Taken {
+    ChunkAnswered {
         header: head,
         held: n,
         len,
@@ -142,8 +142,8 @@ fn take_all(
     requires { ⌜ held ≤ mostHeld ⌝ }
     requires { ⌜ mostHeld ≤ length (now line) ⌝ }
     requires { ⌜ longest ≤ length (now out) ⌝ }
-    ensures { λ r. ⌜ lent (r .header) (now (counters .exit)) (now (norms .exit)) (now (entries .exit)) (now (counts .exit))
-        ≡ answersOf (lent header (now (counters .entry)) (now (norms .entry)) (now (entries .entry)) (now (counts .entry))) (chunkLines (take held (now (line .entry))) (now (chunk .entry))) .lends ⌝ }
+    ensures { λ r. ⌜ lentOut (r .header) counters norms entries counts
+        ≡ answersOf (lentIn header counters norms entries counts) (chunkLines (take held (now (line .entry))) (now (chunk .entry))) .lends ⌝ }
     ensures { λ r. ⌜ take (r .held) (now (line .exit)) ≡ chunkHeld (take held (now (line .entry))) (now (chunk .entry)) ⌝ }
     ensures { λ r. ⌜ r .held ≤ mostHeld ⌝ }
 {

@@ -14,7 +14,7 @@ use Rattle.text.specs.declared.signed.Int.{Int}
 use Rattle.text.specs.declared.signed.Int.the-variants as I
 use Rattle.text.specs.Words.{isPrefix}
 use Rattle.text.specs.Decimals.{isDigit, dec, Word, fieldAt}
-use Rattle.text.specs.Signs.{signed, SignedWord, intAt}
+use Rattle.text.specs.Signs.{signedDec, SignedWord, intAt}
 use Rattle.text.specs.Hex.{hexDigits, hexOkAt, hexAt}
 use Rattle.text.proofs.Spots.{past, at-end, word-is, byte-at}
 use Rattle.text.proofs.DecReads.{field-reads}
@@ -24,7 +24,7 @@ use Rattle.text.proofs.HexTexts.{hex-ok-reads, hex-reads, hex-past, hex-sound, 
 use Rattle.panel_lines.specs.declared.line.Tail.{Tail}
 use Rattle.panel_lines.specs.declared.line.Tail.the-variants as T
 use Rattle.panel_lines.specs.declared.line.Request.the-variants.{Shape, Add}
-use Rattle.panel_lines.specs.Line.{longestLine, Reading, asked, unreadable, shapeWord, addWord, thenNum, thenInt, thenTail, tailAt, halves, shapeOf, addOf}
+use Rattle.panel_lines.specs.Line.{longestLine, Reading, asked, unreadable, shapeWord, addWord, thenNum, thenInt, thenTail, tailAt, halves, readShape, readAdd}
 use Rattle.panel_lines.specs.Ask.{Ask, shape, add, Pair, pairsText, PairsIn, pairWords, askText, readingOf, Writes}
 use Rattle.panel_lines.proofs.Tails.{Tailed, tail-sound, tail-reads}
 use Rattle.panel_lines.proofs.Pairs.{pairs-reads, pairsFrom, pairs-sound}
@@ -41,8 +41,8 @@ stop-close = refl
 -- ---- written, then read
 
 pub shape-reads : (s : List ℕ) (h r c l : ℕ) → Word h → Word r → Word c → Word l
-    → drop 7 s ≡ dec h ++ (32 ∷ (dec r ++ (32 ∷ (dec c ++ (32 ∷ (dec l ++ (41 ∷ []))))))) → shapeOf s ≡ asked (Shape h r c l)
-unfolding shapeOf
+    → drop 7 s ≡ dec h ++ (32 ∷ (dec r ++ (32 ∷ (dec c ++ (32 ∷ (dec l ++ (41 ∷ []))))))) → readShape s ≡ asked (Shape h r c l)
+unfolding readShape
 shape-reads s h r c l bh br bc bl w =
     let t3 = dec l ++ (41 ∷ []) in
     let t2 = dec c ++ (32 ∷ t3) in
@@ -74,16 +74,16 @@ tail-written s ps i r e =
     (tail-reads s i n (record { long = omega (arith, l); pairs = a .ok; close = rw z at (p .byte) }), a .words)
 
 pub add-reads : (s : List ℕ) (k : ℕ) (w : ℤ) (b : ℕ) (ps : List Pair) → Word k → SignedWord w → Word b → PairsIn ps
-    → drop 5 s ≡ dec k ++ (32 ∷ (signed w ++ (32 ∷ (hexDigits 16 b ++ (pairsText ps ++ (41 ∷ [])))))) → addOf s ≡ readingOf (add k w b ps)
-unfolding addOf readingOf
+    → drop 5 s ≡ dec k ++ (32 ∷ (signedDec w ++ (32 ∷ (hexDigits 16 b ++ (pairsText ps ++ (41 ∷ [])))))) → readAdd s ≡ readingOf (add k w b ps)
+unfolding readAdd readingOf
 add-reads s k w b ps bk bw bb bp e =
     let t3 = pairsText ps ++ (41 ∷ []) in
     let t2 = hexDigits 16 b ++ t3 in
-    let t1 = signed w ++ (32 ∷ t2) in
+    let t1 = signedDec w ++ (32 ∷ t2) in
     let i = suc (5 + length (dec k)) in
     let e1 : drop i s ≡ t1 = past s (dec k) t1 5 32 e .rest in
-    let j = suc (i + length (signed w)) in
-    let e2 : drop j s ≡ t2 = past s (signed w) t2 i 32 e1 .rest in
+    let j = suc (i + length (signedDec w)) in
+    let e2 : drop j s ≡ t2 = past s (signedDec w) t2 i 32 e1 .rest in
     let q = tail-written s ps (j + 16) bp (hex-past s t3 j b e2) in
     rw (
       field-reads s t1 5 k 32 bk stop-space e,
@@ -131,8 +131,8 @@ shape-last s n p h i r j c k l m fh fr fc fl true q =
       text = word-is shapeWord s p ∙ rw (fh .text, fr .text, fc .text, fl .text, z);
     }) refl
 
-pub shape-seen : (s : List ℕ) → length s ≤ longestLine → isPrefix shapeWord s ≡ true → Seen s (shapeOf s)
-unfolding shapeOf
+pub shape-seen : (s : List ℕ) → length s ≤ longestLine → isPrefix shapeWord s ≡ true → Seen s (readShape s)
+unfolding readShape
 shape-seen s n p =
     num-seen s (fieldAt s 7 32) _ (λ h i eh.
     num-seen s (fieldAt s i 32) _ (λ r j er.
@@ -157,7 +157,7 @@ add-last s m p k i w j n fk fw h t =
     let ps = pairsFrom s (j + 16) n in
     let b = hexAt s j in
     let e3 = hex-sound s j h ∙ ap (λ (y : List ℕ). hexDigits 16 b ++ y) (tail-text s (j + 16) n t) in
-    let e2 = fw .text ∙ ap (λ (y : List ℕ). signed w ++ (32 ∷ y)) e3 in
+    let e2 = fw .text ∙ ap (λ (y : List ℕ). signedDec w ++ (32 ∷ y)) e3 in
     let e1 = fk .text ∙ ap (λ (y : List ℕ). dec k ++ (32 ∷ y)) e2 in
     some (add k w b ps) (record {
       range = (fk .word, (fw .word, (hex-word s j h, a .range)));
@@ -165,8 +165,8 @@ add-last s m p k i w j n fk fw h t =
       text = word-is addWord s p ∙ ap (λ (y : List ℕ). addWord ++ y) e1;
     }) (rw (a .many, a .words))
 
-pub add-seen : (s : List ℕ) → length s ≤ longestLine → isPrefix addWord s ≡ true → Seen s (addOf s)
-unfolding addOf
+pub add-seen : (s : List ℕ) → length s ≤ longestLine → isPrefix addWord s ≡ true → Seen s (readAdd s)
+unfolding readAdd
 add-seen s m p =
     num-seen s (fieldAt s 5 32) _ (λ k i ek.
     int-seen s (intAt s i 32) _ (λ w j ew.

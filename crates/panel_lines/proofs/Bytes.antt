@@ -8,7 +8,8 @@ use lib.Seq.{drop-cons, take-suc-set, length-take-le}
 use native.Mathlib.Omega.{arith}
 use native.Mathlib.Numerals.{add-one}
 use borrow.Author.Tests.{eq-eqb, ne-eqb, lt-ltb, le-ltb}
-use Rattle.panel_lines.specs.Split.{mostHeld, push, stepOf, stepped}
+use Rattle.panel_lines.specs.Split.{mostHeld, push}
+use Rattle.panel_lines.specs.inner.Steps.{stepOf, stepped}
 
 pub push-room : (l : List ℕ) (n b : ℕ) → n < mostHeld → mostHeld ≤ length l → take (n + 1) (set l n b) ≡ push (take n l) b
 unfolding push

@@ -13,17 +13,17 @@ use Rattle.text.specs.Words.{isPrefix}
 use Rattle.text.specs.Decimals.{fieldAt}
 use Rattle.panel_lines.specs.declared.line.Request.{Request}
 use Rattle.panel_lines.specs.declared.line.Request.the-variants.{Shape, Show, Unreadable}
-use Rattle.panel_lines.specs.Line.{longestLine, Reading, thenNum, asked, unreadable, shapeWord, addWord, showWord, shapeOf, addOf, readOf}
+use Rattle.panel_lines.specs.Line.{longestLine, Reading, thenNum, asked, unreadable, shapeWord, addWord, showWord, readShape, readAdd, readOf}
 
 pub read-long : (s : List ℕ) → longestLine < length s → readOf s ≡ unreadable
 unfolding readOf
 read-long s l = rw (lt-ltb longestLine (length s) l)
 
-pub read-shape : (s : List ℕ) → length s ≤ longestLine → isPrefix shapeWord s ≡ true → readOf s ≡ shapeOf s
+pub read-shape : (s : List ℕ) → length s ≤ longestLine → isPrefix shapeWord s ≡ true → readOf s ≡ readShape s
 unfolding readOf
 read-shape s l a = rw (le-ltb longestLine (length s) l, a)
 
-pub read-add : (s : List ℕ) → length s ≤ longestLine → isPrefix shapeWord s ≡ false → isPrefix addWord s ≡ true → readOf s ≡ addOf s
+pub read-add : (s : List ℕ) → length s ≤ longestLine → isPrefix shapeWord s ≡ false → isPrefix addWord s ≡ true → readOf s ≡ readAdd s
 unfolding readOf
 read-add s l a b = rw (le-ltb longestLine (length s) l, a, b)
 
@@ -52,8 +52,8 @@ num-words : (m : Num) (f : ℕ → ℕ → Reading) → ((v i : ℕ) → f v i .
 num-words (N.At v i) f h = h v i
 num-words N.Bad f h = refl
 
-pub shape-words : (s : List ℕ) → shapeOf s .words ≡ []
-unfolding shapeOf
+pub shape-words : (s : List ℕ) → readShape s .words ≡ []
+unfolding readShape
 shape-words s = num-words (fieldAt s 7 32) _ (λ h i. num-words (fieldAt s i 32) _ (λ r j. num-words (fieldAt s j 32) _ (λ c k. num-words (fieldAt s k 41) _ (λ l m. last h r c l (eqb m (length s))))))
   where
     last : (h r c l : ℕ) (t : Bool) → cond t (asked (Shape h r c l)) unreadable .words ≡ []

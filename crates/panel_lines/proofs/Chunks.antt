@@ -13,19 +13,20 @@ use borrow.Author.Tests.{le-ltb, ltb-true, ltb-false}
 use Rattle.words.proofs.Bools.{never}
 use Rattle.text.proofs.Spots.{here}
 use Rattle.panel_lines.specs.Line.{readOf}
-use Rattle.panel_lines.specs.Split.{endedLines, lastLine, someLast, lines, mostHeld, held, push, Stepped, stepped, stepOf, chunkLines, chunkHeld, runLines, runHeld, linesOfChunks, wholeOf}
+use Rattle.panel_lines.specs.Split.{endedLines, lastLine, someLast, lines, mostHeld, push, chunkLines, chunkHeld, wholeOf}
+use Rattle.panel_lines.specs.inner.Steps.{heldOf, Stepped, stepped, stepOf, runLines, runHeld, linesOfChunks}
 use Rattle.panel_lines.proofs.Cases.{read-long}
 
 -- ---- holding only 1,025 bytes changes no reading
 
-pub held-reads : (l : List ℕ) → readOf (held l) ≡ readOf l
+pub held-reads : (l : List ℕ) → readOf (heldOf l) ≡ readOf l
 held-reads l = go (ltb mostHeld (length l)) refl
   where
-    go : (t : Bool) → ltb mostHeld (length l) ≡ t → readOf (held l) ≡ readOf l
+    go : (t : Bool) → ltb mostHeld (length l) ≡ t → readOf (heldOf l) ≡ readOf l
     go true e =
         let m : mostHeld < length l = ltb-true mostHeld (length l) e in
-        let n : length (held l) ≡ mostHeld = length-take-le mostHeld l (omega arith) in
-        read-long (held l) (omega arith) ∙ sym (read-long l (omega arith))
+        let n : length (heldOf l) ≡ mostHeld = length-take-le mostHeld l (omega arith) in
+        read-long (heldOf l) (omega arith) ∙ sym (read-long l (omega arith))
     go false e = rw (take-all mostHeld l (ltb-false mostHeld (length l) e))
 
 -- ---- chunks one after another are one chunk
@@ -62,40 +63,40 @@ run-held (c ∷ cs) h = rw (held-append c (wholeOf cs) h) (run-held cs (chunkHel
 
 -- ---- one chunk gives the lines of the whole, as they are held
 
-push-held : (h : List ℕ) (b : ℕ) → push (held h) b ≡ held (h ++ (b ∷ []))
+push-held : (h : List ℕ) (b : ℕ) → push (heldOf h) b ≡ heldOf (h ++ (b ∷ []))
 unfolding push
 push-held h b = go (ltb (length h) mostHeld) refl
   where
-    go : (t : Bool) → ltb (length h) mostHeld ≡ t → cond (ltb (length (held h)) mostHeld) (held h ++ (b ∷ [])) (held h) ≡ held (h ++ (b ∷ []))
+    go : (t : Bool) → ltb (length h) mostHeld ≡ t → cond (ltb (length (heldOf h)) mostHeld) (heldOf h ++ (b ∷ [])) (heldOf h) ≡ heldOf (h ++ (b ∷ []))
     go true e =
         let l : length h < mostHeld = ltb-true (length h) mostHeld e in
         let a : length (h ++ (b ∷ [])) ≤ mostHeld = omega (arith, length-append h (b ∷ [])) in
         rw (take-all mostHeld h (omega arith), e, take-all mostHeld (h ++ (b ∷ [])) a)
     go false e =
         let l : mostHeld ≤ length h = ltb-false (length h) mostHeld e in
-        rw (le-ltb (length (held h)) mostHeld (omega (arith, length-take-le mostHeld h l)), take-append-le mostHeld h (b ∷ []) l)
+        rw (le-ltb (length (heldOf h)) mostHeld (omega (arith, length-take-le mostHeld h l)), take-append-le mostHeld h (b ∷ []) l)
 
-held-lines : (bs h : List ℕ) → chunkLines (held h) bs ≡ map held (endedLines h bs)
+held-lines : (bs h : List ℕ) → chunkLines (heldOf h) bs ≡ map heldOf (endedLines h bs)
 unfolding chunkLines endedLines
 held-lines [] h = refl
 held-lines (b ∷ bs) h = go (eqb b 10) (held-lines bs []) (held-lines bs (h ++ (b ∷ [])))
   where
-    go : (t : Bool) → chunkLines [] bs ≡ map held (endedLines [] bs) → chunkLines (held (h ++ (b ∷ []))) bs ≡ map held (endedLines (h ++ (b ∷ [])) bs)
-        → cond t (held h ∷ chunkLines [] bs) (chunkLines (push (held h) b) bs) ≡ map held (cond t (h ∷ endedLines [] bs) (endedLines (h ++ (b ∷ [])) bs))
-    go true p q = ap (λ (z : List (List ℕ)). held h ∷ z) p
+    go : (t : Bool) → chunkLines [] bs ≡ map heldOf (endedLines [] bs) → chunkLines (heldOf (h ++ (b ∷ []))) bs ≡ map heldOf (endedLines (h ++ (b ∷ [])) bs)
+        → cond t (heldOf h ∷ chunkLines [] bs) (chunkLines (push (heldOf h) b) bs) ≡ map heldOf (cond t (h ∷ endedLines [] bs) (endedLines (h ++ (b ∷ [])) bs))
+    go true p q = ap (λ (z : List (List ℕ)). heldOf h ∷ z) p
     go false p q = rw (push-held h b) q
 
-held-last : (bs h : List ℕ) → chunkHeld (held h) bs ≡ held (lastLine h bs)
+held-last : (bs h : List ℕ) → chunkHeld (heldOf h) bs ≡ heldOf (lastLine h bs)
 unfolding chunkHeld lastLine
 held-last [] h = refl
 held-last (b ∷ bs) h = go (eqb b 10) (held-last bs []) (held-last bs (h ++ (b ∷ [])))
   where
-    go : (t : Bool) → chunkHeld [] bs ≡ held (lastLine [] bs) → chunkHeld (held (h ++ (b ∷ []))) bs ≡ held (lastLine (h ++ (b ∷ [])) bs)
-        → cond t (chunkHeld [] bs) (chunkHeld (push (held h) b) bs) ≡ held (cond t (lastLine [] bs) (lastLine (h ++ (b ∷ [])) bs))
+    go : (t : Bool) → chunkHeld [] bs ≡ heldOf (lastLine [] bs) → chunkHeld (heldOf (h ++ (b ∷ []))) bs ≡ heldOf (lastLine (h ++ (b ∷ [])) bs)
+        → cond t (chunkHeld [] bs) (chunkHeld (push (heldOf h) b) bs) ≡ heldOf (cond t (lastLine [] bs) (lastLine (h ++ (b ∷ [])) bs))
     go true p q = p
     go false p q = rw (push-held h b) q
 
-some-held : (l : List ℕ) → someLast (held l) ≡ map held (someLast l)
+some-held : (l : List ℕ) → someLast (heldOf l) ≡ map heldOf (someLast l)
 unfolding someLast
 some-held [] = refl
 some-held (b ∷ bs) = refl
@@ -106,13 +107,13 @@ map-append f (x ∷ xs) ys = ap (λ (z : List (List ℕ)). f x ∷ z) (map-appen
 
 -- ---- the theorem
 
-pub chunks-make-lines : (cs : List (List ℕ)) → linesOfChunks cs ≡ map held (lines (wholeOf cs))
+pub chunks-make-lines : (cs : List (List ℕ)) → linesOfChunks cs ≡ map heldOf (lines (wholeOf cs))
 unfolding linesOfChunks lines
 chunks-make-lines cs =
     let w = wholeOf cs in
-    rw (run-lines cs [], run-held cs [], map-append held (endedLines [] w) (someLast (lastLine [] w)), ← some-held (lastLine [] w), ← held-last w [], ← held-lines w [])
+    rw (run-lines cs [], run-held cs [], map-append heldOf (endedLines [] w) (someLast (lastLine [] w)), ← some-held (lastLine [] w), ← held-last w [], ← held-lines w [])
 
-read-alike : (ls : List (List ℕ)) → map readOf (map held ls) ≡ map readOf ls
+read-alike : (ls : List (List ℕ)) → map readOf (map heldOf ls) ≡ map readOf ls
 read-alike [] = refl
 read-alike (l ∷ ls) = rw (held-reads l, read-alike ls)
 

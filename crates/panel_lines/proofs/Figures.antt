@@ -8,14 +8,15 @@ use lib.IntN.{pos, negsuc}
 use lib.Signed.{leZ}
 use Rattle.text.specs.Words.{bytesOf, isPrefix, flagDigit}
 use Rattle.text.specs.Decimals.{isDigit, numFrom, decFrom, stopped, fieldAt, decIn, dec}
-use Rattle.text.specs.Signs.{signed, negated, plain, intAt}
+use Rattle.text.specs.Signs.{signedDec, negated, unsigned, intAt}
 use Rattle.text.specs.Hex.{hexGlyph, hexDigits, isHex, nibbleOf, hexOk, hexFrom}
 use Rattle.panel_lines.specs.declared.line.Request.{Request}
 use Rattle.panel_lines.specs.declared.line.Request.the-variants.{Shape, Add, Show, Unreadable}
-use Rattle.panel_lines.specs.Line.{shapeOf, pairOkAt, allPairs, tailAt, halves, addOf, readOf}
+use Rattle.panel_lines.specs.Line.{readShape, pairOkAt, allPairs, tailAt, halves, readAdd, readOf}
 use Rattle.panel_lines.specs.Ask.{Ask, shape, add, show, Pair, pairsText, pairWords, askText, readingOf}
 use Rattle.panel_lines.specs.Answers.{okText, refusedText, flagsText, showText}
-use Rattle.panel_lines.specs.Split.{linesOfChunks, runLines, runHeld, chunkLines, chunkHeld, push, wholeOf, lines, endedLines, lastLine, someLast}
+use Rattle.panel_lines.specs.Split.{chunkLines, chunkHeld, push, wholeOf, lines, endedLines, lastLine, someLast}
+use Rattle.panel_lines.specs.inner.Steps.{linesOfChunks, runLines, runHeld}
 
 unfoldable pub same : List ℕ → List ℕ → Bool
 same [] [] = true
@@ -106,5 +107,5 @@ rows =
     ∷ []
 
 pub figures : T (allRight rows)
-unfolding allRight rows readOf shapeOf addOf tailAt allPairs pairOkAt halves fieldAt stopped decFrom numFrom isDigit intAt negated plain signed dec decIn hexDigits hexGlyph hexOk hexFrom isHex nibbleOf isPrefix askText pairsText pairWords readingOf refusedText showText flagsText flagDigit linesOfChunks runLines runHeld chunkLines chunkHeld push wholeOf lines endedLines lastLine someLast
+unfolding allRight rows readOf readShape readAdd tailAt allPairs pairOkAt halves fieldAt stopped decFrom numFrom isDigit intAt negated unsigned signedDec dec decIn hexDigits hexGlyph hexOk hexFrom isHex nibbleOf isPrefix askText pairsText pairWords readingOf refusedText showText flagsText flagDigit linesOfChunks runLines runHeld chunkLines chunkHeld push wholeOf lines endedLines lastLine someLast
 figures = tt

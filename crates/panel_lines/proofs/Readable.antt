@@ -12,7 +12,7 @@ use native.Mathlib.Omega.{arith}
 use borrow.Author.Tests.{ltb-true, ltb-false, eqb-true, eqb-false}
 use Rattle.text.specs.Words.{isPrefix}
 use Rattle.text.specs.Decimals.{dec}
-use Rattle.text.specs.Signs.{signed}
+use Rattle.text.specs.Signs.{signedDec}
 use Rattle.text.specs.Hex.{hexDigits}
 use Rattle.text.proofs.Spots.{word-reads, word-is}
 use Rattle.panel_lines.specs.declared.line.Request.the-variants.{Unreadable}
@@ -33,7 +33,7 @@ reads-back (shape h r c l) b k =
     let t = dec h ++ (32 ∷ (dec r ++ (32 ∷ (dec c ++ (32 ∷ (dec l ++ (41 ∷ []))))))) in
     read-shape (shapeWord ++ t) k (word-reads shapeWord t) ∙ shape-reads (shapeWord ++ t) h r c l (b .0) (b .1 .0) (b .1 .1 .0) (b .1 .1 .1) refl
 reads-back (add n w h ps) b k =
-    let t = dec n ++ (32 ∷ (signed w ++ (32 ∷ (hexDigits 16 h ++ (pairsText ps ++ (41 ∷ [])))))) in
+    let t = dec n ++ (32 ∷ (signedDec w ++ (32 ∷ (hexDigits 16 h ++ (pairsText ps ++ (41 ∷ [])))))) in
     read-add (addWord ++ t) k (no-shape t) (word-reads addWord t) ∙ add-reads (addWord ++ t) n w h ps (b .0) (b .1 .0) (b .1 .1 .0) (b .1 .1 .1) refl
 reads-back show b k = refl
 

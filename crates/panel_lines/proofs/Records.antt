@@ -1,5 +1,5 @@
--- What a caller of `read_line` lends on after an `add`: the first n words, n of `Request::Add`, are the record that the
--- line spells, and there are no more than a line has room for. Assumes nothing.
+-- What a caller of `read_line` passes on after an `add`: the first n words, with the n of `Request::Add`, are the record that
+-- the line spells, and there are no more than a line has room for. Assumes nothing.
 use Prim.Native.Nat.{ℕ, suc, _+_, _*_, _≤_}
 use mathlib.Core.Path.{_≡_, refl, sym, ap, _∙_}
 use mathlib.Core.List.{List, [], _∷_, _++_}
@@ -8,7 +8,7 @@ use lib.ListN.{length, take, drop, length-append}
 use lib.Seq.{sets, sets-eq, take-at}
 use native.Mathlib.Omega.{arith}
 use Rattle.text.specs.Decimals.{dec}
-use Rattle.text.specs.Signs.{signed}
+use Rattle.text.specs.Signs.{signedDec}
 use Rattle.text.specs.Hex.{hexDigits}
 use Rattle.text.proofs.Puts.{hex-length}
 use Rattle.panel_lines.specs.declared.line.Request.the-variants.{Shape, Add, Show, Unreadable}
@@ -35,8 +35,8 @@ unfolding askText
 few-pairs k w b ps h =
     let t3 = pairsText ps ++ (41 ∷ []) in
     let t2 = hexDigits 16 b ++ t3 in
-    let t1 = signed w ++ (32 ∷ t2) in
-    omega (arith, h, length-append (dec k) (32 ∷ t1), length-append (signed w) (32 ∷ t2), length-append (hexDigits 16 b) t3, hex-length 16 b, length-append (pairsText ps) (41 ∷ []), pairs-length ps)
+    let t1 = signedDec w ++ (32 ∷ t2) in
+    omega (arith, h, length-append (dec k) (32 ∷ t1), length-append (signedDec w) (32 ∷ t2), length-append (hexDigits 16 b) t3, hex-length 16 b, length-append (pairsText ps) (41 ∷ []), pairs-length ps)
 
 record Recorded (s : List ℕ) (n : ℕ) : Type 0 where
   many : length (readOf s .words) ≡ n

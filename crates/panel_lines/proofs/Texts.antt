@@ -29,8 +29,8 @@ unfolding flagsText
 flags-length [] = refl
 flags-length (f ∷ fs) = omega (arith, flags-length fs)
 
-item-length : (i n : ℕ) (w : List ℕ) → i + length w + 16 ≡ i + length (w ++ hexDigits 16 n)
-item-length i n w = omega (arith, length-append w (hexDigits 16 n), hex-length 16 n)
+field-length : (i n : ℕ) (w : List ℕ) → i + length w + 16 ≡ i + length (w ++ hexDigits 16 n)
+field-length i n w = omega (arith, length-append w (hexDigits 16 n), hex-length 16 n)
 
 regroup : (w h x i y j z f e : List ℕ) → (((((w ++ h) ++ (x ++ i)) ++ (y ++ j)) ++ z) ++ f) ++ e ≡ w ++ (h ++ (x ++ (i ++ (y ++ (j ++ (z ++ (f ++ e)))))))
 regroup w h x i y j z f e = simp append-assoc
@@ -62,9 +62,9 @@ show-put l o p q r s t h i j k m n u v w x y a b c fs z e eo eh ep ei eq ej er e
     let A = u ++ hexDigits 16 a in
     let B = v ++ hexDigits 16 b in
     let C = w ++ hexDigits 16 c in
-    let a1 = joined l l o 0 h [] A (refl, refl) eo (eh ∙ item-length 0 a u) in
-    let a2 = joined l o p h i A B a1 ep (ei ∙ item-length h b v) in
-    let a3 = joined l p q i j (A ++ B) C a2 eq (ej ∙ item-length i c w) in
+    let a1 = joined l l o 0 h [] A (refl, refl) eo (eh ∙ field-length 0 a u) in
+    let a2 = joined l o p h i A B a1 ep (ei ∙ field-length h b v) in
+    let a3 = joined l p q i j (A ++ B) C a2 eq (ej ∙ field-length i c w) in
     let a4 = joined l q r j k ((A ++ B) ++ C) x a3 er ek in
     let a5 = joined l r s k m (((A ++ B) ++ C) ++ x) (flagsText fs) a4 es (em ∙ rw (flags-length fs)) in
     let a6 = joined l s t m n ((((A ++ B) ++ C) ++ x) ++ flagsText fs) y a5 et en in

@@ -18,7 +18,7 @@ unfoldable pub flagsText : List Bool → List ℕ
 flagsText [] = []
 flagsText (f ∷ fs) = 32 ∷ (flagDigit f ∷ flagsText fs)
 
--- the bytes of what `show` gives of so many flags
+-- how many bytes the answer to `show` has with n flags
 abbrev pub showBytes : ℕ → ℕ
 showBytes n = 82 + 2 * n
 

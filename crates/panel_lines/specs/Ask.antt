@@ -6,7 +6,7 @@ use lib.IntN.{ℤ}
 use lib.ListN.{length}
 use Rattle.text.specs.Words.{bytesOf}
 use Rattle.text.specs.Decimals.{dec, Word}
-use Rattle.text.specs.Signs.{signed, SignedWord}
+use Rattle.text.specs.Signs.{signedDec, SignedWord}
 use Rattle.text.specs.Hex.{hexDigits}
 use Rattle.panel_lines.specs.declared.line.Request.the-variants.{Shape, Add, Show, Unreadable}
 use Rattle.panel_lines.specs.Line.{longestLine, Reading, asked, readOf}
@@ -30,7 +30,7 @@ pairsText (p ∷ ps) = bytesOf " (" ++ (hexDigits 16 (p .high) ++ (32 ∷ (hexDi
 -- `(shape HEAP ROWS COLS LAYERS)`, `(add KEY WEIGHT BOTTOM (HI LO) ..)`, `(show)`; 32 is a space, 41 the closing bracket
 unfoldable pub askText : Ask → List ℕ
 askText (shape h r c l) = bytesOf "(shape " ++ (dec h ++ (32 ∷ (dec r ++ (32 ∷ (dec c ++ (32 ∷ (dec l ++ (41 ∷ []))))))))
-askText (add k w b ps) = bytesOf "(add " ++ (dec k ++ (32 ∷ (signed w ++ (32 ∷ (hexDigits 16 b ++ (pairsText ps ++ (41 ∷ [])))))))
+askText (add k w b ps) = bytesOf "(add " ++ (dec k ++ (32 ∷ (signedDec w ++ (32 ∷ (hexDigits 16 b ++ (pairsText ps ++ (41 ∷ [])))))))
 askText show = bytesOf "(show)"
 
 abbrev pub PairsIn : List Pair → Type 0

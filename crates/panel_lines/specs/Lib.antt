@@ -1,4 +1,5 @@
-pub mod Line
-pub mod Ask
 pub mod Answers
+pub mod Ask
+pub mod Line
 pub mod Split
+pub mod inner

@@ -62,8 +62,8 @@ abbrev pub thenTail : Tail → (ℕ → Reading) → Reading
 thenTail (T.Pairs n) next = next n
 thenTail T.Bad next = unreadable
 
-unfoldable pub shapeOf : List ℕ → Reading
-shapeOf s =
+unfoldable pub readShape : List ℕ → Reading
+readShape s =
     thenNum (fieldAt s 7 32) (λ heap i.
     thenNum (fieldAt s i 32) (λ rows j.
     thenNum (fieldAt s j 32) (λ cols k.
@@ -101,8 +101,8 @@ unfoldable pub halves : List ℕ → ℕ → ℕ → List ℕ
 halves s i zero = []
 halves s i (suc n) = hexAt s (i + 2) ∷ (hexAt s (i + 19) ∷ halves s (i + 36) n)
 
-unfoldable pub addOf : List ℕ → Reading
-addOf s =
+unfoldable pub readAdd : List ℕ → Reading
+readAdd s =
     thenNum (fieldAt s 5 32) (λ key i.
     thenInt (intAt s i 32) (λ weight j.
     cond (not (hexOkAt s j)) unreadable
@@ -114,7 +114,7 @@ addOf s =
 unfoldable pub readOf : List ℕ → Reading
 readOf s =
     cond (ltb longestLine (length s)) unreadable
-    (cond (isPrefix shapeWord s) (shapeOf s)
-    (cond (isPrefix addWord s) (addOf s)
+    (cond (isPrefix shapeWord s) (readShape s)
+    (cond (isPrefix addWord s) (readAdd s)
     (cond (not (eqb (length s) 6)) unreadable
     (cond (isPrefix showWord s) (asked Show) unreadable))))

@@ -1,9 +1,9 @@
 -- Input and its lines: a byte 10 ends a line. proofs/Chunks.antt shows that chunks make up the same lines as the whole.
 use mathlib.Core.List.{List, [], _∷_, _++_}
-use mathlib.Core.Bool.{Bool, true, false, cond}
-use Prim.Native.Nat.{ℕ, suc, _+_}
+use mathlib.Core.Bool.{cond}
+use Prim.Native.Nat.{ℕ, _+_}
 use lib.Dec.{eqb, ltb}
-use lib.ListN.{length, take}
+use lib.ListN.{length}
 use Rattle.panel_lines.specs.Line.{longestLine}
 
 -- ---- the whole input
@@ -32,26 +32,9 @@ lines bs = endedLines [] bs ++ someLast (lastLine [] bs)
 abbrev pub mostHeld : ℕ
 mostHeld = longestLine + 1
 
-abbrev pub held : List ℕ → List ℕ
-held l = take mostHeld l
-
 -- one more byte
 unfoldable pub push : List ℕ → ℕ → List ℕ
 push h b = cond (ltb (length h) mostHeld) (h ++ (b ∷ [])) h
-
--- the bytes of the line that are held, the place in the chunk, and whether the line ended
-pub record Stepped : Type 0 where
-  pub bytes : List ℕ
-  pub next : ℕ
-  pub ended : Bool
-
-abbrev pub stepped : List ℕ → ℕ → Bool → Stepped
-stepped h i e = record { bytes = h; next = i; ended = e }
-
--- up to a newline or the chunk's end; the bytes h were held before, and the list starts at place i
-unfoldable pub stepOf : List ℕ → ℕ → List ℕ → Stepped
-stepOf h i [] = stepped h i false
-stepOf h i (b ∷ bs) = cond (eqb b 10) (stepped h (suc i) true) (stepOf (push h b) (suc i) bs)
 
 -- the lines that end in a chunk, as they are held, and what is held after it
 unfoldable pub chunkLines : List ℕ → List ℕ → List (List ℕ)
@@ -61,19 +44,6 @@ chunkLines h (b ∷ bs) = cond (eqb b 10) (h ∷ chunkLines [] bs) (chunkLines (
 unfoldable pub chunkHeld : List ℕ → List ℕ → List ℕ
 chunkHeld h [] = h
 chunkHeld h (b ∷ bs) = cond (eqb b 10) (chunkHeld [] bs) (chunkHeld (push h b) bs)
-
--- one chunk after another
-unfoldable pub runLines : List ℕ → List (List ℕ) → List (List ℕ)
-runLines h [] = []
-runLines h (c ∷ cs) = chunkLines h c ++ runLines (chunkHeld h c) cs
-
-unfoldable pub runHeld : List ℕ → List (List ℕ) → List ℕ
-runHeld h [] = h
-runHeld h (c ∷ cs) = runHeld (chunkHeld h c) cs
-
--- all lines, the last one too
-unfoldable pub linesOfChunks : List (List ℕ) → List (List ℕ)
-linesOfChunks cs = runLines [] cs ++ someLast (runHeld [] cs)
 
 -- the input that the chunks make up
 unfoldable pub wholeOf : List (List ℕ) → List ℕ

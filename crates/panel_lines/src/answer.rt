@@ -53,7 +53,7 @@ fn put_flags(out: &mut [u8], at: usize, flags: &[bool]) -> usize
 }
 
 // A word and a hexadecimal number.
-fn put_item(out: &mut [u8], at: usize, word: &[u8], n: u64) -> usize
+fn put_field(out: &mut [u8], at: usize, word: &[u8], n: u64) -> usize
     requires { ⌜ at + length (now word) + 16 ≤ length (now out) ⌝ }
     ensures { λ r. ⌜ r ≡ at + length (now (word .entry)) + 16 ⌝ }
     ensures { λ _. ⌜ now (out .exit) ≡ sets (now (out .entry)) at (now (word .entry) ++ hexDigits 16 n) ⌝ }
@@ -69,9 +69,9 @@ pub fn put_show(out: &mut [u8], l1: u64, l2: u64, keys: u64, flags: &[bool]) -> 
     ensures { λ _. ⌜ now (out .exit) ≡ sets (now (out .entry)) 0 (showText l1 l2 keys (now (flags .entry))) ⌝ }
     ensures { λ r. ⌜ r ≡ showBytes (length (now (flags .entry))) ⌝ }
 {
-    let a = put_item(out, 0, b"(show (l1 ", l1);
-    let b = put_item(out, a, b") (l2 ", l2);
-    let c = put_item(out, b, b") (keys ", keys);
+    let a = put_field(out, 0, b"(show (l1 ", l1);
+    let b = put_field(out, a, b") (l2 ", l2);
+    let c = put_field(out, b, b") (keys ", keys);
     let d = put_word(out, c, b") (flags");
     let e = put_flags(out, d, flags);
     put_word(out, e, b"))")

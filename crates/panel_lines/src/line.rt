@@ -11,7 +11,7 @@ ghost use mathlib.Core.Bool.{Bool};
 ghost use Prim.Native.Nat.{ℕ, _+_, _*_, _≤_};
 ghost use lib.ListN.{length};
 ghost use lib.Seq.{sets};
-ghost use Rattle.panel_lines.specs.Line.{longestLine, lineWords, pairOkAt, allPairs, tailAt, halves, shapeOf, addOf, readOf};
+ghost use Rattle.panel_lines.specs.Line.{longestLine, lineWords, pairOkAt, allPairs, tailAt, halves, readShape, readAdd, readOf};
 
 // The bytes of the longest line that is read, its newline not counted.
 pub const LONGEST_LINE: usize = 1024;
@@ -114,7 +114,7 @@ fn fill(s: &[u8], at: usize, n: usize, words: &mut [u64])
 
 // A line that begins with `(shape `.
 fn shape_line(s: &[u8]) -> Request
-    ensures { λ r. ⌜ r ≡ shapeOf (now (s .entry)) .request ⌝ }
+    ensures { λ r. ⌜ r ≡ readShape (now (s .entry)) .request ⌝ }
 {
     let a = field(s, 7, b' ');
     let Num::At(heap, i) = a else {
@@ -142,8 +142,8 @@ fn shape_line(s: &[u8]) -> Request
 fn add_line(s: &[u8], words: &mut [u64]) -> Request
     requires { ⌜ length (now s) ≤ longestLine ⌝ }
     requires { ⌜ lineWords ≤ length (now words) ⌝ }
-    ensures { λ r. ⌜ r ≡ addOf (now (s .entry)) .request ⌝ }
-    ensures { λ _. ⌜ now (words .exit) ≡ sets (now (words .entry)) 0 (addOf (now (s .entry)) .words) ⌝ }
+    ensures { λ r. ⌜ r ≡ readAdd (now (s .entry)) .request ⌝ }
+    ensures { λ _. ⌜ now (words .exit) ≡ sets (now (words .entry)) 0 (readAdd (now (s .entry)) .words) ⌝ }
 {
     let a = field(s, 5, b' ');
     let Num::At(key, i) = a else {

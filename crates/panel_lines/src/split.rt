@@ -2,7 +2,8 @@
 ghost use mathlib.Core.Path.{_≡_};
 ghost use Prim.Native.Nat.{ℕ, min, _+_, _≤_};
 ghost use lib.ListN.{length, take, drop};
-ghost use Rattle.panel_lines.specs.Split.{mostHeld, stepped, stepOf, push};
+ghost use Rattle.panel_lines.specs.Split.{mostHeld, push};
+ghost use Rattle.panel_lines.specs.inner.Steps.{stepped, stepOf};
 use crate::line::LONGEST_LINE;
 
 // The bytes that are held of a line: one more than a line may have, so that a longer one is known to be

@@ -21,7 +21,7 @@ use Rattle.heap_moves.specs.Flat.{candsOf, entriesOf}
 use Rattle.heap.specs.Offer.{find, seat, offer}
 use Rattle.header.specs.Header.{zeroHeader, freshHeader, beginOf, lensFrom, headerOk}
 use Rattle.header.specs.Shape.{shapeRefusal, bottomFrom, bottomOf}
-use Rattle.layer.specs.Merge.{whos}
+use Rattle.layer.specs.Merge.{items}
 use Rattle.layer.specs.Layer.{addSketch, addLayer, addReads, addFits}
 use Rattle.univmon.specs.Calls.{updateCall}
 use Rattle.layout.specs.Slices.{Lent, lent, lengthsOk, view, flat, freshLent}
@@ -31,13 +31,13 @@ use Rattle.sums.specs.Layers.{gSum, standardSum}
 use Rattle.sums.specs.Terms.{gOf, factor, counted, addTerm, sumOver}
 use Rattle.estimates.specs.Calls.{l1Call, l2Call, sumCall, panelCall}
 use Rattle.estimates.specs.Norms.{l2OfState}
-use Rattle.estimates.specs.Sums.{ownAt, gSumOf, whosRead, layerReads}
+use Rattle.estimates.specs.Sums.{ownAt, gSumOf, itemsRead, layerReads}
 use Rattle.text.specs.Decimals.{decIn, dec, isDigit, numFrom, decFrom, stopped, fieldAt}
 use Rattle.text.specs.Hex.{hexGlyph, hexDigits, isHex, nibbleOf, hexOk, hexFrom}
-use Rattle.text.specs.Signs.{negated, plain, intAt}
+use Rattle.text.specs.Signs.{negated, unsigned, intAt}
 use Rattle.text.specs.Words.{bytesOf, isPrefix, flagDigit}
 use Rattle.panel_lines.specs.Answers.{refusedText, flagsText, showText}
-use Rattle.panel_lines.specs.Line.{shapeOf, pairOkAt, allPairs, tailAt, halves, addOf, readOf}
+use Rattle.panel_lines.specs.Line.{readShape, pairOkAt, allPairs, tailAt, halves, readAdd, readOf}
 use Rattle.panel_lines.proofs.Figures.{same}
 use Rattle.panel_step.specs.Panel.{roomy, panelRefusal, shapeCall, addCall, panelText, showLine, replyText, answerTo, answerLine, answersOf}
 
@@ -51,7 +51,7 @@ unfolding same empty
 answered ls t = same (answersOf empty (map bytesOf ls) .text) (bytesOf t)
 
 pub before-shape : T (answered ("(show)" ∷ ("(add 7 5 0000000000000000)" ∷ ("(ad" ∷ []))) "(refused 13)\n(refused 13)\n(refused 13)\n")
-unfolding answered empty same answersOf answerLine answerTo addCall showLine replyText panelRefusal shapeRefusal refusedText readOf shapeOf addOf tailAt allPairs pairOkAt halves fieldAt stopped decFrom numFrom isDigit intAt negated plain dec decIn hexOk hexFrom isHex nibbleOf isPrefix
+unfolding answered empty same answersOf answerLine answerTo addCall showLine replyText panelRefusal shapeRefusal refusedText readOf readShape readAdd tailAt allPairs pairOkAt halves fieldAt stopped decFrom numFrom isDigit intAt negated unsigned dec decIn hexOk hexFrom isHex nibbleOf isPrefix
 before-shape = tt
 
 pub sample : T (answered
@@ -59,5 +59,5 @@ pub sample : T (answered
     ∷ ("(add 7 5 0000000000000000 (8000000000000000 0000000000000006) (0000000000000000 0000000000000000))"
     ∷ ("(show)" ∷ [])))
     "(ok)\n(ok)\n(show (l1 4014000000000000) (l2 4014000000000000) (keys 3FF0000000000000) (flags 1 1))\n")
-unfolding answered empty same answersOf answerLine answerTo shapeCall addCall panelText showLine replyText roomy panelRefusal shapeRefusal showText flagsText flagDigit hexDigits hexGlyph readOf shapeOf addOf tailAt allPairs pairOkAt halves fieldAt stopped decFrom numFrom isDigit intAt plain hexOk hexFrom isHex nibbleOf isPrefix inRange capped allIn normRead rootAt rootBits root log2In log2 maskBits hashOf column insertBy sortBy middleF median estimates estimateOf cellsInRange l2Squared l2Of normsInRange sumBelow normsOf addCell addRows rowsRead rowsFit candsOf find seat offer beginOf lensFrom headerOk bottomFrom bottomOf addSketch addLayer addReads addFits updateCall lengthsOk view flat freshLent cellOff normOff candOff layerAt putLayer overLayers allLayers updateTests updated gSum standardSum gOf counted addTerm sumOver l1Call l2Call sumCall panelCall l2OfState ownAt gSumOf whosRead layerReads whos toBits ofInt ofBits add sub mul div rowsAt colsAt freshHeader signed wordsOf entriesOf up middle le factor
+unfolding answered empty same answersOf answerLine answerTo shapeCall addCall panelText showLine replyText roomy panelRefusal shapeRefusal showText flagsText flagDigit hexDigits hexGlyph readOf readShape readAdd tailAt allPairs pairOkAt halves fieldAt stopped decFrom numFrom isDigit intAt unsigned hexOk hexFrom isHex nibbleOf isPrefix inRange capped allIn normRead rootAt rootBits root log2In log2 maskBits hashOf column insertBy sortBy middleF median estimates estimateOf cellsInRange l2Squared l2Of normsInRange sumBelow normsOf addCell addRows rowsRead rowsFit candsOf find seat offer beginOf lensFrom headerOk bottomFrom bottomOf addSketch addLayer addReads addFits updateCall lengthsOk view flat freshLent cellOff normOff candOff layerAt putLayer overLayers allLayers updateTests updated gSum standardSum gOf counted addTerm sumOver l1Call l2Call sumCall panelCall l2OfState ownAt gSumOf itemsRead layerReads items toBits ofInt ofBits add sub mul div rowsAt colsAt freshHeader signed wordsOf entriesOf up middle le factor
 sample = tt

@@ -10,11 +10,10 @@ use Rattle.header.specs.declared.Shape.{Shape}
 use Rattle.header.specs.declared.Header.{Header}
 use Rattle.header.specs.Shape.{shapeRefusal}
 use Rattle.univmon.specs.declared.Kind.the-variants as kind
-use Rattle.layout.specs.Slices.{Lent, lent, cellsIn, normsIn, candsIn, lengthsOk, freshLent}
+use Rattle.layout.specs.Slices.{Lent, lent, cellsIn, normsIn, candsIn, lengthsOk, freshLent, extentOf}
 use Rattle.layout.specs.Outcomes.{Outcome, Left, left, leftBy}
 use Rattle.univmon.specs.Calls.{newCall, updateCall}
 use Rattle.layout.specs.declared.Extent.{Extent}
-use Rattle.layout.specs.Spans.{extentOf}
 use Rattle.panel_step.specs.Panel.{inUse, putBack, refusalIn, shapeCall, backBy, addCall}
 use Rattle.panel_step.proofs.Rooms.{Fit, fit-of}
 
@@ -32,7 +31,7 @@ pub not-started : (r : Lent) (sh : Shape) (n : ℕ) → n ≡ refusalIn r sh →
 unfolding shapeCall
 not-started r sh n e k = rw (← e, ne-eqb n 0 k)
 
--- a fresh state in parts of just its lengths
+-- `new` in front parts of just the shape's lengths leaves a fresh state
 fresh-in : (r : Lent) (sh : Shape) → Fit sh (length (r .counters)) (length (r .norms)) (length (r .entries)) (length (r .counts))
     → newCall sh (take (cellsIn sh) (r .counters)) (take (2 * normsIn sh) (r .norms)) (take (4 * candsIn sh) (r .entries)) (take (candsIn sh) (r .counts)) ≡ left 0 (freshLent sh)
 unfolding newCall lengthsOk

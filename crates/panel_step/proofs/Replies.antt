@@ -11,7 +11,7 @@ use lib.Ieee.{binary64, toBits}
 use Rattle.text.proofs.Puts.{joined}
 use Rattle.header.specs.declared.Shape.{Shape}
 use Rattle.header.specs.declared.Header.{Header}
-use Rattle.layout.specs.Slices.{Lent}
+use Rattle.layout.specs.Slices.{Lent, extentOf}
 use Rattle.layout.specs.Outcomes.{Left, left}
 use Rattle.estimates.specs.declared.PanelAnswer.{PanelAnswer}
 use Rattle.estimates.specs.Calls.{panelCall}
@@ -20,9 +20,8 @@ use Rattle.panel_lines.specs.declared.line.Request.the-variants as ask
 use Rattle.panel_lines.specs.Line.{readOf}
 use Rattle.panel_lines.specs.Answers.{okText, refusedText, showText}
 use Rattle.layout.specs.declared.Extent.{Extent}
-use Rattle.layout.specs.Spans.{extentOf}
 use Rattle.panel_step.proofs.Fronts.{partsIn}
-use Rattle.panel_step.specs.Panel.{refusalIn, shapeCall, addCall, panelText, showLine, Answer, answer, replyText, replied, answerTo, answerLine, Found, found, put, longest, answerWithin}
+use Rattle.panel_step.specs.Panel.{refusalIn, shapeCall, addCall, panelText, showLine, Reply, reply, replyText, replied, answerTo, answerLine, Found, found, put, longest, answerWithin}
 
 -- a text and a newline behind it
 pub ended : (l o p : List ℕ) (i j : ℕ) (a : List ℕ) → o ≡ sets l 0 a → i ≡ length a → p ≡ sets o i (10 ∷ []) → j ≡ i + 1 → (j ≡ length (a ++ (10 ∷ []))) × (p ≡ sets l 0 (a ++ (10 ∷ [])))
@@ -40,7 +39,7 @@ reply-no n k = rw (ne-eqb n 0 k)
 pub reply-put : (l k : Left) (n : ℕ) (o p : List ℕ) → l ≡ k → n ≡ length (replyText (l .refusal) ++ (10 ∷ [])) → p ≡ sets o 0 (replyText (l .refusal) ++ (10 ∷ [])) → found (l .lends) n p ≡ put (replied k) o
 reply-put l k n o p e en ep = rw (← e, en, ep)
 
-pub text-put : (r : Lent) (t : List ℕ) (n : ℕ) (o p : List ℕ) → n ≡ length (t ++ (10 ∷ [])) → p ≡ sets o 0 (t ++ (10 ∷ [])) → found r n p ≡ put (answer r t) o
+pub text-put : (r : Lent) (t : List ℕ) (n : ℕ) (o p : List ℕ) → n ≡ length (t ++ (10 ∷ [])) → p ≡ sets o 0 (t ++ (10 ∷ [])) → found r n p ≡ put (reply r t) o
 text-put r t n o p en ep = rw (en, ep)
 
 -- ---- show
@@ -81,7 +80,7 @@ pub asks-add : (r : Lent) (w : ℤ) (n : ℕ) (words : List ℕ) → replied (ad
 unfolding answerTo
 asks-add r w n words = refl
 
-pub asks-show : (r : Lent) (words : List ℕ) → answer r (showLine r) ≡ answerTo r ask.Show words
+pub asks-show : (r : Lent) (words : List ℕ) → reply r (showLine r) ≡ answerTo r ask.Show words
 unfolding answerTo
 asks-show r words = refl
 
@@ -92,7 +91,7 @@ asks-nothing r words = refl
 -- an add, of what the line spells
 pub line-added : (r : Lent) (line o : List ℕ) (w v : ℤ) (n : ℕ) (words : List ℕ) (f : Found) → longest ≤ length o → readOf line .request ≡ ask.Add w n → v ≡ w → words ≡ readOf line .words
     → f ≡ put (replied (addCall r words v)) o → f ≡ put (answerWithin (length o) r line) o
-line-added r line o w v n words f h e i j k = k ∙ rw (i, j) (ap (λ (a : Answer). put a o) (asks-add r w n (readOf line .words)) ∙ line-put r line o (ask.Add w n) h (sym e))
+line-added r line o w v n words f h e i j k = k ∙ rw (i, j) (ap (λ (a : Reply). put a o) (asks-add r w n (readOf line .words)) ∙ line-put r line o (ask.Add w n) h (sym e))
 
 -- ---- an array's length, as its type gives it
 

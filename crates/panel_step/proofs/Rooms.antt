@@ -10,8 +10,7 @@ use Rattle.header.specs.declared.Shape.{Shape}
 use Rattle.matrix_storage.specs.Bits.{maxRows}
 use Rattle.header.specs.Shape.{maxLayers, shapeRefusal}
 use Rattle.header.proofs.Refusals.{accepted-of}
-use Rattle.layout.specs.Slices.{cellsIn, normsIn, candsIn}
-use Rattle.layout.specs.Spans.{extentOf}
+use Rattle.layout.specs.Slices.{cellsIn, normsIn, candsIn, extentOf}
 use Rattle.layout.proofs.Offsets.{norms-bound}
 use Rattle.panel_step.specs.Panel.{maxCounters, maxCandidates, roomy, panelRefusal, paperRefusal}
 

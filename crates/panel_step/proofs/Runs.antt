@@ -10,14 +10,15 @@ use lib.Seq.{sets, sets-eq, drop-drop, take-all}
 use Rattle.text.proofs.Puts.{sets-append}
 use Rattle.layout.specs.Slices.{Lent}
 use Rattle.panel_lines.specs.Line.{Reading}
-use Rattle.panel_lines.specs.Split.{held, someLast, chunkLines, chunkHeld, runLines, runHeld, linesOfChunks, lines, wholeOf}
+use Rattle.panel_lines.specs.Split.{someLast, chunkLines, chunkHeld, lines, wholeOf}
+use Rattle.panel_lines.specs.inner.Steps.{heldOf, runLines, runHeld, linesOfChunks}
 use Rattle.panel_lines.proofs.Chunks.{held-reads, chunks-make-lines}
-use Rattle.panel_step.specs.Panel.{Answer, answerTo, answerLine, answersOf, Found, found, put, behind, longest, answerWithin, runOf}
+use Rattle.panel_step.specs.Panel.{Reply, answerTo, answerLine, answersOf, Found, found, put, behind, longest, answerWithin, runOf}
 
 -- ---- answers behind each other in a slice
 
 -- at the start
-pub first-behind : (a : Answer) (o : List ℕ) → behind 0 a o ≡ put a o
+pub first-behind : (a : Reply) (o : List ℕ) → behind 0 a o ≡ put a o
 first-behind a o = let z : 0 + length (a .text) ≡ length (a .text) = omega arith in rw z
 
 -- no line is left
@@ -38,7 +39,7 @@ more-behind r t l ls ms n m o p e f =
     let z : n + length (a .text) + length (b .text) ≡ n + length (a .text ++ b .text) = omega (arith, length-append (a .text) (b .text)) in
     rw (e, i, j, k, z, sets-append o n (a .text) (b .text))
 
--- an answer at the start of a slice's end stands from there on in the slice
+-- a text that is put at the start of the part behind place n stands from place n on in the whole slice
 pub end-put : (o t : List ℕ) (n : ℕ) → n + length t ≤ length o → take n o ++ sets (drop n o) 0 t ≡ sets o n t
 end-put o t n h =
     let l : 0 + length t ≤ length (drop n o) = omega (arith, length-drop n o) in
@@ -64,7 +65,7 @@ reply-is r t l o q at n m h e k f =
 
 -- ---- lines in two lists
 
-abbrev then : Answer → Answer → Answer
+abbrev then : Reply → Reply → Reply
 then a b = record { lends = b .lends; text = a .text ++ b .text }
 
 answers-append : (r : Lent) (ls ms : List (List ℕ)) → answersOf r (ls ++ ms) ≡ then (answersOf r ls) (answersOf (answersOf r ls .lends) ms)
@@ -77,11 +78,11 @@ answers-append r (l ∷ ls) ms =
     rw (answers-append (a .lends) ls ms, append-assoc (a .text) (b .text) (c .text))
 
 -- a line that is held to its first 1,025 bytes is answered as the whole
-held-answer : (r : Lent) (l : List ℕ) → answerLine r (held l) ≡ answerLine r l
+held-answer : (r : Lent) (l : List ℕ) → answerLine r (heldOf l) ≡ answerLine r l
 unfolding answerLine
 held-answer r l = ap (λ (x : Reading). answerTo r (x .request) (x .words)) (held-reads l)
 
-held-answers : (r : Lent) (ls : List (List ℕ)) → answersOf r (map held ls) ≡ answersOf r ls
+held-answers : (r : Lent) (ls : List (List ℕ)) → answersOf r (map heldOf ls) ≡ answersOf r ls
 unfolding answersOf
 held-answers r [] = refl
 held-answers r (l ∷ ls) = rw (held-answer r l, held-answers (answerLine r l .lends) ls)

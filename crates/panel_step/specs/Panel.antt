@@ -13,8 +13,7 @@ use Rattle.header.specs.declared.Header.{Header}
 use Rattle.header.specs.Shape.{maxLayers, shapeRefusal}
 use Rattle.univmon.specs.declared.Kind.the-variants as kind
 use Rattle.layout.specs.declared.Extent.{Extent}
-use Rattle.layout.specs.Slices.{Lent, lent, cellsIn, candsIn, freshLent}
-use Rattle.layout.specs.Spans.{extentOf}
+use Rattle.layout.specs.Slices.{Lent, lent, cellsIn, candsIn, freshLent, extentOf}
 use Rattle.layout.specs.Outcomes.{Outcome, Left, left, leftBy}
 use Rattle.univmon.specs.Calls.{updateCall}
 use Rattle.estimates.specs.declared.PanelAnswer.{PanelAnswer}
@@ -33,7 +32,7 @@ inUse r =
     let e : Extent = extentOf (r .head .shape) in
     lent (r .head) (take (e .cells) (r .counters)) (take (e .norms) (r .norms)) (take (e .words) (r .entries)) (take (e .seats) (r .counts))
 
--- what a call on parts of that extent left, before the rest of the slices
+-- what a call left of the front parts of that extent, with the rest of the slices behind it
 abbrev pub putBack : Extent → Lent → Lent → Lent
 putBack e r t =
     lent (t .head) (t .counters ++ drop (e .cells) (r .counters)) (t .norms ++ drop (e .norms) (r .norms))
@@ -48,7 +47,7 @@ maxCounters = 4096
 abbrev pub maxCandidates : ℕ
 maxCandidates = 512
 
--- the slices have room for it
+-- slices of these lengths have room for the extent
 unfoldable pub roomy : Extent → ℕ → ℕ → ℕ → ℕ → Bool
 roomy e xs ws es ns = leb (e .cells) xs && (leb (e .norms) ws && (leb (e .words) es && leb (e .seats) ns))
 
@@ -73,7 +72,7 @@ refusalIn r sh = panelRefusal sh (length (r .counters)) (length (r .norms)) (len
 unfoldable pub shapeCall : Lent → Shape → Left
 shapeCall r sh = cond (eqb (refusalIn r sh) 0) (left 0 (putBack (extentOf sh) r (freshLent sh))) (left (refusalIn r sh) r)
 
--- 13 "before a shape": the header has none that would be accepted
+-- the header has a shape that is accepted in these slices; where not, 13 "before a shape"
 abbrev pub started : Lent → Bool
 started r = eqb (refusalIn r (r .head .shape)) 0
 
@@ -101,36 +100,36 @@ showLine r = cond (started r) (panelText (r .head) (panelCall (inUse r))) (refus
 -- ---- "reads lines and answers each line with one; refusal N is `(refused N)`"
 
 -- the state after a line, and the answer's bytes with its newline
-pub record Answer : Type 0 where
+pub record Reply : Type 0 where
   pub lends : Lent
   pub text : List ℕ
 
-abbrev pub answer : Lent → List ℕ → Answer
-answer r t = record { lends = r; text = t ++ (10 ∷ []) }
+abbrev pub reply : Lent → List ℕ → Reply
+reply r t = record { lends = r; text = t ++ (10 ∷ []) }
 
 -- `(ok)` for 0
 unfoldable pub replyText : ℕ → List ℕ
 replyText n = cond (eqb n 0) okText (refusedText n)
 
-abbrev pub replied : Left → Answer
-replied l = answer (l .lends) (replyText (l .refusal))
+abbrev pub replied : Left → Reply
+replied l = reply (l .lends) (replyText (l .refusal))
 
 -- "In the program 13 comes first.": an unreadable line looks at nothing else, and without a shape `add` and `show` do not either
-unfoldable pub answerTo : Lent → Request → List ℕ → Answer
+unfoldable pub answerTo : Lent → Request → List ℕ → Reply
 answerTo r (ask.Shape heap rows cols layers) words = replied (shapeCall r (record { «heap_size» = heap; rows = rows; cols = cols; layers = layers }))
 answerTo r (ask.Add weight n) words = replied (addCall r words weight)
-answerTo r ask.Show words = answer r (showLine r)
+answerTo r ask.Show words = reply r (showLine r)
 answerTo r ask.Unreadable words = replied (left 13 r)
 
-unfoldable pub answerLine : Lent → List ℕ → Answer
+unfoldable pub answerLine : Lent → List ℕ → Reply
 answerLine r line = answerTo r (readOf line .request) (readOf line .words)
 
 -- lines one after another
-unfoldable pub answersOf : Lent → List (List ℕ) → Answer
+unfoldable pub answersOf : Lent → List (List ℕ) → Reply
 answersOf r [] = record { lends = r; text = [] }
 answersOf r (l ∷ ls) =
-    let a : Answer = answerLine r l in
-    let b : Answer = answersOf (a .lends) ls in
+    let a : Reply = answerLine r l in
+    let b : Reply = answersOf (a .lends) ls in
     record { lends = b .lends; text = a .text ++ b .text }
 
 -- ---- an answer is put into a lent slice
@@ -145,11 +144,11 @@ abbrev pub found : Lent → ℕ → List ℕ → Found
 found r n o = record { lends = r; len = n; out = o }
 
 -- from the slice's start on; what is past the answer stays
-abbrev pub put : Answer → List ℕ → Found
+abbrev pub put : Reply → List ℕ → Found
 put a o = found (a .lends) (length (a .text)) (sets o 0 (a .text))
 
 -- from a place on, where answers stand before it
-abbrev pub behind : ℕ → Answer → List ℕ → Found
+abbrev pub behind : ℕ → Reply → List ℕ → Found
 behind at a o = found (a .lends) (at + length (a .text)) (sets o at (a .text))
 
 -- `(show ..)` of the most layers, and a newline
@@ -157,15 +156,15 @@ abbrev pub longest : ℕ
 longest = showBytes maxLayers + 1
 
 -- nothing is done where the longest answer has no room
-unfoldable pub answerWithin : ℕ → Lent → List ℕ → Answer
+unfoldable pub answerWithin : ℕ → Lent → List ℕ → Reply
 answerWithin room r line = cond (ltb room longest) (record { lends = r; text = [] }) (answerLine r line)
 
 -- ---- the whole input, in chunks as they are read
 
 -- The lines that end in a chunk are answered, and what is held of the next one goes on to the next chunk; "The last line needs no newline."
-unfoldable pub runOf : Lent → List ℕ → List (List ℕ) → Answer
+unfoldable pub runOf : Lent → List ℕ → List (List ℕ) → Reply
 runOf r held [] = answersOf r (someLast held)
 runOf r held (c ∷ cs) =
-    let a : Answer = answersOf r (chunkLines held c) in
-    let b : Answer = runOf (a .lends) (chunkHeld held c) cs in
+    let a : Reply = answersOf r (chunkLines held c) in
+    let b : Reply = runOf (a .lends) (chunkHeld held c) cs in
     record { lends = b .lends; text = a .text ++ b .text }

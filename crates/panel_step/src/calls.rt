@@ -11,12 +11,12 @@ ghost use Prim.Native.Nat.{ℕ, _≤_};
 ghost use lib.ListN.{length};
 ghost use lib.Seq.{sets};
 ghost use Rattle.header.specs.Shape.{maxLayers};
-ghost use Rattle.layout.specs.Slices.{lent};
 ghost use Rattle.layout.specs.Outcomes.{left};
 ghost use Rattle.univmon.specs.Calls.{answered};
 ghost use Rattle.estimates.specs.Calls.{panelCall};
 ghost use Rattle.panel_lines.specs.Answers.{showBytes};
 ghost use Rattle.panel_step.specs.Panel.{shapeCall, addCall, showLine, panelText};
+ghost use Rattle.layout.specs.Lending.{lentIn, lentOut};
 
 // 13 before a shape.
 const NO_SHAPE: u64 = 13;
@@ -37,8 +37,8 @@ pub fn start(
     counts: &mut [i64],
     shape: Shape,
 ) -> Answered
-    ensures { λ r. ⌜ left (r .refusal) (lent (r .header) (now (counters .exit)) (now (norms .exit)) (now (entries .exit)) (now (counts .exit)))
-        ≡ shapeCall (lent header (now (counters .entry)) (now (norms .entry)) (now (entries .entry)) (now (counts .entry))) shape ⌝ }
+    ensures { λ r. ⌜ left (r .refusal) (lentOut (r .header) counters norms entries counts)
+        ≡ shapeCall (lentIn header counters norms entries counts) shape ⌝ }
 {
     let refusal = panel_refusal(
         shape,
@@ -67,18 +67,18 @@ pub fn start(
     )
 }
 
-// A standard update, of the record's words.
+// A standard update with a record and a weight, or 13 before a shape.
 pub fn add(
     header: Header,
     counters: &mut [i64],
     norms: &mut [u64],
     entries: &mut [u64],
     counts: &mut [i64],
-    words: &[u64],
+    record: &[u64],
     weight: i64,
 ) -> Answered
-    ensures { λ r. ⌜ left (r .refusal) (lent (r .header) (now (counters .exit)) (now (norms .exit)) (now (entries .exit)) (now (counts .exit)))
-        ≡ addCall (lent header (now (counters .entry)) (now (norms .entry)) (now (entries .entry)) (now (counts .entry))) (now (words .entry)) weight ⌝ }
+    ensures { λ r. ⌜ left (r .refusal) (lentOut (r .header) counters norms entries counts)
+        ≡ addCall (lentIn header counters norms entries counts) (now («record» .entry)) weight ⌝ }
 {
     let shape = header.shape;
     if panel_refusal(
@@ -103,7 +103,7 @@ pub fn add(
         &mut norms[..sums],
         &mut entries[..quads],
         &mut counts[..seats],
-        words,
+        record,
         weight,
     )
 }
@@ -119,9 +119,9 @@ fn show_parts(
 ) -> usize
     requires { ⌜ header .shape .layers ≤ maxLayers ⌝ }
     requires { ⌜ showBytes maxLayers ≤ length (now out) ⌝ }
-    ensures { λ r. ⌜ r ≡ length (panelText header (panelCall (lent header (now (counters .entry)) (now (norms .entry)) (now (entries .entry)) (now (counts .entry))))) ⌝ }
+    ensures { λ r. ⌜ r ≡ length (panelText header (panelCall (lentIn header counters norms entries counts))) ⌝ }
     ensures { λ _. ⌜ now (out .exit)
-        ≡ sets (now (out .entry)) 0 (panelText header (panelCall (lent header (now (counters .entry)) (now (norms .entry)) (now (entries .entry)) (now (counts .entry))))) ⌝ }
+        ≡ sets (now (out .entry)) 0 (panelText header (panelCall (lentIn header counters norms entries counts))) ⌝ }
     ensures { λ r. ⌜ r ≤ showBytes maxLayers ⌝ }
 {
     let a = estimates::panel_answer(header, counters, norms, entries, counts);
@@ -146,8 +146,8 @@ pub fn show(
     out: &mut [u8],
 ) -> usize
     requires { ⌜ showBytes maxLayers ≤ length (now out) ⌝ }
-    ensures { λ r. ⌜ r ≡ length (showLine (lent header (now (counters .entry)) (now (norms .entry)) (now (entries .entry)) (now (counts .entry)))) ⌝ }
-    ensures { λ _. ⌜ now (out .exit) ≡ sets (now (out .entry)) 0 (showLine (lent header (now (counters .entry)) (now (norms .entry)) (now (entries .entry)) (now (counts .entry)))) ⌝ }
+    ensures { λ r. ⌜ r ≡ length (showLine (lentIn header counters norms entries counts)) ⌝ }
+    ensures { λ _. ⌜ now (out .exit) ≡ sets (now (out .entry)) 0 (showLine (lentIn header counters norms entries counts)) ⌝ }
     ensures { λ r. ⌜ r ≤ showBytes maxLayers ⌝ }
 {
     let shape = header.shape;

@@ -11,7 +11,7 @@ pub use step::LONGEST;
 pub use step::answer_line;
 
 // The header after a line, and how many bytes its answer has.
-pub struct Told {
+pub struct LineAnswered {
     pub header: Header,
     pub len: usize,
 }

@@ -1,5 +1,5 @@
 // A line, answered.
-use crate::Told;
+use crate::LineAnswered;
 use crate::calls::add;
 use crate::calls::show;
 use crate::calls::start;
@@ -17,8 +17,8 @@ ghost use mathlib.Core.List.{[], _∷_, _++_};
 ghost use Prim.Native.Nat.{ℕ, _≤_};
 ghost use lib.ListN.{length};
 ghost use lib.Seq.{sets};
-ghost use Rattle.layout.specs.Slices.{lent};
-ghost use Rattle.panel_step.specs.Panel.{shapeCall, addCall, showLine, replyText, replied, answer, found, put, longest, answerWithin};
+ghost use Rattle.panel_step.specs.Panel.{shapeCall, addCall, showLine, replyText, replied, reply, found, put, longest, answerWithin};
+ghost use Rattle.layout.specs.Lending.{lentIn, lentOut};
 
 // The longest answer, with its newline: `(show ..)` of the most layers.
 pub const LONGEST: usize = SHOW_BARE + 2 * Shape::MAX_LAYERS + 1;
@@ -48,16 +48,16 @@ fn answer_shape(
     counts: &mut [i64],
     shape: Shape,
     out: &mut [u8],
-) -> Told
+) -> LineAnswered
     requires { ⌜ longest ≤ length (now out) ⌝ }
-    ensures { λ r. ⌜ found (lent (r .header) (now (counters .exit)) (now (norms .exit)) (now (entries .exit)) (now (counts .exit))) (r .len) (now (out .exit))
-        ≡ put (replied (shapeCall (lent header (now (counters .entry)) (now (norms .entry)) (now (entries .entry)) (now (counts .entry))) shape)) (now (out .entry)) ⌝ }
+    ensures { λ r. ⌜ found (lentOut (r .header) counters norms entries counts) (r .len) (now (out .exit))
+        ≡ put (replied (shapeCall (lentIn header counters norms entries counts) shape)) (now (out .entry)) ⌝ }
     ensures { λ r. ⌜ r .len ≤ longest ⌝ }
 {
     let a = start(header, counters, norms, entries, counts, shape);
     let len = put_reply(out, a.refusal);
     let next = a.header;
-    Told { header: next, len }
+    LineAnswered { header: next, len }
 }
 
 fn answer_add(
@@ -66,19 +66,19 @@ fn answer_add(
     norms: &mut [u64],
     entries: &mut [u64],
     counts: &mut [i64],
-    words: &[u64],
+    record: &[u64],
     weight: i64,
     out: &mut [u8],
-) -> Told
+) -> LineAnswered
     requires { ⌜ longest ≤ length (now out) ⌝ }
-    ensures { λ r. ⌜ found (lent (r .header) (now (counters .exit)) (now (norms .exit)) (now (entries .exit)) (now (counts .exit))) (r .len) (now (out .exit))
-        ≡ put (replied (addCall (lent header (now (counters .entry)) (now (norms .entry)) (now (entries .entry)) (now (counts .entry))) (now (words .entry)) weight)) (now (out .entry)) ⌝ }
+    ensures { λ r. ⌜ found (lentOut (r .header) counters norms entries counts) (r .len) (now (out .exit))
+        ≡ put (replied (addCall (lentIn header counters norms entries counts) (now («record» .entry)) weight)) (now (out .entry)) ⌝ }
     ensures { λ r. ⌜ r .len ≤ longest ⌝ }
 {
-    let a = add(header, counters, norms, entries, counts, words, weight);
+    let a = add(header, counters, norms, entries, counts, record, weight);
     let len = put_reply(out, a.refusal);
     let next = a.header;
-    Told { header: next, len }
+    LineAnswered { header: next, len }
 }
 
 fn answer_show(
@@ -88,15 +88,15 @@ fn answer_show(
     entries: &[u64],
     counts: &[i64],
     out: &mut [u8],
-) -> Told
+) -> LineAnswered
     requires { ⌜ longest ≤ length (now out) ⌝ }
-    ensures { λ r. ⌜ found (lent (r .header) (now (counters .entry)) (now (norms .entry)) (now (entries .entry)) (now (counts .entry))) (r .len) (now (out .exit))
-        ≡ put (answer (lent header (now (counters .entry)) (now (norms .entry)) (now (entries .entry)) (now (counts .entry))) (showLine (lent header (now (counters .entry)) (now (norms .entry)) (now (entries .entry)) (now (counts .entry))))) (now (out .entry)) ⌝ }
+    ensures { λ r. ⌜ found (lentIn (r .header) counters norms entries counts) (r .len) (now (out .exit))
+        ≡ put (reply (lentIn header counters norms entries counts) (showLine (lentIn header counters norms entries counts))) (now (out .entry)) ⌝ }
     ensures { λ r. ⌜ r .len ≤ longest ⌝ }
 {
     let k = show(header, counters, norms, entries, counts, out);
     let len = put_word(out, k, b"\n");
-    Told { header, len }
+    LineAnswered { header, len }
 }
 
 // Answers a line: its answer and a newline go to the start of `out`, if that has room for the longest one.
@@ -108,13 +108,13 @@ pub fn answer_line(
     entries: &mut [u64],
     counts: &mut [i64],
     out: &mut [u8],
-) -> Told
-    ensures { λ r. ⌜ found (lent (r .header) (now (counters .exit)) (now (norms .exit)) (now (entries .exit)) (now (counts .exit))) (r .len) (now (out .exit))
-        ≡ put (answerWithin (length (now (out .entry))) (lent header (now (counters .entry)) (now (norms .entry)) (now (entries .entry)) (now (counts .entry))) (now (line .entry))) (now (out .entry)) ⌝ }
+) -> LineAnswered
+    ensures { λ r. ⌜ found (lentOut (r .header) counters norms entries counts) (r .len) (now (out .exit))
+        ≡ put (answerWithin (length (now (out .entry))) (lentIn header counters norms entries counts) (now (line .entry))) (now (out .entry)) ⌝ }
     ensures { λ r. ⌜ r .len ≤ longest ⌝ }
 {
     if out.len() < LONGEST {
-        return Told { header, len: 0 };
+        return LineAnswered { header, len: 0 };
     }
     let mut words = [0u64; LINE_WORDS];
     let q = read_line(line, &mut words);
@@ -135,7 +135,7 @@ pub fn answer_line(
         Request::Show => answer_show(header, counters, norms, entries, counts, out),
         Request::Unreadable => {
             let len = put_reply(out, UNREADABLE);
-            Told { header, len }
+            LineAnswered { header, len }
         }
     }
 }

@@ -10,9 +10,8 @@ use lib.Dec.{eqb}
 use borrow.Author.Tests.{eqb-true}
 use Rattle.words.proofs.Bools.{and-left, and-right}
 use Rattle.header.specs.declared.Shape.{Shape}
-use Rattle.layout.specs.Slices.{Lent, cellsIn, normsIn, candsIn, lengthsOk, lentOk}
+use Rattle.layout.specs.Slices.{Lent, cellsIn, normsIn, candsIn, lengthsOk, lentOk, extentOf}
 use Rattle.layout.specs.declared.Extent.{Extent}
-use Rattle.layout.specs.Spans.{extentOf}
 use Rattle.panel_step.specs.Panel.{inUse, putBack, panelRefusal, refusalIn}
 use Rattle.panel_step.proofs.Rooms.{Fit, fit-of}
 
@@ -54,7 +53,7 @@ back-in e r t h =
 front : {A : Type 0} (n : ℕ) (xs ys : List A) → length xs ≡ n → n ≤ length ys → length (xs ++ drop n ys) ≡ length ys
 front n xs ys e h = length-append xs (drop n ys) ∙ omega (arith, e, length-drop n ys)
 
--- so what a shape is refused with stays
+-- so every shape is accepted or refused as before
 pub back-room : (sh : Shape) (r t : Lent) → refusalIn r sh ≡ 0 → Just sh t → (z : Shape) → refusalIn (putBack (extentOf sh) r t) z ≡ refusalIn r z
 back-room sh r t e j z =
     let f : Fit sh (length (r .counters)) (length (r .norms)) (length (r .entries)) (length (r .counts)) = fit-of sh (length (r .counters)) (length (r .norms)) (length (r .entries)) (length (r .counts)) e in

@@ -16,7 +16,7 @@ use Rattle.header.specs.declared.Mode.the-variants as mode
 use Rattle.header.specs.Shape.{shapeRefusal}
 use Rattle.header.specs.Header.{zeroHeader}
 use Rattle.univmon.specs.declared.Kind.the-variants as kind
-use Rattle.layout.specs.Slices.{Lent, lentOk, flat, freshLent}
+use Rattle.layout.specs.Slices.{Lent, lentOk, flat, freshLent, extentOf}
 use Rattle.layout.specs.Outcomes.{Outcome, Left, left, leftBy}
 use Rattle.univmon.specs.Calls.{updateCall}
 use Rattle.shared_streams.specs.Books.{Update}
@@ -31,11 +31,10 @@ use Rattle.panel_lines.specs.declared.line.Request.the-variants as ask
 use Rattle.panel_lines.specs.Line.{readOf}
 use Rattle.panel_lines.specs.Answers.{refusedText}
 use Rattle.panel_lines.specs.Split.{lines, wholeOf}
-use Rattle.layout.specs.Spans.{extentOf}
-use Rattle.panel_step.specs.Panel.{inUse, putBack, panelRefusal, paperRefusal, refusalIn, shapeCall, started, backBy, addCall, panelText, showLine, Answer, answerTo, answerLine, answersOf, runOf}
+use Rattle.panel_step.specs.Panel.{inUse, putBack, panelRefusal, paperRefusal, refusalIn, shapeCall, started, backBy, addCall, panelText, showLine, Reply, answerTo, answerLine, answersOf, runOf}
 use Rattle.panel_step.proofs.Rooms.{fit-of, own-refusal}
 use Rattle.panel_step.proofs.Runs.{run-whole}
-use Rattle.panel_stream.specs.PanelStream.{Log, shapeBy, blank, addNumber, logShaped, logAdded, logAfter, logOf, relayIn, Shown, Told, Theorem, Own, Corollary}
+use Rattle.panel_stream.specs.PanelStream.{Log, shapeBy, blank, addNumber, logShaped, logAdded, logAfter, logOf, relayIn, Shown, NextLine, Theorem, Own, Corollary}
 use Rattle.panel_stream.proofs.Backs.{Just, just, back-in, back-room}
 use Rattle.panel_stream.proofs.Adds.{Standards, not-six}
 use Rattle.panel_stream.proofs.Shows.{panel-is, panel-keys, panel-flags}
@@ -58,7 +57,7 @@ record Kept (f : Shape → ℕ) (r : Lent) (g : Log) : Type 0 where
 own : (r : Lent) (sh : Shape) → refusalIn r sh ≡ 0 → shapeRefusal sh ≡ 0
 own r sh e = fit-of sh (length (r .counters)) (length (r .norms)) (length (r .entries)) (length (r .counts)) e .own
 
--- what a call on the parts of a shape that has room left, put back
+-- where t is as the log's book says and r has room for its shape, t put back into r's slices has what every line keeps
 back-kept : (f : Shape → ℕ) (r t : Lent) (g : Log) → ((z : Shape) → refusalIn r z ≡ f z) → refusalIn r (g .shape) ≡ 0 → LentBy (g .shape) (g .book) t → Standards (g .book) → g .started ≡ true
     → Kept f (putBack (extentOf (g .shape)) r t) g
 unfolding flat
@@ -84,9 +83,9 @@ module _ (f : Shape → ℕ) (r : Lent) (g : Log) (k : Kept f r g) (sh : Shape) 
   abbrev shaped : ℕ → Left
   shaped n = cond (eqb n 0) (left 0 (putBack (extentOf sh) r (freshLent sh))) (left n r)
 
-  shape-told : shapeCall r sh .refusal ≡ f sh
+  next-shape : shapeCall r sh .refusal ≡ f sh
   unfolding shapeCall
-  shape-told = go (refusalIn r sh) ∙ k .room sh
+  next-shape = go (refusalIn r sh) ∙ k .room sh
     where
       go : (n : ℕ) → shaped n .refusal ≡ n
       go n = two (eqb n 0) refl
@@ -123,9 +122,9 @@ module _ (f : Shape → ℕ) (r : Lent) (g : Log) (k : Kept f r g) (words : List
   answers : g .started ≡ true → Answers (updateCall kind.Standard (inUse r) words w) (feedNumber (g .shape) (g .book) kind.Standard words w)
   answers e = let x : Fed r g = k .fed e in feed-answers (g .shape) (x .good) (g .book) (inUse r) (x .by) kind.Standard words w
 
-  add-told : addCall r words w .refusal ≡ addNumber g words w
+  next-add : addCall r words w .refusal ≡ addNumber g words w
   unfolding addCall addNumber
-  add-told = go (g .started) refl (k .begun)
+  next-add = go (g .started) refl (k .begun)
     where
       two : (o : Outcome) → Answers o number → leftBy r (backBy r o) .refusal ≡ number
       two (Outcome.no n) p = p .0
@@ -191,7 +190,7 @@ unfolding answersOf answerLine logOf
 lines-kept f [] r g k = k
 lines-kept f (l ∷ ls) r g k = lines-kept f ls (answerLine r l .lends) (logAfter f g (readOf l .request) (readOf l .words)) (to-kept f r g (readOf l .request) (readOf l .words) k)
 
--- ---- what is told of a state
+-- ---- what the next line is answered with
 
 module _ (f : Shape → ℕ) (r : Lent) (g : Log) (k : Kept f r g) where
   early : g .started ≡ false → showLine r ≡ refusedText 13
@@ -210,8 +209,8 @@ module _ (f : Shape → ℕ) (r : Lent) (g : Log) (k : Kept f r g) where
       x : Fed r g
       x = k .fed e
 
-  told : Told f r g
-  told = record { shape = shape-told f r g k; add = add-told f r g k; alike = add-alike f r g k; early = early; show = shown }
+  next-line : NextLine f r g
+  next-line = record { shape = next-shape f r g k; add = next-add f r g k; alike = add-alike f r g k; early = early; show = shown }
 
 -- ---- the theorem
 
@@ -220,7 +219,7 @@ unfolding panelRefusal shapeRefusal
 not-yet r e = record { room = λ sh. refl; begun = ap (λ (h : Header). eqb (refusalIn r (h .shape)) 0) e; fed = λ z. absurd (never z) }
 
 pub panel-stream : Theorem
-panel-stream r e ls = told (refusalIn r) (answersOf r ls .lends) (logOf (refusalIn r) blank ls) (lines-kept (refusalIn r) ls r blank (not-yet r e))
+panel-stream r e ls = next-line (refusalIn r) (answersOf r ls .lends) (logOf (refusalIn r) blank ls) (lines-kept (refusalIn r) ls r blank (not-yet r e))
 
 -- the program's own slices add nothing to the paper's words
 own-is : (r : Lent) → Own r → refusalIn r ≡ paperRefusal
@@ -228,5 +227,5 @@ own-is r o = λ i sh. ((λ j. panelRefusal sh (o .counters j) (o .norms j) (o .e
 
 pub of-any-input : Corollary
 of-any-input r o cs =
-    subst (λ (f : Shape → ℕ). Told f (runOf r [] cs .lends) (logOf f blank (lines (wholeOf cs)))) (own-is r o)
-    (subst (λ (a : Answer). Told (refusalIn r) (a .lends) (logOf (refusalIn r) blank (lines (wholeOf cs)))) (sym (run-whole r cs)) (panel-stream r (o .head) (lines (wholeOf cs))))
+    subst (λ (f : Shape → ℕ). NextLine f (runOf r [] cs .lends) (logOf f blank (lines (wholeOf cs)))) (own-is r o)
+    (subst (λ (a : Reply). NextLine (refusalIn r) (a .lends) (logOf (refusalIn r) blank (lines (wholeOf cs)))) (sym (run-whole r cs)) (panel-stream r (o .head) (lines (wholeOf cs))))

@@ -14,18 +14,18 @@ use Rattle.header.specs.declared.Shape.{Shape}
 use Rattle.header.specs.declared.Mode.{Mode}
 use Rattle.header.specs.declared.Mode.the-variants as mode
 use Rattle.header.specs.Shape.{shapeRefusal}
-use Rattle.header.specs.Accepted.{Accepted}
+use Rattle.header.specs.inner.Accepted.{Accepted}
 use Rattle.header.proofs.Refusals.{accepted-of}
 use Rattle.layout.specs.State.{State, rowsAt, colsAt, dimsAt, layerAt}
 use Rattle.layout.specs.Slices.{Lent, normsIn, view}
 use Rattle.estimates.specs.Norms.{l2OfState}
-use Rattle.estimates.specs.Sums.{layerReads, whosRead}
+use Rattle.estimates.specs.Sums.{layerReads, itemsRead}
 use Rattle.estimates.specs.declared.Answer.{Answer}
 use Rattle.estimates.specs.declared.PanelAnswer.{PanelAnswer}
 use Rattle.estimates.specs.Calls.{answer, normState, l2Reads, l1Call, l2Call, cardinalityCall, panelCall}
 use Rattle.layer.specs.declared.Dims.{Dims}
 use Rattle.layer.specs.Layer.{Layer, countsRead}
-use Rattle.layer.specs.Merge.{whos}
+use Rattle.layer.specs.Merge.{items}
 use Rattle.shared_streams.specs.Books.{Book, bookKeys, normBy, flagBy, weightOf, distinct, OneRecord, sent}
 use Rattle.shared_streams.specs.SharedStreams.{Claimed}
 use Rattle.shared_streams.proofs.BookLaws.{sent-weights}
@@ -54,7 +54,7 @@ values-from {A} d f (suc n) k (x ∷ xs) e h =
     move : (j : ℕ) → k + suc j ≡ suc k + j
     move j = omega arith
 
--- from the first on
+-- the same with the values from number 0 on
 values-are : {A : Type 0} (d : A) (f : ℕ → A) (n : ℕ) (xs : List A) → length xs ≡ n → ((i : ℕ) → i < n → getD xs i d ≡ f i) → xs ≡ valuesFrom f n 0
 values-are d f n xs e h = values-from d f n 0 xs e (λ i hi. h i hi ∙ ap f (from-zero i))
   where
@@ -73,17 +73,17 @@ module _ (s : State) (b : Book) (v : shapeRefusal (s .head .shape) ≡ 0) (r : R
   norms-of =
       let d : Dims = dimsAt (s .head .shape) 0 in
       let y : Layer = layerAt s 0 in
-      and-right (countsRead (y .table) && whosRead d (y .sketch .cells) (whos (y .table))) (norm.normsInRange (d .cols) (y .sketch .norms))
+      and-right (countsRead (y .table) && itemsRead d (y .sketch .cells) (items (y .table))) (norm.normsInRange (d .cols) (y .sketch .norms))
       (sum-reads d (wide (s .head .shape) a 0) (a .seats) true (sent (s .head .shape .layers) 0 b) y (omega (arith, sent-weights (s .head .shape .layers) 0 b, r .light)) (r .layers 0 (a .some)))
 
-  -- and the book's
+  -- layer 0's norms are the book's
   norms-are : layerAt s 0 .sketch .norms ≡ valuesFrom (normBy (s .head .shape) b 0) (rowsAt (s .head .shape) 0) 0
   norms-are =
       values-are 0 (normBy (s .head .shape) b 0) (rowsAt (s .head .shape) 0) (layerAt s 0 .sketch .norms)
       (ap length (r .layers 0 (a .some) .sketch .kept) ∙ length-rowNorms (colsAt (s .head .shape) 0) (layerAt s 0 .sketch .cells) (rowsAt (s .head .shape) 0) 0)
       (λ i h. layer-norm b s r 0 i (a .some) h)
 
-  -- as are the flags
+  -- the flags are the book's
   flags-are : take (s .head .shape .layers) (s .head .flags) ≡ valuesFrom (flagBy (s .head .shape) b) (s .head .shape .layers) 0
   unfolding layerAt
   flags-are =

@@ -100,16 +100,16 @@ pub record Shown (r : Lent) (sh : Shape) (b : Book) : Type 0 where
   pub claimed : Claimed sh (relayIn r b)
   -- `show` is answered: L1 is the sum of the weights, L2 and flags are the book's
   pub line : showLine r ≡ showText (bits (whole (weightOf b))) (bits (bookL2 sh b)) (bits (panelCall (inUse r) .cardinality)) (bookFlags sh b)
-  -- its third number is exactly that of the distinct keys, up to the heap size and with one record per key
+  -- its third number is exactly the number of distinct keys, if they are at most heap size and each has one record
   pub keys : OneRecord b → distinct (bookKeys b) ≤ sh .«heap_size» → panelCall (inUse r) .cardinality ≡ whole (distinct (bookKeys b))
 
 -- ---- the theorem
 
 -- what a next line is answered with, where f says what a shape is refused with and g what the lines said; an unreadable one is 13 by itself
-pub record Told (f : Shape → ℕ) (r : Lent) (g : Log) : Type 0 where
+pub record NextLine (f : Shape → ℕ) (r : Lent) (g : Log) : Type 0 where
   -- a shape: 1 to 4, or 0
   pub shape : (sh : Shape) → shapeCall r sh .refusal ≡ f sh
-  -- an add: 13; then 12, 5, 7, or 0. Of a book's numbers 6 is left, and it does not come: all adds are of one kind
+  -- an add: 13 before a shape; then 12, 5, 7, or 0. Never 6 (`alike`): all adds are of one kind
   pub add : (words : List ℕ) (w : ℤ) → addCall r words w .refusal ≡ addNumber g words w
   pub alike : (words : List ℕ) (w : ℤ) → addNumber g words w ≡ 6 → ⊥
   -- a show: 13, or what the book says
@@ -118,9 +118,9 @@ pub record Told (f : Shape → ℕ) (r : Lent) (g : Log) : Type 0 where
 
 -- from the header that the program starts with, in slices of any lengths, after any lines
 abbrev pub Theorem : Type 0
-Theorem = (r : Lent) → r .head ≡ zeroHeader → (ls : List (List ℕ)) → Told (refusalIn r) (answersOf r ls .lends) (logOf (refusalIn r) blank ls)
+Theorem = (r : Lent) → r .head ≡ zeroHeader → (ls : List (List ℕ)) → NextLine (refusalIn r) (answersOf r ls .lends) (logOf (refusalIn r) blank ls)
 
--- the program's own slices: "Above 4,096 counters or 512 candidates over all layers it answers 4." is all that they add
+-- the program's own header and slices; to a shape's own refusals they add only "Above 4,096 counters or 512 candidates over all layers it answers 4."
 pub record Own (r : Lent) : Type 0 where
   pub head : r .head ≡ zeroHeader
   pub counters : length (r .counters) ≡ maxCounters
@@ -130,4 +130,4 @@ pub record Own (r : Lent) : Type 0 where
 
 -- of any input, in whatever chunks it is read
 abbrev pub Corollary : Type 0
-Corollary = (r : Lent) → Own r → (cs : List (List ℕ)) → Told paperRefusal (runOf r [] cs .lends) (logOf paperRefusal blank (lines (wholeOf cs)))
+Corollary = (r : Lent) → Own r → (cs : List (List ℕ)) → NextLine paperRefusal (runOf r [] cs .lends) (logOf paperRefusal blank (lines (wholeOf cs)))

@@ -95,7 +95,7 @@ pub fn ask(op: u64, shelf: &[u64]) -> bool {
     state_check::check_state(h, cs, ws, es, ks)
 }
 
-// Whether n words from one on are those from another on.
+// Whether the n words from place `a` on are those from place `b` on.
 fn alike(shelf: &[u64], a: usize, b: usize, n: usize) -> bool {
     let mut i = 0;
     while i < n {

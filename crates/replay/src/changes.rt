@@ -55,13 +55,13 @@ fn count_of(n: u64) -> i32 {
     -1 - (0xffff_ffff - low) as i32
 }
 
-// Where the record of a place starts.
+// Where record number a starts.
 pub fn record_at(a: u64) -> usize {
     (a % KEPT_RECORDS) as usize * RECORD_WORDS + RECORDS
 }
 
-// 2, 3: a standard and a terminal update. 4: a delta. The record is that of a place, as many words of it as
-// the call says.
+// 2, 3: a standard and a terminal update. 4: a delta. The call gives the number of a kept record, and how many
+// words of it are lent.
 fn recorded(
     call: Call,
     h: Header,
@@ -105,7 +105,7 @@ fn recorded(
     univmon::update_weighted(h, counters, norms, entries, counts, words, weight)
 }
 
-// 9: the second relay comes into the one at work.
+// 9: merges the second relay into the one at work.
 fn merge(
     h: Header,
     counters: &mut [i64],
@@ -140,8 +140,8 @@ fn merge(
     )
 }
 
-// A call on the slices that are lent, which are filled from the shelf. 1: a fresh relay. 5, 6, 7: the calls on
-// a header alone. 8: nothing counted any more.
+// Fills the lent slices from the shelf and makes a call on them. 1: `new`. 5, 6, 7: the calls on a header alone.
+// 8: `clear`.
 fn on_lent(
     call: Call,
     counters: &mut [i64],

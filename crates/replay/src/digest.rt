@@ -21,7 +21,7 @@ fn of_words(start: u64, shelf: &[u64], at: usize, n: usize) -> u64 {
     d
 }
 
-// Header, counters, norms, entries and counts of the relay at work, as they are lent.
+// The digest of the relay at work: its header, and as much of each slice as is lent.
 pub fn whole(shelf: &[u64]) -> u64 {
     let a = of_words(0, shelf, 0, HEAD_WORDS);
     let b = of_words(a, shelf, COUNTERS, get(shelf, 0, LENT_COUNTERS) as usize);

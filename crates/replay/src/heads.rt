@@ -64,7 +64,7 @@ pub fn words_of(h: Header) -> [u64; HEAD_WORDS] {
     words
 }
 
-// The header whose words stand from one on; a mode that is no mode is unset.
+// The header whose words stand from place `at` on; a number that is no mode is read as unset.
 pub fn header_of(xs: &[u64], at: usize) -> Header {
     let mut lens = [0usize; Shape::MAX_LAYERS];
     let mut flags = [false; Shape::MAX_LAYERS];

@@ -59,7 +59,8 @@ fn call_of(op: u64, shelf: &[u64]) -> Call {
     }
 }
 
-// Where a slice of the relay at work starts: 0 is the header and the lengths.
+// Where a part of the relay at work starts: 0 is the header with how much of each slice is lent, the others
+// are the slices.
 fn slice_at(n: u64) -> usize {
     match n {
         0 => 0,
@@ -76,8 +77,8 @@ fn place_at(n: u64) -> usize {
 }
 
 // One operation. 10: a word of the relay at work is set by hand. 12: whether it holds what the second one holds.
-// 13: the relay of a place stands in another too. 14: a record of b words for place a. 15: the relay of a place
-// is the second one now. 18: the state check.
+// 13: the relay in place a is copied to place b. 14: b words of the call are kept as record number a. 15: the
+// relay in place a is copied to be the second one. 18: the state check.
 fn turn(call: Call, shelf: &mut [u64]) {
     let op = call.op;
     match op {

@@ -60,7 +60,7 @@ pub const CALL_WORDS: usize = 48;
 
 pub const ALL: usize = WORDS + CALL_WORDS;
 
-// The i-th word from one on; behind the end there are zeros.
+// The word i places behind place `at`; 0 past the end.
 pub fn get(xs: &[u64], at: usize, i: usize) -> u64 {
     if xs.len() <= at {
         return 0;
@@ -81,7 +81,7 @@ pub fn set(xs: &mut [u64], at: usize, i: usize, x: u64) {
     xs[at + i] = x;
 }
 
-// How much of a slice is lent: the i-th word from one on, but at most so much.
+// How much of a slice is lent: the word i places behind place `at`, but at most `most`.
 pub fn lent(xs: &[u64], at: usize, i: usize, most: usize) -> usize
     ensures { λ r. ⌜ r ≤ most ⌝ }
 {
@@ -92,7 +92,7 @@ pub fn lent(xs: &[u64], at: usize, i: usize, most: usize) -> usize
     most
 }
 
-// n words from one on, put from another on.
+// Copies n words from place `from` to place `to` of the same slice.
 pub fn shift(xs: &mut [u64], from: usize, to: usize, n: usize) {
     let mut i = 0;
     while i < n {
@@ -111,7 +111,7 @@ pub fn copy(xs: &[u64], from: usize, ys: &mut [u64], to: usize, n: usize) {
     }
 }
 
-// The words from one on as signed numbers, as many as a slice has room for.
+// Fills `ys` with the words from place `from` on, read as signed numbers.
 pub fn take_signed(xs: &[u64], from: usize, ys: &mut [i64]) {
     let mut i = 0;
     while i < ys.len() {
@@ -120,7 +120,7 @@ pub fn take_signed(xs: &[u64], from: usize, ys: &mut [i64]) {
     }
 }
 
-// n signed numbers, put as words from one on.
+// Writes the first n signed numbers as words, from place `to` on.
 pub fn put_signed(xs: &[i64], ys: &mut [u64], to: usize, n: usize) {
     let mut i = 0;
     while i < n {

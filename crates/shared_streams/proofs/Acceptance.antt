@@ -29,7 +29,7 @@ use Rattle.shared_streams.specs.Ledger.{feedTests, feedNumber, joinTests
 use Rattle.shared_streams.proofs.Relays.{RelayBy}
 use Rattle.shared_streams.proofs.Calls.{LentBy, lent-view, lent-off, update-sent, merge-paired, shapes-same}
 
--- a call by its tests, where no test has the number 0
+-- a call that is judged by tests is answered with their number, if no test has the number 0
 judge-answers : (ts : List (Bool × ℕ)) (t : Lent) (n : ℕ) → numbered ts ≡ true → number ts ≡ n → Answers (judge ts t) n
 judge-answers ts t n h e = go (eqb (number ts) 0) refl
   where
@@ -37,7 +37,7 @@ judge-answers ts t n h e = go (eqb (number ts) 0) refl
     go true q = subst (λ (o : Outcome). Answers o n) (sym (passed ts t (off-number ts h (eqb-true (number ts) 0 q)))) (sym e ∙ eqb-true (number ts) 0 q)
     go false q = subst (λ (o : Outcome). Answers o n) (sym (refused ts t (eqb-false (number ts) 0 q))) (e, λ z. eqb-false (number ts) 0 q (e ∙ z))
 
--- the first tests and the last are off, or those between refuse
+-- where the first tests are off, and the last ones are off if those between are, those between give the number
 between : (us ts vs : List (Bool × ℕ)) → numbered ts ≡ true → Off us → (Off ts → Off vs) → number (us ++ (ts ++ vs)) ≡ number ts
 between us ts vs h o f = number-rest us (ts ++ vs) o ∙ number-alone ts vs h f
 
@@ -53,7 +53,7 @@ feed-answers sh v b r x k words w =
     by : RelayBy sh b (view r)
     by = lent-view sh b r x
 
-    -- between the lengths and the layers
+    -- the tests that stand between those of header and lengths and those of the layers
     front : List (Bool × ℕ)
     front = (not (eqb (length words) (recordLength (r .head .shape .layers))), 12) ∷ beginTests (scalarsOf (r .head)) w (modeOf k)
 

@@ -15,7 +15,7 @@ use Rattle.header.specs.declared.Mode.the-variants as mode
 use Rattle.words.proofs.Tests.{Off, number-off}
 use Rattle.float64.proofs.Ints.{int-value}
 use Rattle.header.specs.Shape.{maxLayers, shapeRefusal, bottomOf}
-use Rattle.header.specs.Accepted.{Accepted}
+use Rattle.header.specs.inner.Accepted.{Accepted}
 use Rattle.header.proofs.Refusals.{accepted-of}
 use Rattle.univmon.specs.declared.Kind.{Kind}
 use Rattle.univmon.specs.declared.Kind.the-variants as kind
@@ -24,11 +24,12 @@ use Rattle.univmon.specs.Updates.{modeOf}
 use Rattle.layout.specs.Slices.{Lent, view, flat, freshLent}
 use Rattle.layout.specs.Outcomes.{Outcome, lentTests}
 use Rattle.univmon.specs.Calls.{updateCall, lentUpdateCall}
-use Rattle.layout.specs.Needs.{Headed}
+use Rattle.header.specs.Header.{Headed}
 use Rattle.sums.specs.Terminal.{terminalSum, heavy}
 use Rattle.sums.specs.Layers.{standardSum}
 use Rattle.sums.specs.declared.G.the-variants as g
-use Rattle.estimates.specs.Sums.{strataOf, sumBy, headerAlone, gSumOf, cardinalityOf, sumReads}
+use Rattle.estimates.specs.Sums.{terminalInput, sumBy, headerAlone, gSumOf, sumReads}
+use Rattle.estimates.specs.inner.Slices.{cardinalityOf}
 use Rattle.estimates.specs.declared.Answer.{Answer}
 use Rattle.estimates.specs.Calls.{answer, sumTests, sumCall, cardinalityCall}
 use Rattle.shared_streams.specs.Books.{Book, bookKeys, keysSent, times, distinct, OneRecord, Reordered, Holds, bookMode}
@@ -102,7 +103,7 @@ counts sh w b s r one few = rw (and-false (eqb (s .head .totals .weight) 0)) (go
     go : (m : Mode) → s .head .mode ≡ m → sumBy m g.One true s ≡ ofInt binary64 (pos (distinct (bookKeys b)))
     go mode.Unset e = own (kinds kind.Standard mode.Unset e kind-unset)
     go mode.Standard e = own (kinds kind.Standard mode.Standard e (λ k. same-kind k kind.Standard))
-    go mode.Terminal e = terminal-counts sh v h b s r (kinds kind.Terminal mode.Terminal e (λ k. same-kind k kind.Terminal)) c few (heavy (strataOf s)) (s .head .shape .layers - 1) last
+    go mode.Terminal e = terminal-counts sh v h b s r (kinds kind.Terminal mode.Terminal e (λ k. same-kind k kind.Terminal)) c few (heavy (terminalInput s)) (s .head .shape .layers - 1) last
 
 -- the call: nothing refuses it
 card-call : (sh : Shape) → shapeRefusal sh ≡ 0 → (b : Book) (r : Lent) → LentBy sh b r → cardinalityCall r ≡ answer 0 (cardinalityOf (view r))

@@ -24,7 +24,7 @@ use Rattle.header.specs.Header.{freshHeader, lensFrom, headerOk}
 use Rattle.header.specs.Shape.{shapeRefusal, bottomFrom, bottomOf}
 use Rattle.header.specs.declared.Shape.{Shape}
 use Rattle.layer.specs.Layer.{addSketch, addLayer, addReads, addFits}
-use Rattle.layer.specs.Merge.{hasKey, firsts, whos, offerAll, mergeLayer, mergeReads, mergeFits}
+use Rattle.layer.specs.Merge.{hasKey, firsts, items, offerAll, mergeLayer, mergeReads, mergeFits}
 use Rattle.univmon.specs.declared.Kind.the-variants as kind
 use Rattle.univmon.specs.Calls.{updateCall}
 use Rattle.layout.specs.Slices.{lengthsOk, view, flat, freshLent}
@@ -35,11 +35,11 @@ use Rattle.sums.specs.Layers.{gSum, standardSum}
 use Rattle.sums.specs.Terminal.{gatherOne, gatherEntries, ahead, rankIn, ranked, gathered, terminalSum, flagged, complete, squares}
 use Rattle.sums.specs.Terms.{gOf, factor, counted, addTerm, sumOver}
 use Rattle.estimates.specs.Calls.{sumCall, cardinalityCall}
-use Rattle.estimates.specs.Sums.{ownAt, gSumOf, whosRead, layerReads}
+use Rattle.estimates.specs.Sums.{ownAt, gSumOf, itemsRead, layerReads}
 use Rattle.shared_streams.specs.Books.{weightOf, bookMode, distinct, bookKeys}
 use Rattle.shared_streams.specs.Feeds.{feed, join, start, relayAt, called}
 use Rattle.shared_streams.specs.Feeds as feeds
-use Rattle.shared_streams.specs.Relays.{asked, Relay, Call, run, accepted}
+use Rattle.shared_streams.specs.Relays.{feedOf, Relay, Call, run, accepted}
 use Rattle.shared_streams.specs.Ledger.{Account, feedNumber, joinNumber, booked, ledger, books}
 
 abbrev shape : Shape
@@ -57,19 +57,19 @@ recordB = 8 ∷ 2 ∷ 3 ∷ 9 ∷ high ∷ 5 ∷ []
 -- a terminal update among standard ones, weight 0, two merges, and a call on a relay that was merged
 abbrev standards : List Call
 standards =
-    feed 0 (asked kind.Standard recordA (pos 5)) ∷ feed 0 (asked kind.Terminal recordA (pos 1)) ∷ feed 1 (asked kind.Standard recordB (pos 0)) ∷ join 0 1 ∷ feed 1 (asked kind.Standard recordB (pos 9))
-    ∷ feed 2 (asked kind.Standard recordA (pos 3)) ∷ join 2 0 ∷ []
+    feed 0 (feedOf kind.Standard recordA (pos 5)) ∷ feed 0 (feedOf kind.Terminal recordA (pos 1)) ∷ feed 1 (feedOf kind.Standard recordB (pos 0)) ∷ join 0 1 ∷ feed 1 (feedOf kind.Standard recordB (pos 9))
+    ∷ feed 2 (feedOf kind.Standard recordA (pos 3)) ∷ join 2 0 ∷ []
 
 abbrev terminals : List Call
-terminals = feed 0 (asked kind.Terminal recordA (pos 0)) ∷ feed 1 (asked kind.Terminal recordB (pos 0)) ∷ feed 2 (asked kind.Terminal recordB (pos 0)) ∷ join 0 1 ∷ join 2 0 ∷ []
+terminals = feed 0 (feedOf kind.Terminal recordA (pos 0)) ∷ feed 1 (feedOf kind.Terminal recordB (pos 0)) ∷ feed 2 (feedOf kind.Terminal recordB (pos 0)) ∷ join 0 1 ∷ join 2 0 ∷ []
 
 -- one key with two bottom hashes: three receivers are shown where there is one
 abbrev twoRecords : List Call
-twoRecords = feed 2 (asked kind.Standard recordA (pos 1)) ∷ feed 2 (asked kind.Standard (7 ∷ 2 ∷ high ∷ 6 ∷ 0 ∷ 0 ∷ []) (pos 1)) ∷ []
+twoRecords = feed 2 (feedOf kind.Standard recordA (pos 1)) ∷ feed 2 (feedOf kind.Standard (7 ∷ 2 ∷ high ∷ 6 ∷ 0 ∷ 0 ∷ []) (pos 1)) ∷ []
 
 -- one key with one bottom hash and two layer hashes: still one
 abbrev twoHashes : List Call
-twoHashes = feed 2 (asked kind.Standard (7 ∷ 2 ∷ high ∷ 6 ∷ 0 ∷ 0 ∷ []) (pos 1)) ∷ feed 2 (asked kind.Standard (7 ∷ 2 ∷ 3 ∷ 1 ∷ 9 ∷ 4 ∷ []) (pos 1)) ∷ []
+twoHashes = feed 2 (feedOf kind.Standard (7 ∷ 2 ∷ high ∷ 6 ∷ 0 ∷ 0 ∷ []) (pos 1)) ∷ feed 2 (feedOf kind.Standard (7 ∷ 2 ∷ 3 ∷ 1 ∷ 9 ∷ 4 ∷ []) (pos 1)) ∷ []
 
 -- of relay 2 of three: its updates, their weight and distinct keys, all accepted updates, and the cardinality as it is answered
 abbrev said : List Call → List ℕ
@@ -81,7 +81,7 @@ said cs =
 pub examples : map said (standards ∷ terminals ∷ twoRecords ∷ twoHashes ∷ [])
     ≡ (3 ∷ 8 ∷ 2 ∷ 3 ∷ 0 ∷ 0x4000000000000000 ∷ []) ∷ (3 ∷ 0 ∷ 2 ∷ 3 ∷ 0 ∷ 0x4000000000000000 ∷ []) ∷ (2 ∷ 2 ∷ 1 ∷ 2 ∷ 0 ∷ 0x4008000000000000 ∷ [])
     ∷ (2 ∷ 2 ∷ 1 ∷ 2 ∷ 0 ∷ 0x3FF0000000000000 ∷ []) ∷ []
-unfolding ofInt ofBits toBits add sub mul div le inRange capped allIn log2In log2 maskBits hashOf column signed insertBy sortBy middleF median middle estimates estimateF estimateOf cellsInRange sums sumBelow squaresFrom rowNorms normsOf wordsOf addCell addRows rowsRead rowsFit up down updateAt leftOr lower candsOf entriesOf find rescore replaceRoot displace seat offer freshHeader lensFrom headerOk shapeRefusal bottomFrom bottomOf addSketch addLayer addReads addFits hasKey firsts whos offerAll mergeLayer mergeReads mergeFits updateCall lengthsOk view flat freshLent rowsAt colsAt cellOff normOff candOff layerAt putLayer overLayers allLayers updateTests updated mergeTests merged mergeCall called feeds.run gSum standardSum gOf factor counted addTerm sumOver sumCall ownAt gSumOf whosRead layerReads weightOf distinct feeds.accepted normRead root l2Squared l2Of normsInRange heavyThreshold gatherOne gatherEntries ahead rankIn ranked gathered flagged complete squares terminalSum
+unfolding ofInt ofBits toBits add sub mul div le inRange capped allIn log2In log2 maskBits hashOf column signed insertBy sortBy middleF median middle estimates estimateF estimateOf cellsInRange sums sumBelow squaresFrom rowNorms normsOf wordsOf addCell addRows rowsRead rowsFit up down updateAt leftOr lower candsOf entriesOf find rescore replaceRoot displace seat offer freshHeader lensFrom headerOk shapeRefusal bottomFrom bottomOf addSketch addLayer addReads addFits hasKey firsts items offerAll mergeLayer mergeReads mergeFits updateCall lengthsOk view flat freshLent rowsAt colsAt cellOff normOff candOff layerAt putLayer overLayers allLayers updateTests updated mergeTests merged mergeCall called feeds.run gSum standardSum gOf factor counted addTerm sumOver sumCall ownAt gSumOf itemsRead layerReads weightOf distinct feeds.accepted normRead root l2Squared l2Of normsInRange heavyThreshold gatherOne gatherEntries ahead rankIn ranked gathered flagged complete squares terminalSum
 examples = refl
 
 -- from the list alone: who is retired, and how many updates each book has

@@ -1,12 +1,12 @@
 -- The books of a run are those that the list of calls alone gives. Assumes nothing.
 use mathlib.Core.Path.{_≡_, refl, sym, ap, ap₂, _∙_, subst}
-use Prim.Native.Nat.{ℕ, zero, suc}
+use Prim.Native.Nat.{ℕ}
 use mathlib.Core.Bool.{Bool, true, false, cond}
 use mathlib.Core.List.{List, [], _∷_, _++_, map}
 use lib.ListN.{set, replicate, List·getD-map}
 use lib.Dec.{eqb}
 use borrow.Author.Tests.{eq-eqb, ne-eqb}
-use Rattle.words.proofs.Lists.{All}
+use Rattle.words.proofs.Lists.{All, map-set, map-replicate}
 use Rattle.header.specs.declared.Shape.{Shape}
 use Rattle.header.specs.Shape.{shapeRefusal}
 use Rattle.layout.specs.Outcomes.{Outcome}
@@ -15,22 +15,11 @@ use Rattle.shared_streams.specs.Books.{Update, Book}
 use Rattle.shared_streams.specs.Feeds.{freshRelay, start, relayAt, feed, join, retirements, joinable, names, fed, joinedTo, called, ifAccepted}
 use Rattle.shared_streams.specs.Feeds as feeds
 use Rattle.shared_streams.specs.Relays.{Feed, updating, Relay, Call, step, run, accepted}
-use Rattle.shared_streams.specs.Ledger.{answeredWith, joinNumber, Answers, Account, opened, accountOf, accountAt, entered, united, booked, gone, bookStep, ledger, books, acceptedOne, acceptedAll}
+use Rattle.shared_streams.specs.Ledger.{answeredWith, joinNumber, Answers, Account, opened, accountOf, accountAt, withEntry, united, booked, gone, bookStep, ledger, books, acceptedOne, acceptedAll}
 use Rattle.shared_streams.proofs.FeedRuns.{live-lt, pair, step-good, start-good}
 use Rattle.shared_streams.proofs.Runs.{kept-by, Every}
 use Rattle.shared_streams.proofs.Calls.{LentBy}
 use Rattle.shared_streams.proofs.Acceptance.{feed-answers, join-answers}
-
--- ---- lists
-
-map-set : {A B : Type 0} (f : A → B) (xs : List A) (i : ℕ) (x : A) → map f (set xs i x) ≡ set (map f xs) i (f x)
-map-set f [] i x = refl
-map-set f (y ∷ xs) zero x = refl
-map-set {B = B} f (y ∷ xs) (suc i) x = ap (λ (z : List B). f y ∷ z) (map-set f xs i x)
-
-map-replicate : {A B : Type 0} (f : A → B) (n : ℕ) (x : A) → map f (replicate n x) ≡ replicate n (f x)
-map-replicate f zero x = refl
-map-replicate {B = B} f (suc n) x = ap (λ (z : List B). f x ∷ z) (map-replicate f n x)
 
 map-map : (rs : List Relay) → gone (map accountOf rs) ≡ retirements rs
 map-map [] = refl
@@ -50,7 +39,7 @@ module _ (sh : Shape) (v : shapeRefusal sh ≡ 0) where
   account-at : (rs : List Relay) (i : ℕ) → accountAt (map accountOf rs) i ≡ accountOf (relayAt sh rs i)
   account-at rs i = List·getD-map accountOf rs i (freshRelay sh)
 
-  fed-account : (r : Relay) (e : Update) (o : Outcome) (n : ℕ) → Answers o n → accountOf (fed r e o) ≡ entered n (accountOf r) e
+  fed-account : (r : Relay) (e : Update) (o : Outcome) (n : ℕ) → Answers o n → accountOf (fed r e o) ≡ withEntry n (accountOf r) e
   fed-account r e (Outcome.no m) n p = rw (ne-eqb n 0 (p .1)) refl
   fed-account r e (Outcome.yes t) n p = rw (eq-eqb n 0 p) refl
 
@@ -84,7 +73,7 @@ module _ (sh : Shape) (v : shapeRefusal sh ≡ 0) where
       let e : Update = updating .enter f in
       let n : ℕ = answeredWith sh (accountAt (map accountOf rs) i .book) f in
       map-set accountOf rs i (fed r e (updating .act f (r .lends)))
-      ∙ ap (λ (a : Account). set (map accountOf rs) i a) (fed-account r e (updating .act f (r .lends)) n (feeds-by rs h i f q) ∙ ap (λ (a : Account). entered n a e) (sym (account-at rs i)))
+      ∙ ap (λ (a : Account). set (map accountOf rs) i a) (fed-account r e (updating .act f (r .lends)) n (feeds-by rs h i f q) ∙ ap (λ (a : Account). withEntry n a e) (sym (account-at rs i)))
   called-accounts rs h (join i j) q =
       let n : ℕ = joinNumber (accountAt (map accountOf rs) i .book) (accountAt (map accountOf rs) j .book) in
       joined-accounts rs i j (relayAt sh rs i) (relayAt sh rs j) (mergeCall (relayAt sh rs i .lends) (relayAt sh rs j .lends)) n (joins rs h i j q)
@@ -95,7 +84,7 @@ module _ (sh : Shape) (v : shapeRefusal sh ≡ 0) where
       entry-of (updating .enter f) (updating .act f (relayAt sh rs i .lends)) (answeredWith sh (accountAt (map accountOf rs) i .book) f) (feeds-by rs h i f q)
   called-accepted rs h (join i j) q = refl
 
-  -- whether the call may be listed or not
+  -- a choice by whether the call may be listed: relays and their accounts make it alike
   listed-alike : {A : Type 0} (rs : List Relay) (c : Call) (x y d e : A) → (names (retirements rs) c ≡ true → x ≡ y) → d ≡ e
       → cond (names (retirements rs) c) x d ≡ cond (names (gone (map accountOf rs)) c) y e
   listed-alike {A} rs c x y d e p q = ap (λ (g : List Bool). cond (names g c) x d) (sym (map-map rs)) ∙ go (names (gone (map accountOf rs)) c) (ap (λ (g : List Bool). names g c) (sym (map-map rs)))

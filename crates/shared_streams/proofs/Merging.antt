@@ -1,4 +1,4 @@
--- Under the premises no merge that may be listed is refused: the weights of relays that are not retired are apart in the list's updates. Assumes nothing.
+-- Under the premises no merge that may be listed is refused: the weights of the relays that are not retired add up to that of all accepted updates. Assumes nothing.
 use mathlib.Core.Path.{_≡_, refl, sym, ap, _∙_, subst}
 use mathlib.Core.Logic.{_⊎_, inl, inr}
 use Prim.Native.Nat.{ℕ, zero, suc, _+_, _≤_, _<_}
@@ -131,7 +131,7 @@ module _ (sh : Shape) where
 
 -- ---- together
 
--- an accepted call
+-- a call that is answered with 0 is accepted
 accepts : (o : Outcome) → Answers o 0 → (u : Lent) × (o ≡ Outcome.yes u)
 accepts (Outcome.no m) p = absurd (p .1 refl)
 accepts (Outcome.yes t) p = (t, refl)

@@ -101,7 +101,7 @@ module _ {A E : Type 0} (way : Way A E) (sh : Shape) where
   Listed rs [] = Unit {0}
   Listed rs (c ∷ cs) = (names (retirements rs) c ≡ true) × Listed (step rs c) cs
 
-  -- what a call enters, if it is one that does and was accepted
+  -- what an accepted call enters into a book; a merge enters nothing new
   abbrev pub entered : List (Relay E) → Call A → List E
   entered rs (feed i a) = ifAccepted (way .enter a) (way .act a (relayAt sh rs i .lends))
   entered rs (join i j) = []

@@ -2,7 +2,7 @@
 -- "Each relay has a book, its stream, made from the calls' arguments and from whether each was accepted."
 use Prim.Native.Nat.{ℕ}
 use mathlib.Core.Path.{_≡_}
-use mathlib.Core.Bool.{Bool, true, false, cond, not}
+use mathlib.Core.Bool.{Bool, true, false, cond}
 use mathlib.Core.List.{List, [], _∷_, _++_, map}
 use lib.ListN.{length, getD, set, replicate}
 use lib.IntN.{ℤ}
@@ -14,9 +14,8 @@ use Rattle.header.specs.declared.Scalars.{Scalars}
 use Rattle.header.specs.Totals.{totalsTests}
 use Rattle.header.specs.Header.{clash, beginTests}
 use Rattle.univmon.specs.declared.Kind.{Kind}
-use Rattle.layout.specs.Records.{recordLength}
 use Rattle.univmon.specs.Updates.{modeOf}
-use Rattle.layout.specs.Outcomes.{Outcome}
+use Rattle.layout.specs.Outcomes.{Outcome, recordTest}
 use Rattle.shared_streams.specs.Books.{Update, Book, weightOf, bookMode}
 use Rattle.shared_streams.specs.Feeds.{feed, join, names}
 use Rattle.shared_streams.specs.Relays.{Feed, updating, Relay, Call}
@@ -32,7 +31,7 @@ scalarsBy sh b = record { shape = sh; totals = totalsOf b; mode = bookMode b }
 
 -- an update: 12 "record length wrong", then 5 "negative weight", 6 "mode mixed in update", 7 "weight would pass 2^52", as a header judges them
 abbrev pub feedTests : Shape → Book → Kind → List ℕ → ℤ → List (Bool × ℕ)
-feedTests sh b k words w = (not (eqb (length words) (recordLength (sh .layers))), 12) ∷ beginTests (scalarsBy sh b) w (modeOf k)
+feedTests sh b k words w = recordTest sh (length words) ∷ beginTests (scalarsBy sh b) w (modeOf k)
 
 unfoldable pub feedNumber : Shape → Book → Kind → List ℕ → ℤ → ℕ
 feedNumber sh b k words w = number (feedTests sh b k words w)
@@ -63,7 +62,7 @@ pub record Account : Type 0 where
 abbrev pub opened : Account
 opened = record { book = []; retired = false }
 
--- of a relay
+-- the account of a relay
 abbrev pub accountOf : Relay → Account
 accountOf r = record { book = r .book; retired = r .retired }
 
@@ -71,8 +70,8 @@ abbrev pub accountAt : List Account → ℕ → Account
 accountAt xs i = getD xs i opened
 
 -- "An accepted update adds its kind, record and weight." and "A refused call changes no book.": n is what the call is answered with
-abbrev pub entered : ℕ → Account → Update → Account
-entered n a e = cond (eqb n 0) (record { book = a .book ++ (e ∷ []); retired = a .retired }) a
+abbrev pub withEntry : ℕ → Account → Update → Account
+withEntry n a e = cond (eqb n 0) (record { book = a .book ++ (e ∷ []); retired = a .retired }) a
 
 -- "An accepted merge puts the second's book behind the first's." and "retires the second"
 abbrev pub united : ℕ → List Account → ℕ → ℕ → Account → Account → List Account
@@ -80,7 +79,7 @@ united n xs i j a b =
     cond (eqb n 0) (set (set xs j (record { book = b .book; retired = true })) i (record { book = a .book ++ b .book; retired = a .retired })) xs
 
 unfoldable pub booked : Shape → List Account → Call → List Account
-booked sh xs (feed i f) = set xs i (entered (answeredWith sh (accountAt xs i .book) f) (accountAt xs i) (updating .enter f))
+booked sh xs (feed i f) = set xs i (withEntry (answeredWith sh (accountAt xs i .book) f) (accountAt xs i) (updating .enter f))
 booked sh xs (join i j) = united (joinNumber (accountAt xs i .book) (accountAt xs j .book)) xs i j (accountAt xs i) (accountAt xs j)
 
 -- who is retired
@@ -91,7 +90,7 @@ gone xs = map (λ (a : Account). a .retired) xs
 abbrev pub bookStep : Shape → List Account → Call → List Account
 bookStep sh xs c = cond (names (gone xs) c) (booked sh xs c) xs
 
--- after a list of calls, and of n relays from the start
+-- the accounts after a list of calls; then those of n relays from the start
 unfoldable pub ledger : Shape → List Account → List Call → List Account
 ledger sh xs [] = xs
 ledger sh xs (c ∷ cs) = ledger sh (bookStep sh xs c) cs

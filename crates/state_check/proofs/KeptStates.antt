@@ -16,12 +16,13 @@ use Rattle.header.specs.declared.Shape.{Shape}
 use Rattle.header.specs.Shape.{shapeRefusal, sameShape}
 use Rattle.header.specs.Totals.{updateTotals, addTotals}
 use Rattle.header.specs.Header.{freshHeader, joined, settled}
-use Rattle.header.specs.Accepted.{Accepted}
+use Rattle.header.specs.inner.Accepted.{Accepted}
 use Rattle.header.proofs.Bottoms.{bottom-lt}
 use Rattle.header.proofs.Refusals.{accepted-of}
 use Rattle.header.proofs.Shapes.{same-of}
 use Rattle.layer.specs.declared.Dims.{Dims}
-use Rattle.layer.specs.Layer.{Layer, noLayer, addLayer, addFits}
+use Rattle.layer.specs.Layer.{Layer}
+use Rattle.layer.specs.inner.Needs.{noLayer}
 use Rattle.layer.specs.Delta.{deltaLayer, deltaFits}
 use Rattle.layer.specs.Merge.{mergeLayer, mergeFits}
 use Rattle.univmon.specs.declared.Kind.{Kind}
@@ -29,7 +30,7 @@ use Rattle.layout.specs.State.{State, shapeOf, rowsAt, colsAt, dimsAt, layerAt,
 use Rattle.layout.specs.Records.{bottomWord}
 use Rattle.layout.proofs.States.{layers-step}
 use Rattle.layout.proofs.Fresh.{new-layer, new-sized, new-past-lens, new-past-flags}
-use Rattle.univmon.specs.Updates.{bottomBy, itemAt, modeOf, firstSent, manySent, sentAll, sentTests, updated}
+use Rattle.univmon.specs.Updates.{layerUpdateAt, fitsAt, addsAt, modeOf, firstSent, manySent, bottomBy, sentTests, updated}
 use Rattle.univmon.proofs.Touched.{sent-room}
 use Rattle.univmon_delta.specs.Deltas.{Arrival, deltaBy, counterTests, deltaTestsAt, arrived}
 use Rattle.univmon_merge.specs.Merges.{pairTests, merged}
@@ -48,10 +49,10 @@ each p s k l m h q e = passed-at (λ n i. allLayers p n i s) (λ i. p i (layerAt
 pub update-state : (k : Kind) (s : State) (words : List ℕ) (w : ℤ) → WholeState s → s .head .totals .weight + natAbs w ≤ top → Off (sentTests k s words w) → WholeState (updated k s words w)
 unfolding updated layerAt
 update-state k s words w g light o =
-    over-whole (λ l y. addLayer (dimsAt (s .head .shape) l) (itemAt words w l) y) M F
+    over-whole (addsAt (s .head .shape) words (natAbs w)) M F
     _ (head-whole s (addTotals (s .head .totals) (updateTotals (natAbs w))) (joined (s .head .mode) (modeOf k)) g light) room
-    (λ m p q x. add-whole (dimsAt (s .head .shape) m) (itemAt words w m) (layerAt s m) (shaped-at (s .head .shape) a m .some) (a .seats) x
-    (each (λ l y. addFits (dimsAt (s .head .shape) l) (itemAt words w l) y) s M F m p q fits))
+    (λ m p q x. add-whole (dimsAt (s .head .shape) m) (layerUpdateAt words (natAbs w) m) (layerAt s m) (shaped-at (s .head .shape) a m .some) (a .seats) x
+    (each (fitsAt (s .head .shape) words (natAbs w)) s M F m p q fits))
   where
     M : ℕ
     M = manySent k (bottomBy s words)
@@ -65,8 +66,8 @@ update-state k s words w g light o =
     room : firstSent k (bottomBy s words) + manySent k (bottomBy s words) ≤ s .head .shape .layers
     room = sent-room k (bottomBy s words) (s .head .shape .layers) (bottom-lt (bottomWord words) (s .head .shape .layers) (state-accepted s g .some))
 
-    fits : sentAll k (λ l y. addFits (dimsAt (shapeOf s) l) (itemAt words w l) y) s words ≡ true
-    fits = not-false (sentAll k (λ l y. addFits (dimsAt (shapeOf s) l) (itemAt words w l) y) s words) (o .1 .0)
+    fits : allLayers (fitsAt (shapeOf s) words (natAbs w)) (manySent k (bottomBy s words)) (firstSent k (bottomBy s words)) s ≡ true
+    fits = not-false (allLayers (fitsAt (shapeOf s) words (natAbs w)) (manySent k (bottomBy s words)) (firstSent k (bottomBy s words)) s) (o .1 .0)
 
 -- ---- a delta
 

@@ -22,13 +22,13 @@ use Rattle.countsketch_l2_norm.specs.Merge.{rowNorm, rowNorms}
 use Rattle.countsketch_l2_norm.proofs.Kept.{Kept}
 use Rattle.countsketch_l2_norm.proofs.Merges.{length-rowNorms, row-at}
 use Rattle.heap_moves.specs.Cands.{Cand, noCand, countAt, parent}
-use Rattle.heap_moves.specs.Totals.{Each}
-use Rattle.heap_moves.proofs.Views.{who-path, cand-path}
+use Rattle.heap_moves.specs.inner.Totals.{Each}
+use Rattle.heap_moves.proofs.Views.{item-path, cand-path}
 use Rattle.heap.specs.Offer.{Table}
-use Rattle.heap.specs.Sound.{Sound}
+use Rattle.heap.specs.inner.Sound.{Sound}
 use Rattle.layer.specs.declared.Dims.{Dims}
 use Rattle.layer.specs.Layer.{Layer}
-use Rattle.layer.specs.Needs.{Fits}
+use Rattle.layer.specs.inner.Needs.{Fits}
 use Rattle.state_check.specs.Check.{rowOk, rowsOk, isNone, seatedOk, seatOk, seatsOk, layerOk}
 use Rattle.state_check.proofs.RowSums.{all-of, rows-step, rows-none}
 use Rattle.state_check.proofs.Seatings.{seats-step, seats-none}
@@ -103,16 +103,16 @@ zero-is (negsuc n) e = absurd (never e)
 none-is : (c : Cand) → isNone c ≡ true → c ≡ noCand
 unfolding isNone
 none-is c e =
-    let k = eqb (c .who .key) 0 in
-    let b = eqb (c .who .bottom) 0 in
-    let h = eqb (c .who .high) 0 in
-    let l = eqb (c .who .low) 0 in
+    let k = eqb (c .item .key) 0 in
+    let b = eqb (c .item .bottom) 0 in
+    let h = eqb (c .item .high) 0 in
+    let l = eqb (c .item .low) 0 in
     let z = leZ (c .count) (pos 0) && leZ (pos 0) (c .count) in
     let kbhl = and-left (k && b && h && l) z e in
     let kbh = and-left (k && b && h) l kbhl in
     let kb = and-left (k && b) h kbh in
     cand-path
-    (who-path (eqb-true (c .who .key) 0 (and-left k b kb)) (eqb-true (c .who .bottom) 0 (and-right k b kb)) (eqb-true (c .who .high) 0 (and-right (k && b) h kbh)) (eqb-true (c .who .low) 0 (and-right (k && b && h) l kbhl)))
+    (item-path (eqb-true (c .item .key) 0 (and-left k b kb)) (eqb-true (c .item .bottom) 0 (and-right k b kb)) (eqb-true (c .item .high) 0 (and-right (k && b) h kbh)) (eqb-true (c .item .low) 0 (and-right (k && b && h) l kbhl)))
     (zero-is (c .count) (and-right (k && b && h && l) z e))
 
 none-pass : (c : Cand) → c ≡ noCand → isNone c ≡ true

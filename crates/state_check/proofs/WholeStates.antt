@@ -20,14 +20,14 @@ use Rattle.header.specs.declared.Totals.{Totals}
 use Rattle.header.specs.Totals.{totalsOk}
 use Rattle.header.specs.Header as head
 use Rattle.header.specs.Header.{headerOk, lensFrom, withMode, withTotals, withFlags}
-use Rattle.header.specs.Accepted.{Accepted}
+use Rattle.header.specs.inner.Accepted.{Accepted}
 use Rattle.header.proofs.Ranges.{ranged-of}
 use Rattle.header.proofs.Refusals.{accepted-of}
 use Rattle.header.proofs.Steps.{lens-step, lens-none}
 use Rattle.layer.specs.Layer.{Layer}
 use Rattle.layout.specs.State.{State, dimsAt, layerAt, putLayer, overLayers, allLayers, withHead}
 use Rattle.layout.specs.Slices.{Lent, lentOk, view, flat}
-use Rattle.layout.specs.Needs.{Standing}
+use Rattle.layout.specs.inner.Needs.{Standing}
 use Rattle.layout.proofs.States as univmon
 use Rattle.layout.proofs.Lengths.{standing-of, long-view}
 use Rattle.layout.proofs.States.{layers-step, layers-none}

@@ -33,7 +33,7 @@ rowsOk cols s (suc k) r = rowOk cols s r && rowsOk cols s k (suc r)
 
 -- an unused entry is zero: key, bottom hash, both halves and the count
 unfoldable pub isNone : Cand → Bool
-isNone c = eqb (c .who .key) 0 && eqb (c .who .bottom) 0 && eqb (c .who .high) 0 && eqb (c .who .low) 0 && (leZ (c .count) (pos 0) && leZ (pos 0) (c .count))
+isNone c = eqb (c .item .key) 0 && eqb (c .item .bottom) 0 && eqb (c .item .high) 0 && eqb (c .item .low) 0 && (leZ (c .count) (pos 0) && leZ (pos 0) (c .count))
 
 -- a candidate's count is in range and not below its parent's
 abbrev pub seatedOk : List Cand → ℕ → Bool

@@ -3,18 +3,18 @@ ghost use mathlib.Core.Path.{_≡_};
 ghost use mathlib.Core.Bool.{Bool, false};
 ghost use Prim.Native.Nat.{ℕ, _*_, _<_};
 ghost use lib.ListN.{length};
-ghost use Rattle.layer.specs.Layer.{layerOf};
-ghost use Rattle.layer.specs.Needs.{Housed};
+ghost use Rattle.layer.specs.inner.Needs.{layerOf, Housed};
 ghost use Rattle.layout.specs.State.{dimsAt, layerAt};
-ghost use Rattle.layout.specs.Slices.{lent, view};
-ghost use Rattle.layout.specs.Needs.{Standing};
+ghost use Rattle.layout.specs.Slices.{view};
+ghost use Rattle.layout.specs.inner.Needs.{Standing};
 ghost use Rattle.state_check.specs.Check.{layerOk, layersOk, stateOk};
+ghost use Rattle.layout.specs.Lending.{lentIn, lentNow};
 use crate::candidates::seats_ok;
 use crate::rows::rows_ok;
 use header::Header;
 use layer::Dims;
 
-// Of one layer, in its parts of the slices.
+// The check of one layer, lent as its parts of the slices.
 fn layer_ok(
     cells: &[i64],
     norms: &[u64],
@@ -34,7 +34,7 @@ fn layer_ok(
     seats_ok(entries, counts, dims.size, len)
 }
 
-// Of layer l of a state.
+// The check of layer l of a state.
 fn layer_at(
     header: Header,
     counters: &[i64],
@@ -43,10 +43,10 @@ fn layer_at(
     counts: &[i64],
     l: usize,
 ) -> bool
-    requires { ⌜ Standing (lent header (now counters) (now norms) (now entries) (now counts)) ⌝ }
+    requires { ⌜ Standing (lentNow header counters norms entries counts) ⌝ }
     requires { ⌜ l < header .shape .layers ⌝ }
     ensures { λ r. ⌜ r ≡ layerOk (dimsAt (header .shape) l)
-        (layerAt (view (lent header (now (counters .entry)) (now (norms .entry)) (now (entries .entry)) (now (counts .entry)))) l) ⌝ }
+        (layerAt (view (lentIn header counters norms entries counts)) l) ⌝ }
 {
     let shape = header.shape;
     let lens = header.lens;
@@ -61,7 +61,7 @@ fn layer_at(
     )
 }
 
-// Of every layer.
+// The check of every layer.
 fn layers_ok(
     header: Header,
     counters: &[i64],
@@ -69,9 +69,9 @@ fn layers_ok(
     entries: &[u64],
     counts: &[i64],
 ) -> bool
-    requires { ⌜ Standing (lent header (now counters) (now norms) (now entries) (now counts)) ⌝ }
+    requires { ⌜ Standing (lentNow header counters norms entries counts) ⌝ }
     ensures { λ r. ⌜ r ≡ layersOk
-        (view (lent header (now (counters .entry)) (now (norms .entry)) (now (entries .entry)) (now (counts .entry)))) ⌝ }
+        (view (lentIn header counters norms entries counts)) ⌝ }
 {
     let layers = header.shape.layers;
     let mut l = 0;
@@ -93,7 +93,7 @@ pub fn check_state(
     entries: &[u64],
     counts: &[i64],
 ) -> bool
-    ensures { λ r. ⌜ r ≡ stateOk (lent header (now (counters .entry)) (now (norms .entry)) (now (entries .entry)) (now (counts .entry))) ⌝ }
+    ensures { λ r. ⌜ r ≡ stateOk (lentIn header counters norms entries counts) ⌝ }
 {
     if !header.in_range() {
         return false;

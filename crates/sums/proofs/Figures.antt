@@ -5,7 +5,8 @@ use mathlib.Core.Bool.{true}
 use mathlib.Core.List.{List, [], _∷_}
 use lib.IntN.{pos, negsuc}
 use lib.Ieee.{binary64, add, sub, mul, ofInt, ofBits}
-use Rattle.sums.specs.Entries.{Entry, entry}
+use Rattle.sums.specs.Entries.{Entry}
+use Rattle.sums.specs.inner.Spaces.{entry}
 use Rattle.sums.specs.Terms.{gOf, factor, counted, addTerm, sumOver}
 use Rattle.sums.specs.Layers.{gSum, standardSum}
 use Rattle.sums.specs.Terminal.{ahead, rankIn, ranked, gatherOne, gatherEntries}

@@ -9,9 +9,9 @@ use lib.IntN.{ℤ, pos, negsuc, subℕ, _+ℤ_, _*ℤ_, +ℤ-assoc, +ℤ-comm}
 use lib.Dec.{eqb}
 use borrow.Author.Tests.{eq-eqb, le-ltb, eqb-true}
 use Rattle.sums.specs.Entries.{Entry}
-use Rattle.sums.specs.Whole.{bitOff, bitSum, keySum, onward, times}
+use Rattle.sums.specs.inner.Whole.{bitOff, bitSum, keySum, onward, entryTimes}
 
--- the bits' sum, with those whose bit is 1 counted twice more, counts all
+-- twice the number of those whose bit is 1, plus the sum of the signs, is the number of all
 bits-all : (l : ℕ) (es : List Entry) → pos 2 *ℤ pos (length (onward l es)) +ℤ bitSum l es ≡ pos (length es)
 unfolding onward bitSum
 bits-all l [] = refl
@@ -52,8 +52,8 @@ without k (e ∷ es) = cond (eqb (e .key) k) es (e ∷ without k es)
 hit : ℕ → ℕ → ℕ
 hit a k = cond (eqb a k) 1 0
 
-empty : (k : ℕ) → times k [] ≡ 0
-unfolding times
+empty : (k : ℕ) → entryTimes k [] ≡ 0
+unfolding entryTimes
 empty k = refl
 
 hit-self : (k : ℕ) → hit k k ≡ 1
@@ -64,35 +64,35 @@ hit-no : (a k : ℕ) → eqb a k ≡ false → hit a k ≡ 0
 unfolding hit
 hit-no a k e = rw e
 
-times-cons : (k : ℕ) (e : Entry) (es : List Entry) → times k (e ∷ es) ≡ hit (e .key) k + times k es
-unfolding times hit
+times-cons : (k : ℕ) (e : Entry) (es : List Entry) → entryTimes k (e ∷ es) ≡ hit (e .key) k + entryTimes k es
+unfolding entryTimes hit
 times-cons k e es = go (eqb (e .key) k)
   where
-    go : (b : Bool) → cond b (suc (times k es)) (times k es) ≡ cond b 1 0 + times k es
+    go : (b : Bool) → cond b (suc (entryTimes k es)) (entryTimes k es) ≡ cond b 1 0 + entryTimes k es
     go true = omega arith
     go false = omega arith
 
 -- without one of a key that is there, the list is one shorter, and has that key once less
-without-one : (k : ℕ) (es : List Entry) → 0 < times k es → (suc (length (without k es)) ≡ length es) × ((j : ℕ) → times j es ≡ hit k j + times j (without k es))
+without-one : (k : ℕ) (es : List Entry) → 0 < entryTimes k es → (suc (length (without k es)) ≡ length es) × ((j : ℕ) → entryTimes j es ≡ hit k j + entryTimes j (without k es))
 unfolding without
 without-one k [] h = absurd (none h)
   where
-    none : 0 < times k [] → ⊥
+    none : 0 < entryTimes k [] → ⊥
     none h = omega (arith, h, empty k)
 without-one k (e ∷ es) h = go (eqb (e .key) k) refl (without-one k es)
   where
-    go : (b : Bool) → eqb (e .key) k ≡ b → (0 < times k es → (suc (length (without k es)) ≡ length es) × ((j : ℕ) → times j es ≡ hit k j + times j (without k es)))
-        → (suc (length (cond b es (e ∷ without k es))) ≡ suc (length es)) × ((j : ℕ) → times j (e ∷ es) ≡ hit k j + times j (cond b es (e ∷ without k es)))
-    go true t ih = (refl, λ j. times-cons j e es ∙ ap (λ (x : ℕ). hit x j + times j es) (eqb-true (e .key) k t))
+    go : (b : Bool) → eqb (e .key) k ≡ b → (0 < entryTimes k es → (suc (length (without k es)) ≡ length es) × ((j : ℕ) → entryTimes j es ≡ hit k j + entryTimes j (without k es)))
+        → (suc (length (cond b es (e ∷ without k es))) ≡ suc (length es)) × ((j : ℕ) → entryTimes j (e ∷ es) ≡ hit k j + entryTimes j (cond b es (e ∷ without k es)))
+    go true t ih = (refl, λ j. times-cons j e es ∙ ap (λ (x : ℕ). hit x j + entryTimes j es) (eqb-true (e .key) k t))
     go false t ih =
         let z : hit (e .key) k ≡ 0 = hit-no (e .key) k t in
         let r = ih (omega (arith, times-cons k e es, z, h)) in
         (ap suc (r .0), λ j. omega (arith, times-cons j e es, times-cons j e (without k es), r .1 j))
 
-pub same-length : (xs ys : List Entry) → ((k : ℕ) → times k xs ≡ times k ys) → length xs ≡ length ys
+pub same-length : (xs ys : List Entry) → ((k : ℕ) → entryTimes k xs ≡ entryTimes k ys) → length xs ≡ length ys
 same-length [] [] h = refl
 same-length [] (y ∷ ys) h = absurd (omega (arith, h (y .key), empty (y .key), times-cons (y .key) y ys, hit-self (y .key)))
 same-length (x ∷ xs) ys h =
-    let t : 0 < times (x .key) ys = omega (arith, h (x .key), times-cons (x .key) x xs, hit-self (x .key)) in
+    let t : 0 < entryTimes (x .key) ys = omega (arith, h (x .key), times-cons (x .key) x xs, hit-self (x .key)) in
     let w = without-one (x .key) ys t in
     ap suc (same-length xs (without (x .key) ys) (λ k. omega (arith, h k, times-cons k x xs, w .1 k))) ∙ w .0

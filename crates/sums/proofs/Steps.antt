@@ -11,7 +11,7 @@ use borrow.Author.Tests.{eq-eqb, ne-eqb, eqb-true, eqb-false}
 use Rattle.sums.specs.Entries.{Entry}
 use Rattle.sums.specs.Terms.{plusZero, sumOver}
 use Rattle.sums.specs.Layers.{ruleAt, gSum, standardSum}
-use Rattle.sums.specs.Up.{joinedSums}
+use Rattle.sums.specs.inner.Up.{joinedSums}
 use Rattle.sums.specs.declared.G.{G}
 
 -- the last layer is the one with none below it

@@ -7,7 +7,8 @@ use native.Mathlib.Nat.{sub-zero}
 use native.Mathlib.Numerals.{add-one}
 use lib.ListN.{length}
 use lib.Ieee.{Float}
-use Rattle.sums.specs.Entries.{Entry, Space, space, at, entriesIn, listed}
+use Rattle.sums.specs.Entries.{Entry}
+use Rattle.sums.specs.inner.Spaces.{Space, space, at, entriesIn, listed}
 use Rattle.sums.specs.Terms.{plusZero, addTerm, sumOver}
 use Rattle.sums.specs.declared.Rule.{Rule}
 
@@ -21,7 +22,7 @@ unfolding listed
 length-listed f i zero = refl
 length-listed f i (suc n) = ap suc (length-listed f (suc i) n)
 
--- one place is left, and none
+-- where a place is left, and where none is
 pub listed-step : (f : ℕ → Entry) (i n : ℕ) → i < n → listed f i (n - i) ≡ f i ∷ listed f (i + 1) (n - (i + 1))
 unfolding listed
 listed-step f i n h = let e : n - i ≡ suc (n - (i + 1)) = omega arith in rw (e, add-one)

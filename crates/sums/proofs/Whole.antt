@@ -16,7 +16,7 @@ use Rattle.words.proofs.Signed.{abs-add, abs-mul}
 use Rattle.sums.specs.Entries.{Entry}
 use Rattle.sums.specs.Terms.{plusZero, one, gOf, factor, counted, addTerm, sumOver}
 use Rattle.sums.specs.Layers.{ruleAt, gSum}
-use Rattle.sums.specs.Whole.{bitOff, bitSum, keySum}
+use Rattle.sums.specs.inner.Whole.{bitOff, bitSum, keySum}
 use Rattle.sums.specs.declared.G.the-variants.{One}
 
 -- the factor of a bit that is 0, and of one that is 1

@@ -1,6 +1,5 @@
 pub mod Entries
-pub mod Terms
 pub mod Layers
-pub mod Up
 pub mod Terminal
-pub mod Whole
+pub mod Terms
+pub mod inner

@@ -5,9 +5,9 @@ ghost use mathlib.Core.Path.{_≡_};
 ghost use mathlib.Core.List.{[]};
 ghost use Prim.Native.Nat.{ℕ, _<_, _≤_};
 ghost use lib.ListN.{length};
-ghost use Rattle.sums.specs.Entries.{space, entriesIn};
+ghost use Rattle.sums.specs.inner.Spaces.{space, entriesIn};
 ghost use Rattle.sums.specs.Terms.{plusZero, gOf, factor, counted, addTerm, sumOver};
-ghost use Rattle.sums.specs.Up.{joinedSums};
+ghost use Rattle.sums.specs.inner.Up.{joinedSums};
 
 // What is summed of a count.
 pub enum G {
@@ -90,7 +90,7 @@ pub fn layer_sum(bottoms: &[u64], counts: &[i64], n: usize, rule: Rule) -> f64
     acc
 }
 
-// A layer's own sum, on the sum of the layer below it.
+// The recursion's sum at a layer, from the layer's own sum and the recursion's sum below it.
 pub fn join(last: bool, below: f64, own: f64) -> f64
     ensures { λ r. ⌜ r ≡ joinedSums last below own ⌝ }
 {

@@ -112,7 +112,7 @@ hex-sound s i e = hex-is 16 0 (drop i s) e ∙ rw (drop-drop 16 i s)
 pub hex-word : (s : List ℕ) (i : ℕ) → hexOkAt s i ≡ true → Word (hexAt s i)
 hex-word s i e = let d : hexAt s i / 2 ^ 64 ≡ 0 = hex-high 16 0 (drop i s) e in omega arith
 
--- digits that are there take room
+-- a text that begins with k digits has at least k bytes
 hexOk-long : (k : ℕ) (bs : List ℕ) → hexOk k bs ≡ true → k ≤ length bs
 unfolding hexOk
 hexOk-long zero bs e = omega arith

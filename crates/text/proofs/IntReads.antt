@@ -14,7 +14,7 @@ use Rattle.text.specs.declared.decimals.Num.{Num}
 use Rattle.text.specs.declared.decimals.Num.the-variants as N
 use Rattle.text.specs.declared.signed.Int.the-variants as I
 use Rattle.text.specs.Decimals.{isDigit, fieldAt, dec}
-use Rattle.text.specs.Signs.{signed, SignedWord, negated, plain, intAt}
+use Rattle.text.specs.Signs.{signedDec, SignedWord, negated, unsigned, intAt}
 use Rattle.text.proofs.DecTexts.{dec-head}
 use Rattle.text.proofs.DecReads.{field-reads}
 use Rattle.text.proofs.DecSound.{Field, field-sound}
@@ -31,7 +31,7 @@ not-minus s t i n stop k w =
     (p .inside, ne-eqb (getD s i 0) 45 (λ e. omega (arith, e, p .byte)))
 
 pos-reads : (s t : List ℕ) (i n stop : ℕ) → n < 2 ^ 63 → isDigit stop ≡ false → drop i s ≡ dec n ++ (stop ∷ t) → intAt s i stop ≡ I.At (pos n) (suc (i + length (dec n)))
-unfolding intAt plain
+unfolding intAt unsigned
 pos-reads s t i n stop k e w =
     let p = not-minus s t i n stop k w in
     rw (lt-leb (length s) i (p .0), p .1, field-reads s t i n stop (omega arith) e w, le-ltb (2 ^ 63 - 1) n (omega arith))
@@ -46,8 +46,8 @@ neg-reads s t i n stop k e w =
     rw (lt-leb (length s) i (p .inside), eq-eqb (getD s i 0) 45 (p .byte), z, f, ne-eqb (suc n) 0 (λ q. omega (arith, q)), le-ltb (2 ^ 63) (suc n) (omega arith), d)
 
 -- a signed decimal with the byte stop after it
-pub int-reads : (s t : List ℕ) (i : ℕ) (z : ℤ) (stop : ℕ) → SignedWord z → isDigit stop ≡ false → drop i s ≡ signed z ++ (stop ∷ t) → intAt s i stop ≡ I.At z (suc (i + length (signed z)))
-unfolding signed
+pub int-reads : (s t : List ℕ) (i : ℕ) (z : ℤ) (stop : ℕ) → SignedWord z → isDigit stop ≡ false → drop i s ≡ signedDec z ++ (stop ∷ t) → intAt s i stop ≡ I.At z (suc (i + length (signedDec z)))
+unfolding signedDec
 int-reads s t i (pos n) stop k e w = pos-reads s t i n stop k e w
 int-reads s t i (negsuc n) stop k e w =
     let l : suc i + length (dec (suc n)) ≡ i + suc (length (dec (suc n))) = omega arith in
@@ -61,10 +61,10 @@ clash z j e = let o : _≡_ {A = ℕ} 0 1 = cc in omega arith
 -- the number, its text with the byte stop after it, and what is left from place j on
 pub record IntField (s : List ℕ) (i stop : ℕ) (z : ℤ) (j : ℕ) : Type 0 where
   pub word : SignedWord z
-  pub text : drop i s ≡ signed z ++ (stop ∷ drop j s)
+  pub text : drop i s ≡ signedDec z ++ (stop ∷ drop j s)
 
 neg-sound : (s : List ℕ) (i stop : ℕ) (z : ℤ) (j : ℕ) → getD s i 0 ≡ 45 → negated (fieldAt s (i + 1) stop) ≡ I.At z j → IntField s i stop z j
-unfolding negated signed
+unfolding negated signedDec
 neg-sound s i stop z j m e = go (fieldAt s (i + 1) stop) refl e
   where
     end : (v k : ℕ) → Field s (i + 1) stop v k → (a : Bool) → eqb v 0 ≡ a → (b : Bool) → ltb (2 ^ 63) v ≡ b → cond a I.Bad (cond b I.Bad (I.At (negsuc (v - 1)) k)) ≡ I.At z j → IntField s i stop z j
@@ -83,8 +83,8 @@ neg-sound s i stop z j m e = go (fieldAt s (i + 1) stop) refl e
     go (N.At v k) d r = end v k (field-sound s (i + 1) stop v k d) (eqb v 0) refl (ltb (2 ^ 63) v) refl r
     go N.Bad d r = absurd (clash z j r)
 
-plain-sound : (s : List ℕ) (i stop : ℕ) (z : ℤ) (j : ℕ) → plain (fieldAt s i stop) ≡ I.At z j → IntField s i stop z j
-unfolding plain signed
+plain-sound : (s : List ℕ) (i stop : ℕ) (z : ℤ) (j : ℕ) → unsigned (fieldAt s i stop) ≡ I.At z j → IntField s i stop z j
+unfolding unsigned signedDec
 plain-sound s i stop z j e = go (fieldAt s i stop) refl e
   where
     end : (v k : ℕ) → Field s i stop v k → (b : Bool) → ltb (2 ^ 63 - 1) v ≡ b → cond b I.Bad (I.At (pos v) k) ≡ I.At z j → IntField s i stop z j
@@ -94,7 +94,7 @@ plain-sound s i stop z j e = go (fieldAt s i stop) refl e
         let b : k ≡ j = cc in
         rw (← a, ← b) (record { word = omega (arith, ltb-false (2 ^ 63 - 1) v q); text = f .text })
 
-    go : (n : Num) → fieldAt s i stop ≡ n → plain n ≡ I.At z j → IntField s i stop z j
+    go : (n : Num) → fieldAt s i stop ≡ n → unsigned n ≡ I.At z j → IntField s i stop z j
     go (N.At v k) d r = end v k (field-sound s i stop v k d) (ltb (2 ^ 63 - 1) v) refl r
     go N.Bad d r = absurd (clash z j r)
 
@@ -102,7 +102,7 @@ pub int-sound : (s : List ℕ) (i stop : ℕ) (z : ℤ) (j : ℕ) → intAt s i 
 unfolding intAt
 int-sound s i stop z j e = go (leb (length s) i) (eqb (getD s i 0) 45) refl e
   where
-    go : (a b : Bool) → eqb (getD s i 0) 45 ≡ b → cond a I.Bad (cond b (negated (fieldAt s (i + 1) stop)) (plain (fieldAt s i stop))) ≡ I.At z j → IntField s i stop z j
+    go : (a b : Bool) → eqb (getD s i 0) 45 ≡ b → cond a I.Bad (cond b (negated (fieldAt s (i + 1) stop)) (unsigned (fieldAt s i stop))) ≡ I.At z j → IntField s i stop z j
     go true b q r = absurd (clash z j r)
     go false true q r = neg-sound s i stop z j (eqb-true (getD s i 0) 45 q) r
     go false false q r = plain-sound s i stop z j r

@@ -13,7 +13,7 @@ use mir.Val.{toZ, ofZ}
 use mir.Facts.{toZ-ofZ}
 use Rattle.words.proofs.Bools.{never}
 use Rattle.text.specs.Decimals.{dec}
-use Rattle.text.specs.Signs.{signed}
+use Rattle.text.specs.Signs.{signedDec}
 use Rattle.text.proofs.DecTexts.{dec-length}
 
 -- a signed number that is kept as bits comes back
@@ -27,17 +27,17 @@ pub minus-one : (m : ℕ) → negsuc 0 -ℤ pos m ≡ negsuc m
 minus-one zero = refl
 minus-one (suc m) = ap negsuc (omega arith)
 
-pub below : (z : ℤ) → ltZ z (pos 0) ≡ true → signed z ≡ 45 ∷ dec (natAbs z)
-unfolding signed
+pub below : (z : ℤ) → ltZ z (pos 0) ≡ true → signedDec z ≡ 45 ∷ dec (natAbs z)
+unfolding signedDec
 below (pos n) e = absurd (omega (arith, ltb-true n 0 e))
 below (negsuc n) e = refl
 
-pub not-below : (z : ℤ) → ltZ z (pos 0) ≡ false → signed z ≡ dec (natAbs z)
-unfolding signed
+pub not-below : (z : ℤ) → ltZ z (pos 0) ≡ false → signedDec z ≡ dec (natAbs z)
+unfolding signedDec
 not-below (pos n) e = refl
 not-below (negsuc n) e = absurd (never (sym e))
 
-pub signed-length : (z : ℤ) → length (signed z) ≤ 21
-unfolding signed
+pub signed-length : (z : ℤ) → length (signedDec z) ≤ 21
+unfolding signedDec
 signed-length (pos n) = omega (arith, dec-length n)
 signed-length (negsuc n) = omega (arith, dec-length (suc n))

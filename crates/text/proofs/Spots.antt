@@ -48,7 +48,7 @@ byte-inside s i b e = go (ltb i (length s)) refl
 pub byte-at : (s : List ℕ) (i b : ℕ) → getD s i 0 ≡ suc b → drop i s ≡ suc b ∷ drop (i + 1) s
 byte-at s i b e = let z : i + 1 ≡ suc i = omega arith in drop-cons s i 0 (byte-inside s i b e) ∙ rw (e, z)
 
--- nothing is left exactly at the end
+-- a place in a text with nothing behind it is the end
 pub at-end : (s : List ℕ) (i : ℕ) → drop i s ≡ [] → i ≤ length s → i ≡ length s
 at-end s i e h = let l : length s - i ≡ 0 = sym (length-drop i s) ∙ ap length e in omega arith
 

@@ -12,9 +12,9 @@ use Rattle.text.specs.declared.signed.Int.the-variants as I
 use Rattle.text.specs.Decimals.{dec, fieldAt}
 
 -- negsuc n is -1 - n, so no number is written `-0`
-unfoldable pub signed : ℤ → List ℕ
-signed (pos n) = dec n
-signed (negsuc n) = 45 ∷ dec (suc n)
+unfoldable pub signedDec : ℤ → List ℕ
+signedDec (pos n) = dec n
+signedDec (negsuc n) = 45 ∷ dec (suc n)
 
 -- from -2^63 to 2^63 - 1
 abbrev pub SignedWord : ℤ → Type 0
@@ -26,13 +26,13 @@ unfoldable pub negated : Num → Int
 negated (N.At v i) = cond (eqb v 0) I.Bad (cond (ltb (2 ^ 63) v) I.Bad (I.At (negsuc (v - 1)) i))
 negated N.Bad = I.Bad
 
-unfoldable pub plain : Num → Int
-plain (N.At v i) = cond (ltb (2 ^ 63 - 1) v) I.Bad (I.At (pos v) i)
-plain N.Bad = I.Bad
+unfoldable pub unsigned : Num → Int
+unsigned (N.At v i) = cond (ltb (2 ^ 63 - 1) v) I.Bad (I.At (pos v) i)
+unsigned N.Bad = I.Bad
 
 -- a signed decimal that the byte stop ends
 unfoldable pub intAt : List ℕ → ℕ → ℕ → Int
 intAt s i stop =
     cond (leb (length s) i) I.Bad
     (cond (eqb (getD s i 0) 45) (negated (fieldAt s (i + 1) stop))
-    (plain (fieldAt s i stop)))
+    (unsigned (fieldAt s i stop)))

@@ -7,7 +7,7 @@ ghost use Prim.Native.Nat.{ℕ, _+_, _^_, _<_, _≤_};
 ghost use lib.IntN.{ℤ, pos, negsuc};
 ghost use lib.ListN.{length};
 ghost use lib.Seq.{sets};
-ghost use Rattle.text.specs.Signs.{negated, plain, intAt, signed};
+ghost use Rattle.text.specs.Signs.{negated, unsigned, intAt, signedDec};
 
 // A signed number and the place past it.
 pub enum Int {
@@ -51,7 +51,7 @@ fn negative(n: Num) -> Int
 
 // A number with no sign.
 fn not_negative(n: Num) -> Int
-    ensures { λ r. ⌜ r ≡ plain n ⌝ }
+    ensures { λ r. ⌜ r ≡ unsigned n ⌝ }
 {
     match n {
         Num::At(v, i) => {
@@ -81,9 +81,9 @@ pub fn signed_field(s: &[u8], at: usize, stop: u8) -> Int
 }
 
 pub fn put_signed(out: &mut [u8], at: usize, x: i64) -> usize
-    requires { ⌜ at + length (signed x) ≤ length (now out) ⌝ }
-    ensures { λ r. ⌜ r ≡ at + length (signed x) ⌝ }
-    ensures { λ _. ⌜ now (out .exit) ≡ sets (now (out .entry)) at (signed x) ⌝ }
+    requires { ⌜ at + length (signedDec x) ≤ length (now out) ⌝ }
+    ensures { λ r. ⌜ r ≡ at + length (signedDec x) ⌝ }
+    ensures { λ _. ⌜ now (out .exit) ≡ sets (now (out .entry)) at (signedDec x) ⌝ }
 {
     let n = words::magnitude(x);
     if x < 0 {

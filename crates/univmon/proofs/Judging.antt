@@ -9,7 +9,8 @@ use Rattle.words.proofs.Bools.{and-left, and-right, and-cross}
 use Rattle.header.specs.declared.Shape.{Shape}
 use Rattle.layout.specs.State.{State, layerAt, allLayers}
 use Rattle.layout.specs.Slices.{Lent}
-use Rattle.univmon.specs.Needs.{JudgeReady, readsAt, fitsAt, readyAt, layersTests}
+use Rattle.univmon.specs.inner.Needs.{JudgeReady, readyAt}
+use Rattle.univmon.specs.Updates.{readsAt, fitsAt, layersTests}
 
 -- one layer of many
 pub judge-one : (r : Lent) (words : List ℕ) (w many first l : ℕ) → JudgeReady r words w many first → l < many + first → JudgeReady r words w 1 l

@@ -8,14 +8,16 @@ use native.Mathlib.Numerals.{add-one}
 use lib.ListN.{length}
 use Rattle.words.proofs.Bools.{and-left, and-right}
 use Rattle.header.specs.declared.Shape.{Shape}
-use Rattle.layer.specs.Layer.{Layer, item, addLayer}
-use Rattle.layer.specs.Needs.{Fits}
+use Rattle.layer.specs.Layer.{Layer, addLayer, layerUpdate}
+use Rattle.layer.specs.inner.Needs.{Fits}
 use Rattle.layer.proofs.Steps.{add-lengths}
 use Rattle.layout.specs.State.{State, dimsAt, layerAt, putLayer, overLayers, allLayers}
 use Rattle.layout.specs.Slices.{Lent, view}
-use Rattle.layout.specs.Records.{recordLength, whoAt}
-use Rattle.layout.specs.Needs.{Standing, Headed}
-use Rattle.univmon.specs.Needs.{SendReady, SendsReady, readsAt, fitsAt, addsAt}
+use Rattle.layout.specs.Records.{recordLength, itemAt}
+use Rattle.layout.specs.inner.Needs.{Standing}
+use Rattle.header.specs.Header.{Headed}
+use Rattle.univmon.specs.inner.Needs.{SendReady, SendsReady}
+use Rattle.univmon.specs.Updates.{readsAt, fitsAt, addsAt}
 use Rattle.layout.proofs.Lengths.{long-view}
 use Rattle.layout.proofs.States.{at-fits, all-later}
 
@@ -55,18 +57,18 @@ module _ (r₀ : Lent) (words : List ℕ) (w many first : ℕ) (p : SendsReady r
           }
 
   -- the layer was sent to
-  pub sending-on : (t : Lent) → view t ≡ putLayer (view r) l (addLayer (dimsAt (r .head .shape) l) (item (whoAt words l) w) (layerAt (view r) l)) → Standing t → Headed (t .head) → Sending r₀ words w many first t (l + 1)
+  pub sending-on : (t : Lent) → view t ≡ putLayer (view r) l (addLayer (dimsAt (r .head .shape) l) (layerUpdate (itemAt words l) w) (layerAt (view r) l)) → Standing t → Headed (t .head) → Sending r₀ words w many first t (l + 1)
   unfolding allLayers overLayers putLayer view
   sending-on t e z hd = go (v .left) (v .all) (v .read) (v .fit) (v .goes)
     where
       y : Layer
-      y = addLayer (dimsAt (r .head .shape) l) (item (whoAt words l) w) (layerAt (view r) l)
+      y = addLayer (dimsAt (r .head .shape) l) (layerUpdate (itemAt words l) w) (layerAt (view r) l)
 
-      y-is : addLayer (dimsAt (r .head .shape) l) (item (whoAt words l) w) (layerAt (view r) l) ≡ addsAt (r₀ .head .shape) words w l (layerAt (view r) l)
+      y-is : addLayer (dimsAt (r .head .shape) l) (layerUpdate (itemAt words l) w) (layerAt (view r) l) ≡ addsAt (r₀ .head .shape) words w l (layerAt (view r) l)
       y-is = ap (λ (sh : Shape). addsAt sh words w l (layerAt (view r) l)) (v .shape)
 
       fits : Fits (dimsAt (r .head .shape) l) y
-      fits = add-lengths (dimsAt (r .head .shape) l) (item (whoAt words l) w) (layerAt (view r) l) (at-fits (view r) (long-view r (v .standing)) l inside)
+      fits = add-lengths (dimsAt (r .head .shape) l) (layerUpdate (itemAt words l) w) (layerAt (view r) l) (at-fits (view r) (long-view r (v .standing)) l inside)
 
       later : (f : ℕ → Layer → Bool) (n : ℕ) → suc n + l ≡ many + first → allLayers f n (suc l) (view r) ≡ true → allLayers f n (l + 1) (view t) ≡ true
       later f n q a =

@@ -21,16 +21,16 @@ use Rattle.univmon.specs.declared.Kind.{Kind}
 use Rattle.layout.specs.State.{State, layerAt, putLayer, overLayers, withHead}
 use Rattle.layout.specs.Slices.{Lent, lent, view, flat}
 use Rattle.layout.specs.Outcomes.{judge, Left, left, leftBy}
-use Rattle.layout.specs.Needs.{Standing}
+use Rattle.layout.specs.inner.Needs.{Standing}
 use Rattle.layout.proofs.Lengths.{standing-of}
 use Rattle.layout.proofs.Flatten.{lent-is}
 use Rattle.layout.proofs.Judged.{judge-rest, judge-told, left-refused, left-done, left-by}
-use Rattle.univmon.specs.Updates.{modeOf, firstSent, manySent, bottomBy, sentTests, updateTests, updated}
+use Rattle.univmon.specs.Updates.{modeOf, firstSent, manySent, bottomBy, sentTests, updateTests, updated, addsAt, layersTests}
 use Rattle.univmon.specs.Calls.{updateCall, placeTests, lentUpdateCall}
 use Rattle.univmon.proofs.Touched.{sent-room}
-use Rattle.univmon.specs.Needs.{SendsReady, JudgeReady, KeyReady, addsAt, layersTests, sentBy, keySent, soundIn, sentAfter}
+use Rattle.univmon.specs.inner.Needs.{SendsReady, JudgeReady, KeyReady, sentBy, keySent, soundIn, sentAfter}
 
--- ---- a header that begins an update changes no layer, before the layers or after them
+-- ---- the beginning of an update changes no layer: it may come before the layers or after them
 
 pub sends-kept : (f : ℕ → Layer → Layer) (k l : ℕ) (s : State) (u : Totals) (m : Mode)
     → overLayers f k l (withHead s (begun (s .head) u m)) ≡ withHead (overLayers f k l s) (begun (overLayers f k l s .head) u m)
@@ -108,13 +108,13 @@ module _ (k : Kind) (n : ℕ) (words : List ℕ) (w : ℤ) (r : Lent) where
       let p : judge rest (sent k words (natAbs w) r) ≡ judge (sentTests k (view r) words w) (sent k words (natAbs w) r) = rw (eq-eqb n 0 e) in
       ap (leftBy r) (sym (judge-rest (soundIn r words) rest _ (off-number (soundIn r words) refl z) ∙ p))
 
--- ---- what the call answers, by what all but its beginning left
+-- ---- what the whole call answers, from what all of it but the beginning left
 
--- a state whose totals and mode an update has begun with
+-- a state with the totals and the mode that an update's beginning gives
 abbrev pub begunIn : Kind → ℤ → Lent → Lent
 begunIn k w t = lent (begun (t .head) (updateTotals (natAbs w)) (modeOf k)) (t .counters) (t .norms) (t .entries) (t .counts)
 
--- a header with 19 lengths and flags
+-- where lengths and flags have 19 places, the call that is lent them leaves what the other one does
 pub placed-call : (k : Kind) (r : Lent) (words : List ℕ) (w : ℤ) → length (r .head .lens) ≡ maxLayers → length (r .head .flags) ≡ maxLayers → leftBy r (lentUpdateCall k r words w) ≡ leftBy r (updateCall k r words w)
 unfolding lentUpdateCall updateCall
 placed-call k r words w l f = ap (leftBy r) (judge-rest (placeTests (r .head)) (updateTests k r words w) _ (rw (eq-eqb _ maxLayers l), (rw (eq-eqb _ maxLayers f), tt)))

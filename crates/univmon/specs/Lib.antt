@@ -1,3 +1,3 @@
 pub mod Calls
-pub mod Needs
 pub mod Updates
+pub mod inner

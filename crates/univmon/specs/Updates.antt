@@ -8,17 +8,28 @@ use Rattle.header.specs.declared.Mode.the-variants as mode
 use Rattle.header.specs.Shape.{bottomOf}
 use Rattle.header.specs.Totals.{updateTotals}
 use Rattle.header.specs.Header.{scalarsOf, begun, beginTests}
-use Rattle.layer.specs.Layer.{Layer, Item, addLayer, addReads, addFits}
+use Rattle.layer.specs.Layer.{Layer, LayerUpdate, layerUpdate, addLayer, addReads, addFits}
 use Rattle.univmon.specs.declared.Kind.{Kind}
 use Rattle.univmon.specs.declared.Kind.the-variants as kind
 use Rattle.layout.specs.State.{State, shapeOf, dimsAt, overLayers, allLayers, withHead}
 use Rattle.layout.specs.Slices.{Lent, view}
-use Rattle.layout.specs.Records.{bottomWord, whoAt}
+use Rattle.layout.specs.Records.{bottomWord, itemAt}
 use Rattle.layout.specs.Outcomes.{recordTests}
+use Rattle.header.specs.declared.Shape.{Shape}
 
 -- the update as layer l sees it
-abbrev pub itemAt : List ℕ → ℤ → ℕ → Item
-itemAt words w l = record { who = whoAt words l; weight = natAbs w }
+abbrev pub layerUpdateAt : List ℕ → ℕ → ℕ → LayerUpdate
+layerUpdateAt words w l = layerUpdate (itemAt words l) w
+
+-- at layer l of a shape: whether what it reads is in range, whether it fits, and what it leaves
+abbrev pub readsAt : Shape → List ℕ → ℕ → ℕ → Layer → Bool
+readsAt sh words w l y = addReads (dimsAt sh l) (layerUpdateAt words w l) y
+
+abbrev pub fitsAt : Shape → List ℕ → ℕ → ℕ → Layer → Bool
+fitsAt sh words w l y = addFits (dimsAt sh l) (layerUpdateAt words w l) y
+
+abbrev pub addsAt : Shape → List ℕ → ℕ → ℕ → Layer → Layer
+addsAt sh words w l y = addLayer (dimsAt sh l) (layerUpdateAt words w l) y
 
 abbrev pub modeOf : Kind → Mode
 modeOf kind.Standard = mode.Standard
@@ -37,21 +48,19 @@ manySent kind.Terminal b = 1
 abbrev pub bottomBy : State → List ℕ → ℕ
 bottomBy s words = bottomOf (bottomWord words) (shapeOf s .layers)
 
--- the touched layers pass a test; each of them is replaced
-abbrev pub sentAll : Kind → (ℕ → Layer → Bool) → State → List ℕ → Bool
-sentAll k p s words = allLayers p (manySent k (bottomBy s words)) (firstSent k (bottomBy s words)) s
-
+-- the layers that an update is sent to are replaced
 unfoldable pub updated : Kind → State → List ℕ → ℤ → State
 updated k s words w =
-    overLayers (λ l y. addLayer (dimsAt (shapeOf s) l) (itemAt words w l) y) (manySent k (bottomBy s words)) (firstSent k (bottomBy s words))
+    overLayers (addsAt (shapeOf s) words (natAbs w)) (manySent k (bottomBy s words)) (firstSent k (bottomBy s words))
     (withHead s (begun (s .head) (updateTotals (natAbs w)) (modeOf k)))
 
--- what is read of the touched layers, and what is added there: 9, 11
+-- of many layers from the first on: 9 for what is read, 11
+abbrev pub layersTests : Shape → List ℕ → ℕ → ℕ → ℕ → State → List (Bool × ℕ)
+layersTests sh words w many first s = (not (allLayers (readsAt sh words w) many first s), 9) ∷ (not (allLayers (fitsAt sh words w) many first s), 11) ∷ []
+
+-- of those that an update is sent to
 abbrev pub sentTests : Kind → State → List ℕ → ℤ → List (Bool × ℕ)
-sentTests k s words w =
-    (not (sentAll k (λ l y. addReads (dimsAt (shapeOf s) l) (itemAt words w l) y) s words), 9)
-    ∷ (not (sentAll k (λ l y. addFits (dimsAt (shapeOf s) l) (itemAt words w l) y) s words), 11)
-    ∷ []
+sentTests k s words w = layersTests (shapeOf s) words (natAbs w) (manySent k (bottomBy s words)) (firstSent k (bottomBy s words)) s
 
 -- "Other calls: 9 for lengths and headers, 12, 10, 5, 8, 6, 7, 9 for what is read, 11.": here 9, 12; 5, 6, 7; 9, 11
 unfoldable pub updateTests : Kind → Lent → List ℕ → ℤ → List (Bool × ℕ)

@@ -1,6 +1,6 @@
-// The updates on a header that is held. Weight and mode, lengths and flags change by the header's own
-// steps; between them lengths and flags are taken out once and lent, since a header by value would be
-// copied at each layer.
+// The updates on a header by value. The header's own steps add the weight, set the mode and put back
+// lengths and flags; in between, lengths and flags are taken out once and lent, since a header by value
+// would be copied at each layer.
 use crate::Kind;
 use crate::stages::mode_of;
 use crate::stages::update;
@@ -9,12 +9,12 @@ use header::Header;
 ghost use mathlib.Core.Path.{_≡_};
 ghost use Prim.Native.Nat.{ℕ};
 ghost use Rattle.univmon.specs.declared.Kind.the-variants as kind;
-ghost use Rattle.layout.specs.Slices.{lent};
-ghost use Rattle.layout.specs.Outcomes.{left, leftBy};
+ghost use Rattle.layout.specs.Outcomes.{left, leftAfter};
 ghost use Rattle.univmon.specs.Calls.{updateCall};
+ghost use Rattle.layout.specs.Lending.{lentIn, lentOut};
 
-// An update of any kind, on anything: 9, 12, 5, 6, 7, 9, 11. Refused or not, lengths and flags go back
-// from where they were lent, and a refused update left them as they were: so no second copy is kept.
+// An update of either kind, on any arguments: 9, 12, 5, 6, 7, 9, 11. The lent lengths and flags
+// are put back after a refusal too: a refused update has not changed them, so no second copy is kept.
 fn update_held(
     kind: Kind,
     header: Header,
@@ -22,27 +22,26 @@ fn update_held(
     norms: &mut [u64],
     entries: &mut [u64],
     counts: &mut [i64],
-    words: &[u64],
+    record: &[u64],
     weight: i64,
 ) -> Answered
-    ensures { λ r. ⌜ left (r .refusal) (lent (r .header) (now (counters .exit)) (now (norms .exit)) (now (entries .exit)) (now (counts .exit)))
-        ≡ leftBy (lent header (now (counters .entry)) (now (norms .entry)) (now (entries .entry)) (now (counts .entry)))
-        (updateCall kind (lent header (now (counters .entry)) (now (norms .entry)) (now (entries .entry)) (now (counts .entry))) (now (words .entry)) weight) ⌝ }
+    ensures { λ r. ⌜ left (r .refusal) (lentOut (r .header) counters norms entries counts)
+        ≡ leftAfter (λ s. updateCall kind s (now («record» .entry)) weight) (lentIn header counters norms entries counts) ⌝ }
 {
     let begun = header.begin_update(weight, mode_of(kind));
-    let mut flags = header.flags;
     let mut lens = header.lens;
+    let mut flags = header.flags;
     let refusal = update(
         kind,
         header.scalars(),
         begun.refusal,
-        &mut flags,
         &mut lens,
+        &mut flags,
         counters,
         norms,
         entries,
         counts,
-        words,
+        record,
         weight,
     );
     if refusal != 0 {
@@ -65,12 +64,11 @@ pub fn update_weighted(
     norms: &mut [u64],
     entries: &mut [u64],
     counts: &mut [i64],
-    words: &[u64],
+    record: &[u64],
     weight: i64,
 ) -> Answered
-    ensures { λ r. ⌜ left (r .refusal) (lent (r .header) (now (counters .exit)) (now (norms .exit)) (now (entries .exit)) (now (counts .exit)))
-        ≡ leftBy (lent header (now (counters .entry)) (now (norms .entry)) (now (entries .entry)) (now (counts .entry)))
-        (updateCall kind.Standard (lent header (now (counters .entry)) (now (norms .entry)) (now (entries .entry)) (now (counts .entry))) (now (words .entry)) weight) ⌝ }
+    ensures { λ r. ⌜ left (r .refusal) (lentOut (r .header) counters norms entries counts)
+        ≡ leftAfter (λ s. updateCall kind.Standard s (now («record» .entry)) weight) (lentIn header counters norms entries counts) ⌝ }
 {
     update_held(
         Kind::Standard,
@@ -79,7 +77,7 @@ pub fn update_weighted(
         norms,
         entries,
         counts,
-        words,
+        record,
         weight,
     )
 }
@@ -91,12 +89,11 @@ pub fn update_weighted_terminal(
     norms: &mut [u64],
     entries: &mut [u64],
     counts: &mut [i64],
-    words: &[u64],
+    record: &[u64],
     weight: i64,
 ) -> Answered
-    ensures { λ r. ⌜ left (r .refusal) (lent (r .header) (now (counters .exit)) (now (norms .exit)) (now (entries .exit)) (now (counts .exit)))
-        ≡ leftBy (lent header (now (counters .entry)) (now (norms .entry)) (now (entries .entry)) (now (counts .entry)))
-        (updateCall kind.Terminal (lent header (now (counters .entry)) (now (norms .entry)) (now (entries .entry)) (now (counts .entry))) (now (words .entry)) weight) ⌝ }
+    ensures { λ r. ⌜ left (r .refusal) (lentOut (r .header) counters norms entries counts)
+        ≡ leftAfter (λ s. updateCall kind.Terminal s (now («record» .entry)) weight) (lentIn header counters norms entries counts) ⌝ }
 {
     update_held(
         Kind::Terminal,
@@ -105,7 +102,7 @@ pub fn update_weighted_terminal(
         norms,
         entries,
         counts,
-        words,
+        record,
         weight,
     )
 }

@@ -8,9 +8,9 @@ use layout::lent_refusal;
 ghost use mathlib.Core.Path.{_≡_};
 ghost use lib.ListN.{length, replicate};
 ghost use lib.IntN.{pos};
-ghost use Rattle.layout.specs.Slices.{lent};
-ghost use Rattle.layout.specs.Outcomes.{left, leftBy};
+ghost use Rattle.layout.specs.Outcomes.{left, leftAfter};
 ghost use Rattle.univmon.specs.Calls.{newCall, clearCall};
+ghost use Rattle.layout.specs.Lending.{lentIn, lentOut};
 
 fn zero_all(counters: &mut [i64], norms: &mut [u64], entries: &mut [u64], counts: &mut [i64])
     ensures { λ _. ⌜ now (counters .exit) ≡ replicate (length (now (counters .entry))) (pos 0) ⌝ }
@@ -35,7 +35,7 @@ pub fn new(
     entries: &mut [u64],
     counts: &mut [i64],
 ) -> Answered
-    ensures { λ r. ⌜ left (r .refusal) (lent (r .header) (now (counters .exit)) (now (norms .exit)) (now (entries .exit)) (now (counts .exit)))
+    ensures { λ r. ⌜ left (r .refusal) (lentOut (r .header) counters norms entries counts)
         ≡ newCall (record { «heap_size» = «heap_size»; rows = rows; cols = cols; layers = layers }) (now (counters .entry)) (now (norms .entry)) (now (entries .entry)) (now (counts .entry)) ⌝ }
 {
     let checked = Shape::new(heap_size, rows, cols, layers);
@@ -75,9 +75,8 @@ pub fn clear(
     entries: &mut [u64],
     counts: &mut [i64],
 ) -> Answered
-    ensures { λ r. ⌜ left (r .refusal) (lent (r .header) (now (counters .exit)) (now (norms .exit)) (now (entries .exit)) (now (counts .exit)))
-        ≡ leftBy (lent header (now (counters .entry)) (now (norms .entry)) (now (entries .entry)) (now (counts .entry)))
-        (clearCall (lent header (now (counters .entry)) (now (norms .entry)) (now (entries .entry)) (now (counts .entry)))) ⌝ }
+    ensures { λ r. ⌜ left (r .refusal) (lentOut (r .header) counters norms entries counts)
+        ≡ leftAfter (λ s. clearCall s) (lentIn header counters norms entries counts) ⌝ }
 {
     let refusal = lent_refusal(header, &*counters, &*norms, &*entries, &*counts);
     if refusal != 0 {

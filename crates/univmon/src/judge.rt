@@ -3,37 +3,39 @@
 use header::Scalars;
 use layout::cells_at;
 use layout::dims;
+use layout::item_in;
 use layout::norms_at;
 use layout::seats_at;
-use layout::who_in;
 ghost use mathlib.Core.Path.{_≡_};
 ghost use mathlib.Core.Bool.{Bool, true};
 ghost use Prim.Native.Nat.{ℕ, _+_, _<_};
 ghost use Rattle.words.specs.Tests.{number};
-ghost use Rattle.header.specs.Header.{headOf};
 ghost use Rattle.layout.specs.State.{layerAt, allLayers};
-ghost use Rattle.layout.specs.Slices.{lent, view};
-ghost use Rattle.univmon.specs.Needs.{JudgeReady, readsAt, readyAt, layersTests};
+ghost use Rattle.layout.specs.Slices.{view};
+ghost use Rattle.univmon.specs.inner.Needs.{JudgeReady, readyAt};
+ghost use Rattle.univmon.specs.Updates.{readsAt, layersTests};
+ghost use Rattle.header.specs.Lending.{headIn, headNow};
+ghost use Rattle.layout.specs.Lending.{lentIn, lentNow};
 
 // Whether one layer is ready for the update.
 fn ready_at(
     h: Scalars,
-    flags: &[bool],
     lens: &[usize],
+    flags: &[bool],
     counters: &[i64],
     norms: &[u64],
     entries: &[u64],
     counts: &[i64],
-    words: &[u64],
+    record: &[u64],
     weight: u64,
     l: usize,
 ) -> bool
-    requires { ⌜ JudgeReady (lent (headOf h (now flags) (now lens)) (now counters) (now norms) (now entries) (now counts)) (now words) weight 1 l ⌝ }
-    ensures { λ r. ⌜ r ≡ readyAt (h .shape) (now (words .entry)) weight l (layerAt (view (lent (headOf h (now (flags .entry)) (now (lens .entry))) (now (counters .entry)) (now (norms .entry)) (now (entries .entry)) (now (counts .entry)))) l) ⌝ }
+    requires { ⌜ JudgeReady (lentNow (headNow h lens flags) counters norms entries counts) (now «record») weight 1 l ⌝ }
+    ensures { λ r. ⌜ r ≡ readyAt (h .shape) (now («record» .entry)) weight l (layerAt (view (lentIn (headIn h lens flags) counters norms entries counts)) l) ⌝ }
 {
     let shape = h.shape;
     let d = dims(shape, l);
-    let who = who_in(words, l);
+    let item = item_in(record, l);
     let len = lens[l];
     layer::add_ready(
         cells_at(shape, l, counters),
@@ -41,7 +43,7 @@ fn ready_at(
         seats_at(shape, l, counts),
         d,
         len,
-        who,
+        item,
         weight,
     )
 }
@@ -49,21 +51,21 @@ fn ready_at(
 // Whether what the update reads of one layer is in range.
 fn reads_at(
     h: Scalars,
-    flags: &[bool],
     lens: &[usize],
+    flags: &[bool],
     counters: &[i64],
     norms: &[u64],
     entries: &[u64],
     counts: &[i64],
-    words: &[u64],
+    record: &[u64],
     l: usize,
 ) -> bool
-    requires { ⌜ JudgeReady (lent (headOf h (now flags) (now lens)) (now counters) (now norms) (now entries) (now counts)) (now words) 0 1 l ⌝ }
-    ensures { λ r. ⌜ ((w : ℕ) → r ≡ readsAt (h .shape) (now (words .entry)) w l (layerAt (view (lent (headOf h (now (flags .entry)) (now (lens .entry))) (now (counters .entry)) (now (norms .entry)) (now (entries .entry)) (now (counts .entry)))) l)) ⌝ }
+    requires { ⌜ JudgeReady (lentNow (headNow h lens flags) counters norms entries counts) (now «record») 0 1 l ⌝ }
+    ensures { λ r. ⌜ ((w : ℕ) → r ≡ readsAt (h .shape) (now («record» .entry)) w l (layerAt (view (lentIn (headIn h lens flags) counters norms entries counts)) l)) ⌝ }
 {
     let shape = h.shape;
     let d = dims(shape, l);
-    let who = who_in(words, l);
+    let item = item_in(record, l);
     let len = lens[l];
     layer::add_reads(
         cells_at(shape, l, counters),
@@ -71,39 +73,39 @@ fn reads_at(
         seats_at(shape, l, counts),
         d,
         len,
-        who,
+        item,
     )
 }
 
 // Whether every touched layer is ready.
 fn all_ready(
     h: Scalars,
-    flags: &[bool],
     lens: &[usize],
+    flags: &[bool],
     counters: &[i64],
     norms: &[u64],
     entries: &[u64],
     counts: &[i64],
-    words: &[u64],
+    record: &[u64],
     weight: u64,
     first: usize,
     many: usize,
 ) -> bool
-    requires { ⌜ JudgeReady (lent (headOf h (now flags) (now lens)) (now counters) (now norms) (now entries) (now counts)) (now words) weight many first ⌝ }
-    ensures { λ r. ⌜ r ≡ allLayers (readyAt (h .shape) (now (words .entry)) weight) many first (view (lent (headOf h (now (flags .entry)) (now (lens .entry))) (now (counters .entry)) (now (norms .entry)) (now (entries .entry)) (now (counts .entry)))) ⌝ }
+    requires { ⌜ JudgeReady (lentNow (headNow h lens flags) counters norms entries counts) (now «record») weight many first ⌝ }
+    ensures { λ r. ⌜ r ≡ allLayers (readyAt (h .shape) (now («record» .entry)) weight) many first (view (lentIn (headIn h lens flags) counters norms entries counts)) ⌝ }
 {
     let end = first + many;
     let mut l = first;
     while l < end {
         if !ready_at(
             h,
-            flags,
             lens,
+            flags,
             counters,
             norms,
             entries,
             counts,
-            words,
+            record,
             weight,
             l,
         ) {
@@ -117,23 +119,23 @@ fn all_ready(
 // Whether all that is read of the touched layers is in range.
 fn all_read(
     h: Scalars,
-    flags: &[bool],
     lens: &[usize],
+    flags: &[bool],
     counters: &[i64],
     norms: &[u64],
     entries: &[u64],
     counts: &[i64],
-    words: &[u64],
+    record: &[u64],
     first: usize,
     many: usize,
 ) -> bool
-    requires { ⌜ JudgeReady (lent (headOf h (now flags) (now lens)) (now counters) (now norms) (now entries) (now counts)) (now words) 0 many first ⌝ }
-    ensures { λ r. ⌜ ((w : ℕ) → r ≡ allLayers (readsAt (h .shape) (now (words .entry)) w) many first (view (lent (headOf h (now (flags .entry)) (now (lens .entry))) (now (counters .entry)) (now (norms .entry)) (now (entries .entry)) (now (counts .entry))))) ⌝ }
+    requires { ⌜ JudgeReady (lentNow (headNow h lens flags) counters norms entries counts) (now «record») 0 many first ⌝ }
+    ensures { λ r. ⌜ ((w : ℕ) → r ≡ allLayers (readsAt (h .shape) (now («record» .entry)) w) many first (view (lentIn (headIn h lens flags) counters norms entries counts))) ⌝ }
 {
     let end = first + many;
     let mut l = first;
     while l < end {
-        if !reads_at(h, flags, lens, counters, norms, entries, counts, words, l) {
+        if !reads_at(h, lens, flags, counters, norms, entries, counts, record, l) {
             return false;
         }
         l += 1;
@@ -146,29 +148,29 @@ fn all_read(
 // before 11 anywhere.
 pub fn judge_layers(
     h: Scalars,
-    flags: &[bool],
     lens: &[usize],
+    flags: &[bool],
     counters: &[i64],
     norms: &[u64],
     entries: &[u64],
     counts: &[i64],
-    words: &[u64],
+    record: &[u64],
     weight: u64,
     first: usize,
     many: usize,
 ) -> u64
-    requires { ⌜ JudgeReady (lent (headOf h (now flags) (now lens)) (now counters) (now norms) (now entries) (now counts)) (now words) weight many first ⌝ }
-    ensures { λ r. ⌜ r ≡ number (layersTests (h .shape) (now (words .entry)) weight many first (view (lent (headOf h (now (flags .entry)) (now (lens .entry))) (now (counters .entry)) (now (norms .entry)) (now (entries .entry)) (now (counts .entry))))) ⌝ }
+    requires { ⌜ JudgeReady (lentNow (headNow h lens flags) counters norms entries counts) (now «record») weight many first ⌝ }
+    ensures { λ r. ⌜ r ≡ number (layersTests (h .shape) (now («record» .entry)) weight many first (view (lentIn (headIn h lens flags) counters norms entries counts))) ⌝ }
 {
     if all_ready(
         h,
-        flags,
         lens,
+        flags,
         counters,
         norms,
         entries,
         counts,
-        words,
+        record,
         weight,
         first,
         many,
@@ -177,13 +179,13 @@ pub fn judge_layers(
     }
     if all_read(
         h,
-        flags,
         lens,
+        flags,
         counters,
         norms,
         entries,
         counts,
-        words,
+        record,
         first,
         many,
     ) {

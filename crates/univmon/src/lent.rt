@@ -1,6 +1,6 @@
-// The updates on a header whose lengths and flags are lent beside the slices, 19 places each: nothing
-// of 224 bytes is copied in and out. So weight and mode begin by themselves, and lengths and flags are
-// stored in place.
+// The updates on a header whose lengths and flags are lent beside the slices, 19 places each, so that no
+// header of 224 bytes is copied in and out. Shape, weight and mode go by value, as `Scalars`; lengths
+// and flags are stored in place.
 use crate::Kind;
 use crate::stages::mode_of;
 use crate::stages::update;
@@ -8,108 +8,102 @@ use header::AnsweredLent;
 use header::Scalars;
 ghost use mathlib.Core.Path.{_≡_};
 ghost use Prim.Native.Nat.{ℕ};
-ghost use Rattle.header.specs.Header.{headOf};
 ghost use Rattle.univmon.specs.declared.Kind.the-variants as kind;
-ghost use Rattle.layout.specs.Slices.{lent};
-ghost use Rattle.layout.specs.Outcomes.{left, leftBy};
+ghost use Rattle.layout.specs.Outcomes.{left, leftAfter};
 ghost use Rattle.univmon.specs.Calls.{lentUpdateCall};
+ghost use Rattle.header.specs.Lending.{headIn, headOut};
+ghost use Rattle.layout.specs.Lending.{lentIn, lentOut};
 
-// An update of any kind, on anything.
+// An update of either kind, on any arguments.
 fn update_lent(
     kind: Kind,
-    had: Scalars,
-    flags: &mut [bool],
+    scalars: Scalars,
     lens: &mut [usize],
+    flags: &mut [bool],
     counters: &mut [i64],
     norms: &mut [u64],
     entries: &mut [u64],
     counts: &mut [i64],
-    words: &[u64],
+    record: &[u64],
     weight: i64,
 ) -> AnsweredLent
-    ensures { λ r. ⌜ left (r .refusal) (lent (headOf (r .scalars) (now (flags .exit)) (now (lens .exit))) (now (counters .exit)) (now (norms .exit)) (now (entries .exit)) (now (counts .exit)))
-        ≡ leftBy (lent (headOf had (now (flags .entry)) (now (lens .entry))) (now (counters .entry)) (now (norms .entry)) (now (entries .entry)) (now (counts .entry)))
-        (lentUpdateCall kind (lent (headOf had (now (flags .entry)) (now (lens .entry))) (now (counters .entry)) (now (norms .entry)) (now (entries .entry)) (now (counts .entry))) (now (words .entry)) weight) ⌝ }
+    ensures { λ r. ⌜ left (r .refusal) (lentOut (headOut (r .scalars) lens flags) counters norms entries counts)
+        ≡ leftAfter (λ s. lentUpdateCall kind s (now («record» .entry)) weight) (lentIn (headIn scalars lens flags) counters norms entries counts) ⌝ }
 {
-    let begun = had.begin_update(weight, mode_of(kind));
+    let begun = scalars.begin_update(weight, mode_of(kind));
     let refusal = update(
         kind,
-        had,
+        scalars,
         begun.refusal,
-        flags,
         lens,
+        flags,
         counters,
         norms,
         entries,
         counts,
-        words,
+        record,
         weight,
     );
     if refusal != 0 {
-        return AnsweredLent {
-            refusal,
-            scalars: had,
-        };
+        return AnsweredLent { refusal, scalars };
     }
     begun
 }
 
 // The key goes to layers 0 to its bottom layer.
 pub fn update_weighted_lent(
-    had: Scalars,
+    scalars: Scalars,
     lens: &mut [usize],
     flags: &mut [bool],
     counters: &mut [i64],
     norms: &mut [u64],
     entries: &mut [u64],
     counts: &mut [i64],
-    words: &[u64],
+    record: &[u64],
     weight: i64,
 ) -> AnsweredLent
-    ensures { λ r. ⌜ left (r .refusal) (lent (headOf (r .scalars) (now (flags .exit)) (now (lens .exit))) (now (counters .exit)) (now (norms .exit)) (now (entries .exit)) (now (counts .exit)))
-        ≡ leftBy (lent (headOf had (now (flags .entry)) (now (lens .entry))) (now (counters .entry)) (now (norms .entry)) (now (entries .entry)) (now (counts .entry)))
-        (lentUpdateCall kind.Standard (lent (headOf had (now (flags .entry)) (now (lens .entry))) (now (counters .entry)) (now (norms .entry)) (now (entries .entry)) (now (counts .entry))) (now (words .entry)) weight) ⌝ }
+    ensures { λ r. ⌜ left (r .refusal) (lentOut (headOut (r .scalars) lens flags) counters norms entries counts)
+        ≡ leftAfter (λ s. lentUpdateCall kind.Standard s (now («record» .entry)) weight) (lentIn (headIn scalars lens flags) counters norms entries counts) ⌝ }
 {
     update_lent(
         Kind::Standard,
-        had,
-        flags,
+        scalars,
         lens,
+        flags,
         counters,
         norms,
         entries,
         counts,
-        words,
+        record,
         weight,
     )
 }
 
 // The key goes to its bottom layer only.
 pub fn update_weighted_terminal_lent(
-    had: Scalars,
+    scalars: Scalars,
     lens: &mut [usize],
     flags: &mut [bool],
     counters: &mut [i64],
     norms: &mut [u64],
     entries: &mut [u64],
     counts: &mut [i64],
-    words: &[u64],
+    record: &[u64],
     weight: i64,
 ) -> AnsweredLent
-    ensures { λ r. ⌜ left (r .refusal) (lent (headOf (r .scalars) (now (flags .exit)) (now (lens .exit))) (now (counters .exit)) (now (norms .exit)) (now (entries .exit)) (now (counts .exit)))
-        ≡ leftBy (lent (headOf had (now (flags .entry)) (now (lens .entry))) (now (counters .entry)) (now (norms .entry)) (now (entries .entry)) (now (counts .entry)))
-        (lentUpdateCall kind.Terminal (lent (headOf had (now (flags .entry)) (now (lens .entry))) (now (counters .entry)) (now (norms .entry)) (now (entries .entry)) (now (counts .entry))) (now (words .entry)) weight) ⌝ }
+    ensures { λ r. ⌜ left (r .refusal) (lentOut (headOut (r .scalars) lens flags) counters norms entries counts)
+        ≡ leftAfter (λ s. lentUpdateCall kind.Terminal s (now («record» .entry)) weight) (lentIn (headIn scalars lens flags) counters norms entries counts) ⌝ }
 {
     update_lent(
         Kind::Terminal,
-        had,
-        flags,
+        scalars,
         lens,
+        flags,
         counters,
         norms,
         entries,
         counts,
-        words,
+        record,
         weight,
     )
 }

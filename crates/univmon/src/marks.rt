@@ -12,14 +12,14 @@ pub fn set_total_weight(header: Header, weight: u64) -> Answered
     if !header.in_range() {
         return Answered { refusal: 9, header };
     }
-    let had = header.mode;
-    if header::clashes(had, Mode::Standard) {
+    let mode = header.mode;
+    if header::clashes(mode, Mode::Standard) {
         return Answered { refusal: 6, header };
     }
     if words::MAX_WEIGHT < weight {
         return Answered { refusal: 7, header };
     }
-    let settled = header::join(had, Mode::Standard);
+    let settled = header::join(mode, Mode::Standard);
     Answered {
         refusal: 0,
         header: header

@@ -12,11 +12,11 @@ ghost use Prim.Native.Nat.{ℕ, _≤_};
 ghost use lib.IntN.{natAbs};
 ghost use Rattle.words.specs.Num.{top};
 ghost use Rattle.words.specs.Tests.{number};
-ghost use Rattle.header.specs.Header.{headOf};
-ghost use Rattle.layout.specs.Slices.{lent};
 ghost use Rattle.univmon.specs.Updates.{modeOf, firstSent};
 ghost use Rattle.layout.specs.Outcomes.{left};
-ghost use Rattle.univmon.specs.Needs.{JudgeReady, KeyReady, soundTests, sentBy, keySent, sentAfter};
+ghost use Rattle.univmon.specs.inner.Needs.{JudgeReady, KeyReady, soundTests, sentBy, keySent, sentAfter};
+ghost use Rattle.header.specs.Lending.{headIn, headNow, headOut};
+ghost use Rattle.layout.specs.Lending.{lentIn, lentNow, lentOut};
 
 pub fn mode_of(kind: Kind) -> Mode
     ensures { λ r. ⌜ r ≡ modeOf kind ⌝ }
@@ -37,19 +37,19 @@ fn first_sent(kind: Kind, bottom: usize) -> usize
     }
 }
 
-// The number that header, lengths and record are refused with, 0 for none: 9, 12. Lengths and flags
-// have 19 places, or it is 9 too.
+// 9 for a header out of range or a wrong slice length, 12 for a wrong record length, 0 for none. It is 9
+// too where the lent lengths or flags do not have 19 places.
 fn sound_refusal(
-    had: Scalars,
-    flags: &[bool],
+    scalars: Scalars,
     lens: &[usize],
+    flags: &[bool],
     counters: usize,
     norms: usize,
     entries: usize,
     counts: usize,
-    words: usize,
+    record: usize,
 ) -> u64
-    ensures { λ r. ⌜ r ≡ number (soundTests (headOf had (now (flags .entry)) (now (lens .entry))) counters norms entries counts words) ⌝ }
+    ensures { λ r. ⌜ r ≡ number (soundTests (headIn scalars lens flags) counters norms entries counts «record») ⌝ }
 {
     if lens.len() != Shape::MAX_LAYERS {
         return 9;
@@ -57,14 +57,14 @@ fn sound_refusal(
     if flags.len() != Shape::MAX_LAYERS {
         return 9;
     }
-    let shape = had.shape;
-    if !header::fields_in_range(shape, had.totals, lens, flags) {
+    let shape = scalars.shape;
+    if !header::fields_in_range(shape, scalars.totals, lens, flags) {
         return 9;
     }
     if !lengths_match(shape, counters, norms, entries, counts) {
         return 9;
     }
-    if words != 2 + 2 * shape.layers {
+    if record != 2 + 2 * shape.layers {
         return 12;
     }
     0
@@ -73,30 +73,30 @@ fn sound_refusal(
 // The layers that a key reaches are judged, and sent to if all is well: 9, 11.
 fn send_judged(
     h: Scalars,
-    flags: &mut [bool],
     lens: &mut [usize],
+    flags: &mut [bool],
     counters: &mut [i64],
     norms: &mut [u64],
     entries: &mut [u64],
     counts: &mut [i64],
-    words: &[u64],
+    record: &[u64],
     weight: u64,
     first: usize,
     many: usize,
 ) -> u64
-    requires { ⌜ JudgeReady (lent (headOf h (now flags) (now lens)) (now counters) (now norms) (now entries) (now counts)) (now words) weight many first ⌝ }
-    ensures { λ r. ⌜ left r (lent (headOf h (now (flags .exit)) (now (lens .exit))) (now (counters .exit)) (now (norms .exit)) (now (entries .exit)) (now (counts .exit)))
-        ≡ sentBy (now (words .entry)) weight many first (lent (headOf h (now (flags .entry)) (now (lens .entry))) (now (counters .entry)) (now (norms .entry)) (now (entries .entry)) (now (counts .entry))) ⌝ }
+    requires { ⌜ JudgeReady (lentNow (headNow h lens flags) counters norms entries counts) (now «record») weight many first ⌝ }
+    ensures { λ r. ⌜ left r (lentOut (headOut h lens flags) counters norms entries counts)
+        ≡ sentBy (now («record» .entry)) weight many first (lentIn (headIn h lens flags) counters norms entries counts) ⌝ }
 {
     let refusal = judge_layers(
         h,
-        &*flags,
         &*lens,
+        &*flags,
         &*counters,
         &*norms,
         &*entries,
         &*counts,
-        words,
+        record,
         weight,
         first,
         many,
@@ -106,13 +106,13 @@ fn send_judged(
     }
     send(
         h,
-        flags,
         lens,
+        flags,
         counters,
         norms,
         entries,
         counts,
-        words,
+        record,
         weight,
         first,
         many,
@@ -124,64 +124,65 @@ fn send_judged(
 fn send_key(
     kind: Kind,
     h: Scalars,
-    flags: &mut [bool],
     lens: &mut [usize],
+    flags: &mut [bool],
     counters: &mut [i64],
     norms: &mut [u64],
     entries: &mut [u64],
     counts: &mut [i64],
-    words: &[u64],
+    record: &[u64],
     weight: u64,
 ) -> u64
-    requires { ⌜ KeyReady (lent (headOf h (now flags) (now lens)) (now counters) (now norms) (now entries) (now counts)) (now words) weight ⌝ }
-    ensures { λ r. ⌜ left r (lent (headOf h (now (flags .exit)) (now (lens .exit))) (now (counters .exit)) (now (norms .exit)) (now (entries .exit)) (now (counts .exit)))
-        ≡ keySent kind (now (words .entry)) weight (lent (headOf h (now (flags .entry)) (now (lens .entry))) (now (counters .entry)) (now (norms .entry)) (now (entries .entry)) (now (counts .entry))) ⌝ }
+    requires { ⌜ KeyReady (lentNow (headNow h lens flags) counters norms entries counts) (now «record») weight ⌝ }
+    ensures { λ r. ⌜ left r (lentOut (headOut h lens flags) counters norms entries counts)
+        ≡ keySent kind (now («record» .entry)) weight (lentIn (headIn h lens flags) counters norms entries counts) ⌝ }
 {
-    let bottom = header::bottom_of(words[1], h.shape.layers);
+    let bottom = header::bottom_of(record[1], h.shape.layers);
     let first = first_sent(kind, bottom);
     let many = bottom + 1 - first;
     send_judged(
         h,
-        flags,
         lens,
+        flags,
         counters,
         norms,
         entries,
         counts,
-        words,
+        record,
         weight,
         first,
         many,
     )
 }
 
-// All of an update but its beginning, of which it is told the number: 9, 12, that number, 9, 11.
+// All of an update but its beginning; `begins` is the number that the beginning is refused with, or 0.
+// Answers 9, 12, then `begins`, then 9, 11.
 pub fn update(
     kind: Kind,
-    had: Scalars,
+    scalars: Scalars,
     begins: u64,
-    flags: &mut [bool],
     lens: &mut [usize],
+    flags: &mut [bool],
     counters: &mut [i64],
     norms: &mut [u64],
     entries: &mut [u64],
     counts: &mut [i64],
-    words: &[u64],
+    record: &[u64],
     weight: i64,
 ) -> u64
     requires { ⌜ (begins ≡ 0 → natAbs weight ≤ top) ⌝ }
-    ensures { λ r. ⌜ left r (lent (headOf had (now (flags .exit)) (now (lens .exit))) (now (counters .exit)) (now (norms .exit)) (now (entries .exit)) (now (counts .exit)))
-        ≡ sentAfter kind begins (now (words .entry)) weight (lent (headOf had (now (flags .entry)) (now (lens .entry))) (now (counters .entry)) (now (norms .entry)) (now (entries .entry)) (now (counts .entry))) ⌝ }
+    ensures { λ r. ⌜ left r (lentOut (headOut scalars lens flags) counters norms entries counts)
+        ≡ sentAfter kind begins (now («record» .entry)) weight (lentIn (headIn scalars lens flags) counters norms entries counts) ⌝ }
 {
     let refusal = sound_refusal(
-        had,
-        &*flags,
+        scalars,
         &*lens,
+        &*flags,
         counters.len(),
         norms.len(),
         entries.len(),
         counts.len(),
-        words.len(),
+        record.len(),
     );
     if refusal != 0 {
         return refusal;
@@ -191,14 +192,14 @@ pub fn update(
     }
     send_key(
         kind,
-        had,
-        flags,
+        scalars,
         lens,
+        flags,
         counters,
         norms,
         entries,
         counts,
-        words,
+        record,
         words::magnitude(weight),
     )
 }

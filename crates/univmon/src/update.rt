@@ -2,42 +2,44 @@
 // what `stages` has tested.
 use header::Scalars;
 use layout::dims;
+use layout::item_in;
 use layout::span_of;
-use layout::who_in;
 ghost use mathlib.Core.Path.{_≡_};
 ghost use mathlib.Core.Bool.{Bool};
 ghost use Prim.Native.Nat.{ℕ, _+_};
-ghost use Rattle.layer.specs.Layer.{item, addLayer};
-ghost use Rattle.header.specs.Header.{headOf};
+ghost use Rattle.layer.specs.Layer.{addLayer, layerUpdate};
 ghost use Rattle.layout.specs.State.{dimsAt, layerAt, putLayer, overLayers};
-ghost use Rattle.layout.specs.Slices.{lent, view};
-ghost use Rattle.layout.specs.Records.{whoAt};
-ghost use Rattle.layout.specs.Needs.{Standing};
-ghost use Rattle.univmon.specs.Needs.{SendReady, SendsReady, addsAt};
+ghost use Rattle.layout.specs.Slices.{view};
+ghost use Rattle.layout.specs.Records.{itemAt};
+ghost use Rattle.layout.specs.inner.Needs.{Standing};
+ghost use Rattle.univmon.specs.inner.Needs.{SendReady, SendsReady};
+ghost use Rattle.univmon.specs.Updates.{addsAt};
+ghost use Rattle.header.specs.Lending.{headIn, headNow, headOut};
+ghost use Rattle.layout.specs.Lending.{lentIn, lentNow, lentOut};
 
 // Sends an update to one layer.
 fn send_one(
     h: Scalars,
-    flags: &mut [bool],
     lens: &mut [usize],
+    flags: &mut [bool],
     counters: &mut [i64],
     norms: &mut [u64],
     entries: &mut [u64],
     counts: &mut [i64],
-    words: &[u64],
+    record: &[u64],
     weight: u64,
     l: usize,
 )
-    requires { ⌜ SendReady (lent (headOf h (now flags) (now lens)) (now counters) (now norms) (now entries) (now counts)) (now words) weight l ⌝ }
-    ensures { λ r. ⌜ view (lent (headOf h (now (flags .exit)) (now (lens .exit))) (now (counters .exit)) (now (norms .exit)) (now (entries .exit)) (now (counts .exit)))
-        ≡ putLayer (view (lent (headOf h (now (flags .entry)) (now (lens .entry))) (now (counters .entry)) (now (norms .entry)) (now (entries .entry)) (now (counts .entry)))) l
-        (addLayer (dimsAt (h .shape) l) (item (whoAt (now (words .entry)) l) weight) (layerAt (view (lent (headOf h (now (flags .entry)) (now (lens .entry))) (now (counters .entry)) (now (norms .entry)) (now (entries .entry)) (now (counts .entry)))) l)) ⌝ }
-    ensures { λ r. ⌜ Standing (lent (headOf h (now (flags .exit)) (now (lens .exit))) (now (counters .exit)) (now (norms .exit)) (now (entries .exit)) (now (counts .exit))) ⌝ }
+    requires { ⌜ SendReady (lentNow (headNow h lens flags) counters norms entries counts) (now «record») weight l ⌝ }
+    ensures { λ r. ⌜ view (lentOut (headOut h lens flags) counters norms entries counts)
+        ≡ putLayer (view (lentIn (headIn h lens flags) counters norms entries counts)) l
+        (addLayer (dimsAt (h .shape) l) (layerUpdate (itemAt (now («record» .entry)) l) weight) (layerAt (view (lentIn (headIn h lens flags) counters norms entries counts)) l)) ⌝ }
+    ensures { λ r. ⌜ Standing (lentOut (headOut h lens flags) counters norms entries counts) ⌝ }
 {
     let shape = h.shape;
     let s = span_of(shape, l);
     let d = dims(shape, l);
-    let who = who_in(words, l);
+    let item = item_in(record, l);
     let len = lens[l];
     let ca = s.cells;
     let ce = s.cells_end;
@@ -54,7 +56,7 @@ fn send_one(
         &mut counts[ta..te],
         d,
         len,
-        who,
+        item,
         weight,
     );
     lens[l] = heap::len_after(len, answer);
@@ -67,34 +69,34 @@ fn send_one(
 // Sends an update to many layers from the first on.
 pub fn send(
     h: Scalars,
-    flags: &mut [bool],
     lens: &mut [usize],
+    flags: &mut [bool],
     counters: &mut [i64],
     norms: &mut [u64],
     entries: &mut [u64],
     counts: &mut [i64],
-    words: &[u64],
+    record: &[u64],
     weight: u64,
     first: usize,
     many: usize,
 )
-    requires { ⌜ SendsReady (lent (headOf h (now flags) (now lens)) (now counters) (now norms) (now entries) (now counts)) (now words) weight many first ⌝ }
-    ensures { λ r. ⌜ view (lent (headOf h (now (flags .exit)) (now (lens .exit))) (now (counters .exit)) (now (norms .exit)) (now (entries .exit)) (now (counts .exit)))
-        ≡ overLayers (addsAt (h .shape) (now (words .entry)) weight) many first (view (lent (headOf h (now (flags .entry)) (now (lens .entry))) (now (counters .entry)) (now (norms .entry)) (now (entries .entry)) (now (counts .entry)))) ⌝ }
-    ensures { λ r. ⌜ Standing (lent (headOf h (now (flags .exit)) (now (lens .exit))) (now (counters .exit)) (now (norms .exit)) (now (entries .exit)) (now (counts .exit))) ⌝ }
+    requires { ⌜ SendsReady (lentNow (headNow h lens flags) counters norms entries counts) (now «record») weight many first ⌝ }
+    ensures { λ r. ⌜ view (lentOut (headOut h lens flags) counters norms entries counts)
+        ≡ overLayers (addsAt (h .shape) (now («record» .entry)) weight) many first (view (lentIn (headIn h lens flags) counters norms entries counts)) ⌝ }
+    ensures { λ r. ⌜ Standing (lentOut (headOut h lens flags) counters norms entries counts) ⌝ }
 {
     let end = first + many;
     let mut l = first;
     while l < end {
         send_one(
             h,
-            flags,
             lens,
+            flags,
             counters,
             norms,
             entries,
             counts,
-            words,
+            record,
             weight,
             l,
         );

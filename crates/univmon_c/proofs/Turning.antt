@@ -35,7 +35,7 @@ pub changed : (ok : Bool) (f : Lent → Outcome) (r : CLent) → r .head .mode �
 unfolding changeBy
 changed ok f r h k n t e = ap crossed e ∙ simp (le-leb _ _ h, k)
 
--- an update on lent lengths and flags: the shape that C has is the shape after it
+-- what C has after an update on lent lengths and flags: its own shape, and all else from t
 abbrev pub shaped : CLent → Lent → CLent
 shaped r t =
     cLent (record {

@@ -48,7 +48,7 @@ cLeft n r = record { refusal = n; lends = r }
 abbrev pub crossed : Left → CLeft
 crossed a = cLeft (a .refusal) (ofLent (a .lends))
 
--- a call that changes a state, with whether its own numbers stand for something
+-- a call that changes a state; `ok` says whether the call's own numbers stand for something
 unfoldable pub changeBy : Bool → (Lent → Outcome) → CLent → CLeft
 changeBy ok f r = cond (isMode (r .head .mode) && ok) (crossed (leftBy (lentOf r) (f (lentOf r)))) (cLeft 9 r)
 
@@ -68,6 +68,6 @@ answerBy ok h a = cond (isMode (h .mode) && ok) (cAnswer a) (cAnswer (refusedBy 
 unfoldable pub panelBy : CHeader → PanelAnswer → CPanel
 panelBy h a = cond (isMode (h .mode)) (cPanel a) (cPanel (noPanel 9))
 
--- a yes or no on a whole state: a number that is no mode is no
+-- a yes or no on a whole state: no, where the mode's number stands for no mode
 unfoldable pub checkBy : (Lent → Bool) → CLent → Bool
 checkBy f r = isMode (r .head .mode) && f (lentOf r)

@@ -77,7 +77,7 @@ cHeader h =
       flags = h .flags;
     }
 
--- a header whose lengths and flags stand beside it, and what is left of it without them
+-- C's header from shape, weight, mode, and the lengths and flags that are lent; then what the library takes by value of it: all but lengths and flags
 abbrev pub cHead : CShape → ℕ → ℕ → List ℕ → List Bool → CHeader
 cHead s w m ns fs = record { «heap_size» = s .«heap_size»; rows = s .rows; cols = s .cols; layers = s .layers; weight = w; mode = m; lens = ns; flags = fs }
 

@@ -1,3 +1,4 @@
-pub mod Crossing
 pub mod Calls
+pub mod Crossing
+pub mod Lending
 pub mod SameCalls

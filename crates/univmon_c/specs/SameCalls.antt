@@ -1,5 +1,5 @@
--- What C is left by one call is what the library is, and the next call on it is the library's own. So what the theorem on shared streams says of lists of
--- calls, it says of relays that are called from C; of such a relay it says too that the update with lengths and flags lent is the one by value (`Claimed .lent`).
+-- What a call from C leaves is what the library's own call leaves, as C has it, and the next call on that is again the library's own. So the theorem on shared
+-- streams holds of relays that are called from C too; of such a relay it also says that the update with lengths and flags lent is the one by value (`Claimed .lent`).
 use mathlib.Core.Path.{_≡_}
 use mathlib.Core.Bool.{true}
 use mathlib.Core.List.{List}
@@ -16,7 +16,7 @@ use Rattle.univmon_c.specs.Calls.{lentOf, ofLent, crossed, changeBy, mer
 abbrev pub ThereAndBack : Type 0
 ThereAndBack = (r : Lent) → lentOf (ofLent r) ≡ r
 
--- an update by value, one with lengths and flags lent, and a merge of any other, on whatever a library's call left
+-- on r as C has it, an update by value, one with lengths and flags lent, and a merge of any other state are the library's own calls
 pub record SameCalls (r : Lent) : Type 0 where
   pub update : (k : Kind) (words : List ℕ) (w : ℤ) → changeBy true (λ s. updateCall k s words w) (ofLent r) ≡ crossed (leftBy r (updateCall k r words w))
   pub lent : (k : Kind) (words : List ℕ) (w : ℤ) → changeBy true (λ s. lentUpdateCall k s words w) (ofLent r) ≡ crossed (leftBy r (lentUpdateCall k r words w))

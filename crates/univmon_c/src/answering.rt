@@ -15,7 +15,8 @@ ghost use Prim.Native.Nat.{ℕ};
 ghost use Rattle.estimates.specs.Calls.{l1Call, l2Call, sumCall, cardinalityCall, panelCall};
 ghost use Rattle.state_check.specs.Check.{stateOk};
 ghost use Rattle.univmon_c.specs.Crossing.{isG, gBy, headerOf};
-ghost use Rattle.univmon_c.specs.Calls.{cLent, lentOf, answerBy, panelBy, checkBy};
+ghost use Rattle.univmon_c.specs.Calls.{lentOf, answerBy, panelBy, checkBy};
+ghost use Rattle.univmon_c.specs.Lending.{cLentIn};
 
 // The greatest number that is a choice of g.
 const LAST_G: u64 = 2;
@@ -55,7 +56,7 @@ pub extern "C" fn univmon_estimate_g_sum(
     g: u64,
     count_every_key: bool,
 ) -> CAnswer
-    ensures { λ r. ⌜ r ≡ answerBy (isG g) header (sumCall (gBy g) «count_every_key» (lentOf (cLent header (now (counters .entry)) (now (norms .entry)) (now (entries .entry)) (now (counts .entry))))) ⌝ }
+    ensures { λ r. ⌜ r ≡ answerBy (isG g) header (sumCall (gBy g) «count_every_key» (lentOf (cLentIn header counters norms entries counts))) ⌝ }
 {
     if LAST_MODE < header.mode {
         return no_answer();
@@ -85,7 +86,7 @@ pub extern "C" fn univmon_estimate_cardinality(
     entries: &[u64],
     counts: &[i64],
 ) -> CAnswer
-    ensures { λ r. ⌜ r ≡ answerBy true header (cardinalityCall (lentOf (cLent header (now (counters .entry)) (now (norms .entry)) (now (entries .entry)) (now (counts .entry))))) ⌝ }
+    ensures { λ r. ⌜ r ≡ answerBy true header (cardinalityCall (lentOf (cLentIn header counters norms entries counts))) ⌝ }
 {
     if LAST_MODE < header.mode {
         return no_answer();
@@ -103,7 +104,7 @@ pub extern "C" fn univmon_panel_answer(
     entries: &[u64],
     counts: &[i64],
 ) -> CPanel
-    ensures { λ r. ⌜ r ≡ panelBy header (panelCall (lentOf (cLent header (now (counters .entry)) (now (norms .entry)) (now (entries .entry)) (now (counts .entry))))) ⌝ }
+    ensures { λ r. ⌜ r ≡ panelBy header (panelCall (lentOf (cLentIn header counters norms entries counts))) ⌝ }
 {
     if LAST_MODE < header.mode {
         return no_panel();
@@ -112,7 +113,8 @@ pub extern "C" fn univmon_panel_answer(
     c_panel(estimates::panel_answer(h, counters, norms, entries, counts))
 }
 
-// Whether a header and four slices have what every accepted call keeps: a mode that is no mode is no.
+// Whether a header and four slices have what every accepted call keeps: no, where the mode's number
+// stands for no mode.
 #[no_mangle]
 pub extern "C" fn univmon_check_state(
     header: CHeader,
@@ -121,7 +123,7 @@ pub extern "C" fn univmon_check_state(
     entries: &[u64],
     counts: &[i64],
 ) -> bool
-    ensures { λ r. ⌜ r ≡ checkBy stateOk (cLent header (now (counters .entry)) (now (norms .entry)) (now (entries .entry)) (now (counts .entry))) ⌝ }
+    ensures { λ r. ⌜ r ≡ checkBy stateOk (cLentIn header counters norms entries counts) ⌝ }
 {
     if LAST_MODE < header.mode {
         return false;

@@ -12,12 +12,12 @@ ghost use mathlib.Core.Bool.{Bool, true};
 ghost use Prim.Native.Nat.{ℕ};
 ghost use Rattle.header.specs.Shape.{shapeRefusal, bottomLayer};
 ghost use Rattle.univmon.specs.declared.Kind.the-variants as kind;
-ghost use Rattle.univmon_delta.specs.Arriving.{arrival};
+ghost use Rattle.univmon_delta.specs.Deltas.{arrival, deltaCall};
 ghost use Rattle.univmon.specs.Calls.{newCall, updateCall, clearCall, weightCall, markCall, markLayerCall};
-ghost use Rattle.univmon_delta.specs.Deltas.{deltaCall};
 ghost use Rattle.univmon_merge.specs.Merges.{mergeCall};
 ghost use Rattle.univmon_c.specs.Crossing.{isFidelity, fidelityOf, cBottom};
-ghost use Rattle.univmon_c.specs.Calls.{cLent, cLeft, crossed, changeBy, mergeBy, headBy};
+ghost use Rattle.univmon_c.specs.Calls.{cLeft, crossed, changeBy, mergeBy, headBy};
+ghost use Rattle.univmon_c.specs.Lending.{cLentIn, cLentOut};
 
 // The greatest number that is a fidelity.
 const LAST_FIDELITY: u64 = 1;
@@ -59,7 +59,7 @@ pub extern "C" fn univmon_new(
     entries: &mut [u64],
     counts: &mut [i64],
 ) -> CAnswered
-    ensures { λ r. ⌜ cLeft (r .refusal) (cLent (r .header) (now (counters .exit)) (now (norms .exit)) (now (entries .exit)) (now (counts .exit)))
+    ensures { λ r. ⌜ cLeft (r .refusal) (cLentOut (r .header) counters norms entries counts)
         ≡ crossed (newCall (record { «heap_size» = «heap_size»; rows = rows; cols = cols; layers = layers }) (now (counters .entry)) (now (norms .entry)) (now (entries .entry)) (now (counts .entry))) ⌝ }
 {
     c_answered(univmon::new(
@@ -74,7 +74,7 @@ pub extern "C" fn univmon_new(
     ))
 }
 
-// Nothing counted any more.
+// Clears a state: header and slices are then as `new` leaves them.
 #[no_mangle]
 pub extern "C" fn univmon_clear(
     header: CHeader,
@@ -83,8 +83,8 @@ pub extern "C" fn univmon_clear(
     entries: &mut [u64],
     counts: &mut [i64],
 ) -> CAnswered
-    ensures { λ r. ⌜ cLeft (r .refusal) (cLent (r .header) (now (counters .exit)) (now (norms .exit)) (now (entries .exit)) (now (counts .exit)))
-        ≡ changeBy true clearCall (cLent header (now (counters .entry)) (now (norms .entry)) (now (entries .entry)) (now (counts .entry))) ⌝ }
+    ensures { λ r. ⌜ cLeft (r .refusal) (cLentOut (r .header) counters norms entries counts)
+        ≡ changeBy true clearCall (cLentIn header counters norms entries counts) ⌝ }
 {
     if LAST_MODE < header.mode {
         return CAnswered { refusal: 9, header };
@@ -103,17 +103,17 @@ pub extern "C" fn univmon_update_weighted(
     norms: &mut [u64],
     entries: &mut [u64],
     counts: &mut [i64],
-    words: &[u64],
+    record: &[u64],
     weight: i64,
 ) -> CAnswered
-    ensures { λ r. ⌜ cLeft (r .refusal) (cLent (r .header) (now (counters .exit)) (now (norms .exit)) (now (entries .exit)) (now (counts .exit)))
-        ≡ changeBy true (λ s. updateCall kind.Standard s (now (words .entry)) weight) (cLent header (now (counters .entry)) (now (norms .entry)) (now (entries .entry)) (now (counts .entry))) ⌝ }
+    ensures { λ r. ⌜ cLeft (r .refusal) (cLentOut (r .header) counters norms entries counts)
+        ≡ changeBy true (λ s. updateCall kind.Standard s (now («record» .entry)) weight) (cLentIn header counters norms entries counts) ⌝ }
 {
     if LAST_MODE < header.mode {
         return CAnswered { refusal: 9, header };
     }
     let h = header_of(header);
-    c_answered(univmon::update_weighted(h, counters, norms, entries, counts, words, weight))
+    c_answered(univmon::update_weighted(h, counters, norms, entries, counts, record, weight))
 }
 
 // The key goes to its bottom layer only.
@@ -124,11 +124,11 @@ pub extern "C" fn univmon_update_weighted_terminal(
     norms: &mut [u64],
     entries: &mut [u64],
     counts: &mut [i64],
-    words: &[u64],
+    record: &[u64],
     weight: i64,
 ) -> CAnswered
-    ensures { λ r. ⌜ cLeft (r .refusal) (cLent (r .header) (now (counters .exit)) (now (norms .exit)) (now (entries .exit)) (now (counts .exit)))
-        ≡ changeBy true (λ s. updateCall kind.Terminal s (now (words .entry)) weight) (cLent header (now (counters .entry)) (now (norms .entry)) (now (entries .entry)) (now (counts .entry))) ⌝ }
+    ensures { λ r. ⌜ cLeft (r .refusal) (cLentOut (r .header) counters norms entries counts)
+        ≡ changeBy true (λ s. updateCall kind.Terminal s (now («record» .entry)) weight) (cLentIn header counters norms entries counts) ⌝ }
 {
     if LAST_MODE < header.mode {
         return CAnswered { refusal: 9, header };
@@ -140,7 +140,7 @@ pub extern "C" fn univmon_update_weighted_terminal(
         norms,
         entries,
         counts,
-        words,
+        record,
         weight,
     ))
 }
@@ -154,16 +154,16 @@ pub extern "C" fn univmon_apply_delta(
     norms: &mut [u64],
     entries: &mut [u64],
     counts: &mut [i64],
-    words: &[u64],
+    record: &[u64],
     layer: usize,
     row: usize,
     col: usize,
     count: i32,
     fidelity: u64,
 ) -> CAnswered
-    ensures { λ r. ⌜ cLeft (r .refusal) (cLent (r .header) (now (counters .exit)) (now (norms .exit)) (now (entries .exit)) (now (counts .exit)))
-        ≡ changeBy (isFidelity fidelity) (λ s. deltaCall s (now (words .entry)) (arrival layer row col count (fidelityOf fidelity)))
-        (cLent header (now (counters .entry)) (now (norms .entry)) (now (entries .entry)) (now (counts .entry))) ⌝ }
+    ensures { λ r. ⌜ cLeft (r .refusal) (cLentOut (r .header) counters norms entries counts)
+        ≡ changeBy (isFidelity fidelity) (λ s. deltaCall s (now («record» .entry)) (arrival layer row col count (fidelityOf fidelity)))
+        (cLentIn header counters norms entries counts) ⌝ }
 {
     if LAST_MODE < header.mode {
         return CAnswered { refusal: 9, header };
@@ -179,7 +179,7 @@ pub extern "C" fn univmon_apply_delta(
         norms,
         entries,
         counts,
-        words,
+        record,
         layer,
         row,
         col,
@@ -190,7 +190,7 @@ pub extern "C" fn univmon_apply_delta(
 
 // ---- two states
 
-// The other state's stream behind this one's.
+// Merges the other state into this one.
 #[no_mangle]
 pub extern "C" fn univmon_merge(
     header: CHeader,
@@ -204,9 +204,9 @@ pub extern "C" fn univmon_merge(
     other_entries: &[u64],
     other_counts: &[i64],
 ) -> CAnswered
-    ensures { λ r. ⌜ cLeft (r .refusal) (cLent (r .header) (now (counters .exit)) (now (norms .exit)) (now (entries .exit)) (now (counts .exit)))
-        ≡ mergeBy mergeCall (cLent header (now (counters .entry)) (now (norms .entry)) (now (entries .entry)) (now (counts .entry)))
-        (cLent other (now («other_counters» .entry)) (now («other_norms» .entry)) (now («other_entries» .entry)) (now («other_counts» .entry))) ⌝ }
+    ensures { λ r. ⌜ cLeft (r .refusal) (cLentOut (r .header) counters norms entries counts)
+        ≡ mergeBy mergeCall (cLentIn header counters norms entries counts)
+        (cLentIn other «other_counters» «other_norms» «other_entries» «other_counts») ⌝ }
 {
     if LAST_MODE < header.mode {
         return CAnswered { refusal: 9, header };

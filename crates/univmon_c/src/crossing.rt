@@ -111,8 +111,8 @@ pub fn header_of(h: CHeader) -> Header
 fn c_header(h: Header) -> CHeader
     ensures { λ r. ⌜ r ≡ cHeader h ⌝ }
 {
-    let had = h.mode;
-    let mode = mode_number(had);
+    let m = h.mode;
+    let mode = mode_number(m);
     let lens = h.lens;
     let flags = h.flags;
     CHeader {
@@ -127,7 +127,7 @@ fn c_header(h: Header) -> CHeader
     }
 }
 
-// What is left of a header without lengths and flags.
+// A header without its lengths and flags: shape, totals and mode.
 pub fn scalars_of(s: CShape, weight: u64, mode: u64) -> Scalars
     ensures { λ r. ⌜ r ≡ cScalars s weight mode ⌝ }
 {
@@ -137,11 +137,11 @@ pub fn scalars_of(s: CShape, weight: u64, mode: u64) -> Scalars
         cols: s.cols,
         layers: s.layers,
     };
-    let had = mode_of(mode);
+    let m = mode_of(mode);
     Scalars {
         shape,
         totals: Totals { weight },
-        mode: had,
+        mode: m,
     }
 }
 
@@ -151,8 +151,8 @@ pub fn c_step(b: AnsweredLent) -> CStep
     ensures { λ r. ⌜ r ≡ cStep b ⌝ }
 {
     let scalars = b.scalars;
-    let now = scalars.mode;
-    let mode = mode_number(now);
+    let m = scalars.mode;
+    let mode = mode_number(m);
     CStep {
         refusal: b.refusal,
         weight: scalars.totals.weight,
@@ -163,10 +163,10 @@ pub fn c_step(b: AnsweredLent) -> CStep
 pub fn c_answered(a: Answered) -> CAnswered
     ensures { λ r. ⌜ r ≡ cAnswered a ⌝ }
 {
-    let had = a.header;
+    let h = a.header;
     CAnswered {
         refusal: a.refusal,
-        header: c_header(had),
+        header: c_header(h),
     }
 }
 

@@ -10,14 +10,14 @@ ghost use mathlib.Core.Bool.{Bool, true};
 ghost use Prim.Native.Nat.{ℕ};
 ghost use Rattle.univmon.specs.declared.Kind.the-variants as kind;
 ghost use Rattle.univmon.specs.Calls.{lentUpdateCall};
-ghost use Rattle.univmon_c.specs.Crossing.{cHead};
-ghost use Rattle.univmon_c.specs.Calls.{cLent, cLeft, changeBy};
+ghost use Rattle.univmon_c.specs.Calls.{cLeft, changeBy};
+ghost use Rattle.univmon_c.specs.Lending.{cHeadIn, cHeadOut, cLentIn, cLentOut};
 
 // The key goes to layers 0 to its bottom layer.
 #[no_mangle]
 pub extern "C" fn univmon_update_weighted_lent(
     shape: CShape,
-    weight_had: u64,
+    total_weight: u64,
     mode: u64,
     lens: &mut [usize],
     flags: &mut [bool],
@@ -25,29 +25,29 @@ pub extern "C" fn univmon_update_weighted_lent(
     norms: &mut [u64],
     entries: &mut [u64],
     counts: &mut [i64],
-    words: &[u64],
+    record: &[u64],
     weight: i64,
 ) -> CStep
-    ensures { λ r. ⌜ cLeft (r .refusal) (cLent (cHead shape (r .weight) (r .mode) (now (lens .exit)) (now (flags .exit))) (now (counters .exit)) (now (norms .exit)) (now (entries .exit)) (now (counts .exit)))
-        ≡ changeBy true (λ s. lentUpdateCall kind.Standard s (now (words .entry)) weight) (cLent (cHead shape «weight_had» mode (now (lens .entry)) (now (flags .entry))) (now (counters .entry)) (now (norms .entry)) (now (entries .entry)) (now (counts .entry))) ⌝ }
+    ensures { λ r. ⌜ cLeft (r .refusal) (cLentOut (cHeadOut shape (r .weight) (r .mode) lens flags) counters norms entries counts)
+        ≡ changeBy true (λ s. lentUpdateCall kind.Standard s (now («record» .entry)) weight) (cLentIn (cHeadIn shape «total_weight» mode lens flags) counters norms entries counts) ⌝ }
 {
     if LAST_MODE < mode {
         return CStep {
             refusal: 9,
-            weight: weight_had,
+            weight: total_weight,
             mode,
         };
     }
-    let had = scalars_of(shape, weight_had, mode);
+    let scalars = scalars_of(shape, total_weight, mode);
     c_step(univmon::update_weighted_lent(
-        had,
+        scalars,
         lens,
         flags,
         counters,
         norms,
         entries,
         counts,
-        words,
+        record,
         weight,
     ))
 }
@@ -56,7 +56,7 @@ pub extern "C" fn univmon_update_weighted_lent(
 #[no_mangle]
 pub extern "C" fn univmon_update_weighted_terminal_lent(
     shape: CShape,
-    weight_had: u64,
+    total_weight: u64,
     mode: u64,
     lens: &mut [usize],
     flags: &mut [bool],
@@ -64,29 +64,29 @@ pub extern "C" fn univmon_update_weighted_terminal_lent(
     norms: &mut [u64],
     entries: &mut [u64],
     counts: &mut [i64],
-    words: &[u64],
+    record: &[u64],
     weight: i64,
 ) -> CStep
-    ensures { λ r. ⌜ cLeft (r .refusal) (cLent (cHead shape (r .weight) (r .mode) (now (lens .exit)) (now (flags .exit))) (now (counters .exit)) (now (norms .exit)) (now (entries .exit)) (now (counts .exit)))
-        ≡ changeBy true (λ s. lentUpdateCall kind.Terminal s (now (words .entry)) weight) (cLent (cHead shape «weight_had» mode (now (lens .entry)) (now (flags .entry))) (now (counters .entry)) (now (norms .entry)) (now (entries .entry)) (now (counts .entry))) ⌝ }
+    ensures { λ r. ⌜ cLeft (r .refusal) (cLentOut (cHeadOut shape (r .weight) (r .mode) lens flags) counters norms entries counts)
+        ≡ changeBy true (λ s. lentUpdateCall kind.Terminal s (now («record» .entry)) weight) (cLentIn (cHeadIn shape «total_weight» mode lens flags) counters norms entries counts) ⌝ }
 {
     if LAST_MODE < mode {
         return CStep {
             refusal: 9,
-            weight: weight_had,
+            weight: total_weight,
             mode,
         };
     }
-    let had = scalars_of(shape, weight_had, mode);
+    let scalars = scalars_of(shape, total_weight, mode);
     c_step(univmon::update_weighted_terminal_lent(
-        had,
+        scalars,
         lens,
         flags,
         counters,
         norms,
         entries,
         counts,
-        words,
+        record,
         weight,
     ))
 }

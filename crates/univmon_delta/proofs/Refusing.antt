@@ -18,7 +18,7 @@ use Rattle.layout.specs.Records.{recordLength}
 use Rattle.layout.proofs.Lengths.{standing-of}
 use Rattle.layout.proofs.Judged.{left-refused, left-done}
 use Rattle.univmon_delta.specs.Deltas.{Arrival, deltaBy, counterTests, deltaTestsAt, deltaTests, arrived, deltaCall}
-use Rattle.univmon_delta.specs.Arriving.{Arrives}
+use Rattle.univmon_delta.specs.inner.Needs.{Arrives}
 
 module _ (r : Lent) (words : List ℕ) (a : Arrival) where
   -- header and lengths are tested first
@@ -59,7 +59,7 @@ module _ (r : Lent) (words : List ℕ) (a : Arrival) where
         fit = not-false _ (at .1 .1 .1 .1 .0);
       }
 
-  -- the layer that was put is the state after the delta
+  -- the state with the changed layer in place is the state after the delta
   pub arrived-is : putLayer (view (lent (withMode (r .head) (settled (r .head .mode))) (r .counters) (r .norms) (r .entries) (r .counts))) (a .layer)
       (deltaLayer (dimsAt (r .head .shape) (a .layer)) (deltaBy a words) (layerAt (view (lent (withMode (r .head) (settled (r .head .mode))) (r .counters) (r .norms) (r .entries) (r .counts))) (a .layer)))
       ≡ arrived (view r) words a

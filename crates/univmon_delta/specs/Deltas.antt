@@ -12,7 +12,7 @@ use Rattle.layer.specs.Delta.{Delta, deltaLayer, deltaReads, deltaFits}
 use Rattle.univmon_delta.specs.declared.Fidelity.{Fidelity}
 use Rattle.univmon_delta.specs.declared.Fidelity.the-variants as fidelity
 use Rattle.layout.specs.State.{State, shapeOf, rowsAt, colsAt, dimsAt, layerAt, putLayer, withHead}
-use Rattle.layout.specs.Records.{whoAt}
+use Rattle.layout.specs.Records.{itemAt}
 use Rattle.layout.specs.Slices.{Lent, view, flat}
 use Rattle.layout.specs.Outcomes.{Outcome, judge, recordTests}
 
@@ -24,13 +24,16 @@ pub record Arrival : Type 0 where
   pub count : ℤ
   pub fidelity : Fidelity
 
+abbrev pub arrival : ℕ → ℕ → ℕ → ℤ → Fidelity → Arrival
+arrival l row col n f = record { layer = l; row = row; col = col; count = n; fidelity = f }
+
 abbrev pub everyInsert : Fidelity → Bool
 everyInsert fidelity.EveryInsert = true
 everyInsert fidelity.PromotedOnly = false
 
 -- the delta as its layer sees it
 abbrev pub deltaBy : Arrival → List ℕ → Delta
-deltaBy a words = record { row = a .row; col = a .col; count = a .count; who = whoAt words (a .layer); every = everyInsert (a .fidelity) }
+deltaBy a words = record { row = a .row; col = a .col; count = a .count; item = itemAt words (a .layer); every = everyInsert (a .fidelity) }
 
 unfoldable pub arrived : State → List ℕ → Arrival → State
 arrived s words a =

@@ -1,2 +1,2 @@
-pub mod Arriving
 pub mod Deltas
+pub mod inner

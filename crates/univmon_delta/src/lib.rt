@@ -6,25 +6,27 @@ use header::Mode;
 use heap::Answer;
 use layout::cells_at;
 use layout::dims;
+use layout::item_in;
 use layout::lent_refusal;
 use layout::norms_at;
 use layout::seats_at;
 use layout::span_of;
-use layout::who_in;
 ghost use mathlib.Core.Path.{_≡_};
 ghost use mathlib.Core.Bool.{Bool, true, _&&_};
 ghost use Prim.Native.Nat.{ℕ, _<_};
 ghost use Rattle.words.specs.Tests.{number};
 ghost use Rattle.heap.specs.Offer.{keptBy};
-ghost use Rattle.layer.specs.Delta.{delta, deltaLayer};
+ghost use Rattle.layer.specs.Delta.{deltaLayer};
+ghost use Rattle.layer.specs.inner.Needs.{delta};
 ghost use Rattle.univmon_delta.specs.declared.Fidelity.{Fidelity};
 ghost use Rattle.layout.specs.State.{dimsAt, layerAt, putLayer};
-ghost use Rattle.layout.specs.Slices.{lent, view};
-ghost use Rattle.layout.specs.Records.{whoAt};
-ghost use Rattle.univmon_delta.specs.Deltas.{everyInsert, deltaTestsAt, deltaTests, deltaCall};
-ghost use Rattle.layout.specs.Outcomes.{left, leftBy};
-ghost use Rattle.layout.specs.Needs.{Standing};
-ghost use Rattle.univmon_delta.specs.Arriving.{Placed, Arrives, arrival};
+ghost use Rattle.layout.specs.Slices.{view};
+ghost use Rattle.layout.specs.Records.{itemAt};
+ghost use Rattle.univmon_delta.specs.Deltas.{everyInsert, deltaTestsAt, deltaTests, deltaCall, arrival};
+ghost use Rattle.layout.specs.Outcomes.{left, leftAfter};
+ghost use Rattle.layout.specs.inner.Needs.{Standing};
+ghost use Rattle.univmon_delta.specs.inner.Needs.{Placed, Arrives};
+ghost use Rattle.layout.specs.Lending.{lentIn, lentNow, lentOut};
 
 // How much of the stream reached a relay that is fed by deltas.
 pub enum Fidelity {
@@ -60,19 +62,19 @@ fn judge_delta(
     norms: &[u64],
     entries: &[u64],
     counts: &[i64],
-    words: &[u64],
+    record: &[u64],
     l: usize,
     row: usize,
     col: usize,
     count: i64,
 ) -> u64
-    requires { ⌜ Placed (lent h (now counters) (now norms) (now entries) (now counts)) (now words) l row col ⌝ }
-    ensures { λ r. ⌜ ((every : Bool) → r ≡ number (deltaTestsAt (dimsAt (h .shape) l) (delta row col count (whoAt (now (words .entry)) l) every)
-        (layerAt (view (lent h (now (counters .entry)) (now (norms .entry)) (now (entries .entry)) (now (counts .entry)))) l))) ⌝ }
+    requires { ⌜ Placed (lentNow h counters norms entries counts) (now «record») l row col ⌝ }
+    ensures { λ r. ⌜ ((every : Bool) → r ≡ number (deltaTestsAt (dimsAt (h .shape) l) (delta row col count (itemAt (now («record» .entry)) l) every)
+        (layerAt (view (lentIn h counters norms entries counts)) l))) ⌝ }
 {
     let shape = h.shape;
     let d = dims(shape, l);
-    let who = who_in(words, l);
+    let item = item_in(record, l);
     let lens = h.lens;
     let len = lens[l];
     let cells = cells_at(shape, l, counters);
@@ -84,7 +86,7 @@ fn judge_delta(
         len,
         row,
         col,
-        who,
+        item,
     ) {
         return 9;
     }
@@ -101,24 +103,24 @@ fn deliver(
     norms: &mut [u64],
     entries: &mut [u64],
     counts: &mut [i64],
-    words: &[u64],
+    record: &[u64],
     l: usize,
     row: usize,
     col: usize,
     count: i64,
     every: bool,
 ) -> Header
-    requires { ⌜ Arrives (lent h (now counters) (now norms) (now entries) (now counts)) (now words) l row col count ⌝ }
-    ensures { λ r. ⌜ view (lent r (now (counters .exit)) (now (norms .exit)) (now (entries .exit)) (now (counts .exit)))
-        ≡ putLayer (view (lent h (now (counters .entry)) (now (norms .entry)) (now (entries .entry)) (now (counts .entry)))) l
-        (deltaLayer (dimsAt (h .shape) l) (delta row col count (whoAt (now (words .entry)) l) every)
-        (layerAt (view (lent h (now (counters .entry)) (now (norms .entry)) (now (entries .entry)) (now (counts .entry)))) l)) ⌝ }
-    ensures { λ r. ⌜ Standing (lent r (now (counters .exit)) (now (norms .exit)) (now (entries .exit)) (now (counts .exit))) ⌝ }
+    requires { ⌜ Arrives (lentNow h counters norms entries counts) (now «record») l row col count ⌝ }
+    ensures { λ r. ⌜ view (lentOut r counters norms entries counts)
+        ≡ putLayer (view (lentIn h counters norms entries counts)) l
+        (deltaLayer (dimsAt (h .shape) l) (delta row col count (itemAt (now («record» .entry)) l) every)
+        (layerAt (view (lentIn h counters norms entries counts)) l)) ⌝ }
+    ensures { λ r. ⌜ Standing (lentOut r counters norms entries counts) ⌝ }
 {
     let shape = h.shape;
     let s = span_of(shape, l);
     let d = dims(shape, l);
-    let who = who_in(words, l);
+    let item = item_in(record, l);
     let lens = h.lens;
     let len = lens[l];
     let ca = s.cells;
@@ -139,7 +141,7 @@ fn deliver(
         row,
         col,
         count,
-        who,
+        item,
     );
     h.touched(l, heap::len_after(len, answer), kept_all(answer, every))
 }
@@ -151,20 +153,20 @@ fn delta_refusal(
     norms: &[u64],
     entries: &[u64],
     counts: &[i64],
-    words: &[u64],
+    record: &[u64],
     l: usize,
     row: usize,
     col: usize,
     count: i64,
 ) -> u64
-    ensures { λ r. ⌜ ((f : Fidelity) → r ≡ number (deltaTests (lent h (now (counters .entry)) (now (norms .entry)) (now (entries .entry)) (now (counts .entry))) (now (words .entry)) (arrival l row col count f))) ⌝ }
+    ensures { λ r. ⌜ ((f : Fidelity) → r ≡ number (deltaTests (lentIn h counters norms entries counts) (now («record» .entry)) (arrival l row col count f))) ⌝ }
 {
     let unfit = lent_refusal(h, counters, norms, entries, counts);
     if unfit != 0 {
         return unfit;
     }
     let shape = h.shape;
-    if words.len() != 2 + 2 * shape.layers {
+    if record.len() != 2 + 2 * shape.layers {
         return 12;
     }
     if shape.layers <= l {
@@ -183,7 +185,7 @@ fn delta_refusal(
         norms,
         entries,
         counts,
-        words,
+        record,
         l,
         row,
         col,
@@ -198,16 +200,15 @@ pub fn apply_delta(
     norms: &mut [u64],
     entries: &mut [u64],
     counts: &mut [i64],
-    words: &[u64],
+    record: &[u64],
     layer: usize,
     row: usize,
     col: usize,
     count: i32,
     fidelity: Fidelity,
 ) -> Answered
-    ensures { λ r. ⌜ left (r .refusal) (lent (r .header) (now (counters .exit)) (now (norms .exit)) (now (entries .exit)) (now (counts .exit)))
-        ≡ leftBy (lent header (now (counters .entry)) (now (norms .entry)) (now (entries .entry)) (now (counts .entry)))
-        (deltaCall (lent header (now (counters .entry)) (now (norms .entry)) (now (entries .entry)) (now (counts .entry))) (now (words .entry)) (arrival layer row col count fidelity)) ⌝ }
+    ensures { λ r. ⌜ left (r .refusal) (lentOut (r .header) counters norms entries counts)
+        ≡ leftAfter (λ s. deltaCall s (now («record» .entry)) (arrival layer row col count fidelity)) (lentIn header counters norms entries counts) ⌝ }
 {
     let n = count as i64;
     let refusal = delta_refusal(
@@ -216,7 +217,7 @@ pub fn apply_delta(
         &*norms,
         &*entries,
         &*counts,
-        words,
+        record,
         layer,
         row,
         col,
@@ -236,7 +237,7 @@ pub fn apply_delta(
             norms,
             entries,
             counts,
-            words,
+            record,
             layer,
             row,
             col,

@@ -17,7 +17,7 @@ use Rattle.layout.specs.State.{layerAt, overLayers, allLayers}
 use Rattle.layout.specs.Slices.{Lent, lent, view, flat}
 use Rattle.layout.specs.Outcomes.{left, leftBy, lentTests}
 use Rattle.univmon_merge.specs.Merges.{headsTests, pairTests, mergeTests, merged, mergeCall}
-use Rattle.univmon_merge.specs.Pairs.{Paired, MergesReady, readsWith, fitsWith, mergesWith}
+use Rattle.univmon_merge.specs.inner.Pairs.{Paired, MergesReady, readsWith, fitsWith, mergesWith}
 use Rattle.layout.proofs.Judged.{left-refused, left-done}
 use Rattle.layout.proofs.Lengths.{stands-of}
 
@@ -78,7 +78,7 @@ module _ (r t : Lent) where
   unfolding mergeCall
   merge-refused n e k = left-refused (mergeTests r t) r (flat (merged (view r) (view t))) n e k
 
-  -- the layers merged are the state after the merge
+  -- the state with its layers merged is the state after the merge
   pub merged-is : overLayers (mergesWith (r .head .shape) (view t)) (r .head .shape .layers) 0 (view (lent (begun (r .head) (t .head .totals) (t .head .mode)) (r .counters) (r .norms) (r .entries) (r .counts))) ≡ merged (view r) (view t)
   unfolding merged view
   merged-is = refl
@@ -89,7 +89,7 @@ module _ (r t : Lent) where
     unfolding mergeCall mergeTests
     merge-done = left-done (mergeTests r t) r (flat (merged (view r) (view t))) refl z
 
-    -- what no test holds of
+    -- no test holds
     none : Off (lentTests r ++ (lentTests t ++ (heads ++ pairs)))
     unfolding mergeTests
     none = off-number (mergeTests r t) refl z

@@ -11,17 +11,17 @@ use Rattle.words.specs.Parts.{part}
 use Rattle.words.proofs.Bools.{and-left, and-right}
 use Rattle.header.specs.declared.Shape.{Shape}
 use Rattle.layer.specs.Merge.{mergeReads, mergeFits}
-use Rattle.layer.specs.Gather as gather
-use Rattle.layer.specs.Needs.{Housed}
+use Rattle.layer.specs.inner.Gather as gather
+use Rattle.layer.specs.inner.Needs.{Housed}
 use Rattle.layer.proofs.Merges.{merge-reads-are, merge-fits-are}
 use Rattle.layout.specs.declared.Span.{Span}
 use Rattle.layout.specs.State.{dimsAt, cellOff, normOff, candOff, layerAt}
 use Rattle.layout.specs.Slices.{Lent, view}
-use Rattle.layout.specs.Needs.{Sizes}
+use Rattle.layout.specs.inner.Needs.{Sizes}
 use Rattle.layout.proofs.Pieces.{words-long}
 use Rattle.layout.proofs.Views.{shapeBy, layerBy, layerHere, layer-view, housed-here}
 use Rattle.layout.proofs.Handed.{Spanned, cellPart, normPart, wordPart, seatPart, cell-piece, housed, word-length, handed-is}
-use Rattle.univmon_merge.specs.Pairs.{Paired, MergeReady, readsWith, fitsWith}
+use Rattle.univmon_merge.specs.inner.Pairs.{Paired, MergeReady, readsWith, fitsWith}
 
 -- the counters and the used counts of a layer, in the parts of the slices
 abbrev cellsOf : Shape → Lent → ℕ → List ℤ

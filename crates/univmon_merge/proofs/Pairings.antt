@@ -8,12 +8,12 @@ use native.Mathlib.Decide.{ℕ-discrete}
 use Rattle.words.proofs.Bools.{and-left, and-right}
 use Rattle.header.specs.declared.Shape.{Shape}
 use Rattle.layer.specs.Layer.{Layer}
-use Rattle.layer.specs.Needs.{Fits}
+use Rattle.layer.specs.inner.Needs.{Fits}
 use Rattle.layer.proofs.Merges.{merge-lengths}
 use Rattle.layout.specs.State.{State, dimsAt, layerAt, putLayer, overLayers, allLayers}
 use Rattle.layout.specs.Slices.{Lent, view}
-use Rattle.layout.specs.Needs.{Standing}
-use Rattle.univmon_merge.specs.Pairs.{Paired, PairRead, PairsRead, MergeReady, MergesReady, readsWith, fitsWith, mergesWith}
+use Rattle.layout.specs.inner.Needs.{Standing}
+use Rattle.univmon_merge.specs.inner.Pairs.{Paired, PairRead, PairsRead, MergeReady, MergesReady, readsWith, fitsWith, mergesWith}
 use Rattle.layout.proofs.States.{at-fits, all-later}
 use Rattle.layout.proofs.Lengths.{long-view}
 

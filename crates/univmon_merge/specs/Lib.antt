@@ -1,2 +1,2 @@
 pub mod Merges
-pub mod Pairs
+pub mod inner

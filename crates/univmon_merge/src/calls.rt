@@ -4,9 +4,9 @@ use crate::layers::merge_layers;
 use header::Answered;
 use header::Header;
 ghost use mathlib.Core.Path.{_≡_};
-ghost use Rattle.layout.specs.Slices.{lent};
-ghost use Rattle.layout.specs.Outcomes.{left, leftBy};
+ghost use Rattle.layout.specs.Outcomes.{left, leftAfter};
 ghost use Rattle.univmon_merge.specs.Merges.{mergeCall};
+ghost use Rattle.layout.specs.Lending.{lentIn, lentOut};
 
 // A second state merged into a first: 9, 10, 6, 7, 9, 11.
 pub fn merge(
@@ -21,9 +21,8 @@ pub fn merge(
     other_entries: &[u64],
     other_counts: &[i64],
 ) -> Answered
-    ensures { λ r. ⌜ left (r .refusal) (lent (r .header) (now (counters .exit)) (now (norms .exit)) (now (entries .exit)) (now (counts .exit)))
-        ≡ leftBy (lent header (now (counters .entry)) (now (norms .entry)) (now (entries .entry)) (now (counts .entry)))
-        (mergeCall (lent header (now (counters .entry)) (now (norms .entry)) (now (entries .entry)) (now (counts .entry))) (lent other (now («other_counters» .entry)) (now («other_norms» .entry)) (now («other_entries» .entry)) (now («other_counts» .entry)))) ⌝ }
+    ensures { λ r. ⌜ left (r .refusal) (lentOut (r .header) counters norms entries counts)
+        ≡ leftAfter (λ s. mergeCall s (lentIn other «other_counters» «other_norms» «other_entries» «other_counts»)) (lentIn header counters norms entries counts) ⌝ }
 {
     let refusal = merge_refusal(
         header,
@@ -40,13 +39,10 @@ pub fn merge(
     if refusal != 0 {
         return Answered { refusal, header };
     }
-    let had = header.mode;
-    let came = other.mode;
+    let totals = other.totals;
+    let mode = other.mode;
     let layers = header.shape.layers;
-    let totals = header.totals.plus(other.totals);
-    let begun = header
-        .with_totals(totals)
-        .with_mode(header::join(had, came));
+    let begun = header.begin(totals, mode);
     Answered {
         refusal: 0,
         header: merge_layers(

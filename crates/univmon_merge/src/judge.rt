@@ -7,9 +7,10 @@ use layout::seats_at;
 ghost use mathlib.Core.Path.{_≡_};
 ghost use Rattle.words.specs.Tests.{number};
 ghost use Rattle.layout.specs.State.{layerAt, allLayers};
-ghost use Rattle.layout.specs.Slices.{lent, view};
+ghost use Rattle.layout.specs.Slices.{view};
 ghost use Rattle.univmon_merge.specs.Merges.{headsTests, pairTests, mergeTests};
-ghost use Rattle.univmon_merge.specs.Pairs.{Paired, PairRead, PairsRead, readsWith, fitsWith};
+ghost use Rattle.univmon_merge.specs.inner.Pairs.{Paired, PairRead, PairsRead, readsWith, fitsWith};
+ghost use Rattle.layout.specs.Lending.{lentIn, lentNow};
 
 // Whether what a merge reads of one layer of both states is in range.
 fn reads_at(
@@ -25,9 +26,9 @@ fn reads_at(
     other_counts: &[i64],
     l: usize,
 ) -> bool
-    requires { ⌜ Paired (lent h (now counters) (now norms) (now entries) (now counts)) (lent other (now «other_counters») (now «other_norms») (now «other_entries») (now «other_counts»)) 1 l ⌝ }
-    ensures { λ r. ⌜ r ≡ readsWith (view (lent other (now («other_counters» .entry)) (now («other_norms» .entry)) (now («other_entries» .entry)) (now («other_counts» .entry)))) l
-        (layerAt (view (lent h (now (counters .entry)) (now (norms .entry)) (now (entries .entry)) (now (counts .entry)))) l) ⌝ }
+    requires { ⌜ Paired (lentNow h counters norms entries counts) (lentNow other «other_counters» «other_norms» «other_entries» «other_counts») 1 l ⌝ }
+    ensures { λ r. ⌜ r ≡ readsWith (view (lentIn other «other_counters» «other_norms» «other_entries» «other_counts»)) l
+        (layerAt (view (lentIn h counters norms entries counts)) l) ⌝ }
 {
     let shape = h.shape;
     let lens = h.lens;
@@ -58,9 +59,9 @@ fn fits_at(
     other_counts: &[i64],
     l: usize,
 ) -> bool
-    requires { ⌜ PairRead (lent h (now counters) (now norms) (now entries) (now counts)) (lent other (now «other_counters») (now «other_norms») (now «other_entries») (now «other_counts»)) l ⌝ }
-    ensures { λ r. ⌜ r ≡ fitsWith (view (lent other (now («other_counters» .entry)) (now («other_norms» .entry)) (now («other_entries» .entry)) (now («other_counts» .entry)))) l
-        (layerAt (view (lent h (now (counters .entry)) (now (norms .entry)) (now (entries .entry)) (now (counts .entry)))) l) ⌝ }
+    requires { ⌜ PairRead (lentNow h counters norms entries counts) (lentNow other «other_counters» «other_norms» «other_entries» «other_counts») l ⌝ }
+    ensures { λ r. ⌜ r ≡ fitsWith (view (lentIn other «other_counters» «other_norms» «other_entries» «other_counts»)) l
+        (layerAt (view (lentIn h counters norms entries counts)) l) ⌝ }
 {
     let shape = h.shape;
     layer::merge_fits(
@@ -83,9 +84,9 @@ fn all_read(
     other_counts: &[i64],
     many: usize,
 ) -> bool
-    requires { ⌜ Paired (lent h (now counters) (now norms) (now entries) (now counts)) (lent other (now «other_counters») (now «other_norms») (now «other_entries») (now «other_counts»)) many 0 ⌝ }
-    ensures { λ r. ⌜ r ≡ allLayers (readsWith (view (lent other (now («other_counters» .entry)) (now («other_norms» .entry)) (now («other_entries» .entry)) (now («other_counts» .entry))))) many 0
-        (view (lent h (now (counters .entry)) (now (norms .entry)) (now (entries .entry)) (now (counts .entry)))) ⌝ }
+    requires { ⌜ Paired (lentNow h counters norms entries counts) (lentNow other «other_counters» «other_norms» «other_entries» «other_counts») many 0 ⌝ }
+    ensures { λ r. ⌜ r ≡ allLayers (readsWith (view (lentIn other «other_counters» «other_norms» «other_entries» «other_counts»))) many 0
+        (view (lentIn h counters norms entries counts)) ⌝ }
 {
     let mut l = 0;
     while l < many {
@@ -123,9 +124,9 @@ fn all_fit(
     other_counts: &[i64],
     many: usize,
 ) -> bool
-    requires { ⌜ PairsRead (lent h (now counters) (now norms) (now entries) (now counts)) (lent other (now «other_counters») (now «other_norms») (now «other_entries») (now «other_counts»)) many ⌝ }
-    ensures { λ r. ⌜ r ≡ allLayers (fitsWith (view (lent other (now («other_counters» .entry)) (now («other_norms» .entry)) (now («other_entries» .entry)) (now («other_counts» .entry))))) many 0
-        (view (lent h (now (counters .entry)) (now (norms .entry)) (now (entries .entry)) (now (counts .entry)))) ⌝ }
+    requires { ⌜ PairsRead (lentNow h counters norms entries counts) (lentNow other «other_counters» «other_norms» «other_entries» «other_counts») many ⌝ }
+    ensures { λ r. ⌜ r ≡ allLayers (fitsWith (view (lentIn other «other_counters» «other_norms» «other_entries» «other_counts»))) many 0
+        (view (lentIn h counters norms entries counts)) ⌝ }
 {
     let mut l = 0;
     while l < many {
@@ -159,9 +160,9 @@ fn heads_refusal(h: Header, other: Header) -> u64
     if !shape.same(other.shape) {
         return 10;
     }
-    let had = h.mode;
-    let came = other.mode;
-    if header::clashes(had, came) {
+    let mode = h.mode;
+    let other_mode = other.mode;
+    if header::clashes(mode, other_mode) {
         return 6;
     }
     h.totals.sum_refusal(other.totals)
@@ -181,8 +182,8 @@ fn layers_refusal(
     other_counts: &[i64],
     layers: usize,
 ) -> u64
-    requires { ⌜ Paired (lent h (now counters) (now norms) (now entries) (now counts)) (lent other (now «other_counters») (now «other_norms») (now «other_entries») (now «other_counts»)) layers 0 ⌝ }
-    ensures { λ r. ⌜ r ≡ number (pairTests layers (view (lent h (now (counters .entry)) (now (norms .entry)) (now (entries .entry)) (now (counts .entry)))) (view (lent other (now («other_counters» .entry)) (now («other_norms» .entry)) (now («other_entries» .entry)) (now («other_counts» .entry))))) ⌝ }
+    requires { ⌜ Paired (lentNow h counters norms entries counts) (lentNow other «other_counters» «other_norms» «other_entries» «other_counts») layers 0 ⌝ }
+    ensures { λ r. ⌜ r ≡ number (pairTests layers (view (lentIn h counters norms entries counts)) (view (lentIn other «other_counters» «other_norms» «other_entries» «other_counts»))) ⌝ }
 {
     if !all_read(
         h,
@@ -230,7 +231,7 @@ pub fn merge_refusal(
     other_entries: &[u64],
     other_counts: &[i64],
 ) -> u64
-    ensures { λ r. ⌜ r ≡ number (mergeTests (lent h (now (counters .entry)) (now (norms .entry)) (now (entries .entry)) (now (counts .entry))) (lent other (now («other_counters» .entry)) (now («other_norms» .entry)) (now («other_entries» .entry)) (now («other_counts» .entry)))) ⌝ }
+    ensures { λ r. ⌜ r ≡ number (mergeTests (lentIn h counters norms entries counts) (lentIn other «other_counters» «other_norms» «other_entries» «other_counts»)) ⌝ }
 {
     let own = lent_refusal(h, counters, norms, entries, counts);
     if own != 0 {

@@ -9,9 +9,10 @@ ghost use mathlib.Core.Path.{_≡_};
 ghost use mathlib.Core.Bool.{_&&_};
 ghost use lib.Dec.{leb};
 ghost use Rattle.layout.specs.State.{layerAt, putLayer, overLayers};
-ghost use Rattle.layout.specs.Slices.{lent, view};
-ghost use Rattle.layout.specs.Needs.{Standing};
-ghost use Rattle.univmon_merge.specs.Pairs.{MergeReady, MergesReady, mergesWith};
+ghost use Rattle.layout.specs.Slices.{view};
+ghost use Rattle.layout.specs.inner.Needs.{Standing};
+ghost use Rattle.univmon_merge.specs.inner.Pairs.{MergeReady, MergesReady, mergesWith};
+ghost use Rattle.layout.specs.Lending.{lentIn, lentNow, lentOut};
 
 // Whether no key was lost: the other layer's flag, and a seat for every distinct key.
 fn seated(flag: bool, keys: usize, size: usize) -> bool
@@ -37,12 +38,12 @@ fn merge_one(
     other_counts: &[i64],
     l: usize,
 ) -> Header
-    requires { ⌜ MergeReady (lent h (now counters) (now norms) (now entries) (now counts)) (lent other (now «other_counters») (now «other_norms») (now «other_entries») (now «other_counts»)) l ⌝ }
-    ensures { λ r. ⌜ view (lent r (now (counters .exit)) (now (norms .exit)) (now (entries .exit)) (now (counts .exit)))
-        ≡ putLayer (view (lent h (now (counters .entry)) (now (norms .entry)) (now (entries .entry)) (now (counts .entry)))) l
-        (mergesWith (h .shape) (view (lent other (now («other_counters» .entry)) (now («other_norms» .entry)) (now («other_entries» .entry)) (now («other_counts» .entry)))) l
-        (layerAt (view (lent h (now (counters .entry)) (now (norms .entry)) (now (entries .entry)) (now (counts .entry)))) l)) ⌝ }
-    ensures { λ r. ⌜ Standing (lent r (now (counters .exit)) (now (norms .exit)) (now (entries .exit)) (now (counts .exit))) ⌝ }
+    requires { ⌜ MergeReady (lentNow h counters norms entries counts) (lentNow other «other_counters» «other_norms» «other_entries» «other_counts») l ⌝ }
+    ensures { λ r. ⌜ view (lentOut r counters norms entries counts)
+        ≡ putLayer (view (lentIn h counters norms entries counts)) l
+        (mergesWith (h .shape) (view (lentIn other «other_counters» «other_norms» «other_entries» «other_counts»)) l
+        (layerAt (view (lentIn h counters norms entries counts)) l)) ⌝ }
+    ensures { λ r. ⌜ Standing (lentOut r counters norms entries counts) ⌝ }
 {
     let shape = h.shape;
     let s = span_of(shape, l);
@@ -89,11 +90,11 @@ pub fn merge_layers(
     other_counts: &[i64],
     many: usize,
 ) -> Header
-    requires { ⌜ MergesReady (lent h (now counters) (now norms) (now entries) (now counts)) (lent other (now «other_counters») (now «other_norms») (now «other_entries») (now «other_counts»)) many ⌝ }
-    ensures { λ r. ⌜ view (lent r (now (counters .exit)) (now (norms .exit)) (now (entries .exit)) (now (counts .exit)))
-        ≡ overLayers (mergesWith (h .shape) (view (lent other (now («other_counters» .entry)) (now («other_norms» .entry)) (now («other_entries» .entry)) (now («other_counts» .entry))))) many 0
-        (view (lent h (now (counters .entry)) (now (norms .entry)) (now (entries .entry)) (now (counts .entry)))) ⌝ }
-    ensures { λ r. ⌜ Standing (lent r (now (counters .exit)) (now (norms .exit)) (now (entries .exit)) (now (counts .exit))) ⌝ }
+    requires { ⌜ MergesReady (lentNow h counters norms entries counts) (lentNow other «other_counters» «other_norms» «other_entries» «other_counts») many ⌝ }
+    ensures { λ r. ⌜ view (lentOut r counters norms entries counts)
+        ≡ overLayers (mergesWith (h .shape) (view (lentIn other «other_counters» «other_norms» «other_entries» «other_counts»))) many 0
+        (view (lentIn h counters norms entries counts)) ⌝ }
+    ensures { λ r. ⌜ Standing (lentOut r counters norms entries counts) ⌝ }
 {
     let mut header = h;
     let mut l = 0;

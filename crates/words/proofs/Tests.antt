@@ -47,7 +47,7 @@ pub number-rest : (ts us : List (Bool × ℕ)) → Off ts → number (ts ++ us) 
 number-rest [] us h = refl
 number-rest (t ∷ ts) us h = rw (h .0) (number-rest ts us (h .1))
 
--- none holds of all of them
+-- where no test of two lists holds, none of either list does
 pub off-first : (ts us : List (Bool × ℕ)) → Off (ts ++ us) → Off ts
 off-first [] us h = tt
 off-first (t ∷ ts) us h = (h .0, off-first ts us (h .1))
@@ -56,7 +56,7 @@ pub off-rest : (ts us : List (Bool × ℕ)) → Off (ts ++ us) → Off us
 off-rest [] us h = h
 off-rest (t ∷ ts) us h = off-rest ts us (h .1)
 
--- others that do not hold where the first do not
+-- us adds nothing to ts, if no test of us holds where none of ts does
 pub number-alone : (ts us : List (Bool × ℕ)) → numbered ts ≡ true → (Off ts → Off us) → number (ts ++ us) ≡ number ts
 number-alone ts us n f = go (eqb (number ts) 0) refl
   where

@@ -8,8 +8,10 @@ use borrow.Author.Needs.{needs}
 use borrow.Author.Tests.{not-false}
 use denote.Ref.{now}
 use Rattle.words.proofs.Bools.{and-left, and-right}
-use Rattle.matrix_storage.specs.Bits.{hashOf, Shaped}
-use Rattle.countsketch_l2_norm.specs.Sketch.{Sketch, sketchOf, rowsRead, rowsFit}
+use Rattle.matrix_storage.specs.Bits.{hashOf}
+use Rattle.matrix_storage.specs.inner.Shaped.{Shaped}
+use Rattle.countsketch_l2_norm.specs.Sketch.{Sketch, rowsRead, rowsFit}
+use Rattle.countsketch_l2_norm.specs.inner.Needs.{sketchOf}
 use Rattle.countsketch_l2_norm.proofs.After.{read-cells}
 use Rattle.countsketch_test.proofs.add.Statement.{statement}
 use Rattle.countsketch_test.proofs.add.Tie as tie

@@ -7,7 +7,8 @@ use lib.ListN.{length}
 use borrow.Author.Needs.{needs}
 use borrow.Author.Tests.{not-false}
 use denote.Ref.{now}
-use Rattle.matrix_storage.specs.Bits.{maxRows, hashOf, Shaped}
+use Rattle.matrix_storage.specs.Bits.{maxRows, hashOf}
+use Rattle.matrix_storage.specs.inner.Shaped.{Shaped}
 use Rattle.countsketch_l2_norm.specs.Estimate.{cellsInRange}
 use Rattle.countsketch_test.proofs.estimate.Statement.{statement}
 use Rattle.countsketch_test.proofs.estimate.Tie as tie

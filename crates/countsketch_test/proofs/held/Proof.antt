@@ -6,7 +6,8 @@ use native.Mathlib.Omega.{arith}
 use borrow.Author.Needs.{needs}
 use borrow.Author.Tests.{leb-true}
 use Rattle.words.proofs.Bools.{never}
-use Rattle.matrix_storage.specs.Bits.{maxRows, maxCols, Shaped}
+use Rattle.matrix_storage.specs.Bits.{maxRows, maxCols}
+use Rattle.matrix_storage.specs.inner.Shaped.{Shaped}
 use Rattle.matrix_storage.proofs.Refusals.{shaped-of}
 use native.Mathlib.Nat.{mul-le-mul}
 use Rattle.countsketch_test.proofs.held.Statement.{statement}

@@ -5,7 +5,7 @@ use lib.ListN.{length}
 use borrow.Author.Needs.{needs}
 use borrow.Author.Tests.{not-false}
 use denote.Ref.{now}
-use Rattle.matrix_storage.specs.Bits.{Shaped}
+use Rattle.matrix_storage.specs.inner.Shaped.{Shaped}
 use Rattle.countsketch_test.proofs.l2.Statement.{statement}
 use Rattle.countsketch_test.proofs.l2.Tie as tie
 

@@ -8,7 +8,7 @@ use borrow.Author.Needs.{needs}
 use borrow.Author.Tests.{not-false}
 use denote.Ref.{now}
 use Rattle.words.specs.Num.{allIn}
-use Rattle.matrix_storage.specs.Bits.{Shaped}
+use Rattle.matrix_storage.specs.inner.Shaped.{Shaped}
 use Rattle.countsketch_test.proofs.merge.Statement.{statement}
 use Rattle.countsketch_test.proofs.merge.Tie as tie
 

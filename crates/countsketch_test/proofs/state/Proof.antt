@@ -6,7 +6,7 @@ use native.Mathlib.Omega.{arith}
 use borrow.Author.Needs.{needs}
 use borrow.Author.Tests.{not-false}
 use denote.Ref.{now}
-use Rattle.matrix_storage.specs.Bits.{Shaped}
+use Rattle.matrix_storage.specs.inner.Shaped.{Shaped}
 use native.Mathlib.Nat.{mul-le-mul}
 use Rattle.countsketch_test.proofs.state.Statement.{statement}
 use Rattle.countsketch_test.proofs.state.Tie as tie

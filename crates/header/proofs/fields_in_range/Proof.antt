@@ -11,7 +11,7 @@ use Rattle.header.proofs.Refusals.{accepted-of}
 use Rattle.header.proofs.Steps.{lens-split}
 use Rattle.header.specs.Shape.{maxLayers}
 use Rattle.header.specs.Header.{lensFrom, headerOk}
-use Rattle.header.specs.Accepted.{Accepted}
+use Rattle.header.specs.inner.Accepted.{Accepted}
 use Rattle.header.proofs.fields_in_range.Statement.{statement}
 use Rattle.header.proofs.fields_in_range.Tie as tie
 

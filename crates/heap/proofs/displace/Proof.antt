@@ -1,5 +1,6 @@
 -- `heap::displace` meets its contract.
 -- Written by tools/places.py from answers.txt; assumes nothing.
+use mathlib.Core.Path.{refl}
 use native.Mathlib.Omega.{arith}
 use borrow.Author.Needs.{needs}
 use mir.Facts.{toZ-ofZ}
@@ -27,7 +28,7 @@ same-length-2 c = search needs
 
 returns : tie.Need-returns
 returns c =
-    displace-yes _ _ _ _ _ _ (toZ-ofZ (c .before .before .before .before .before .before .before .before .before .before .before .before .before .before .before .before .fits .v)) _ _ _ _ (omega arith) (c .before .before .before .before .before .before .before .before .before .before .before .before .before .before .if12 .given) (c .before .before .before .before .before .before .before .before .before .before .before .before .before .if1 .taken) (search needs)
+    displace-yes _ _ _ _ _ _ (toZ-ofZ (c .before .before .before .before .before .before .before .before .before .before .before .before .before .before .before .before .fits .v)) _ _ _ _ (omega arith) (c .before .before .before .before .before .before .before .before .before .before .before .before .before .before .if12 .given) (c .before .before .before .before .before .before .before .before .before .before .before .before .before .if1 .taken) refl
     (c .before .before .before .before .before .before .before .before .before .put-cand .ensures) (c .before .before .before .bubble-down .ensures .0)
 
 returns-2 : tie.Need-returns-2

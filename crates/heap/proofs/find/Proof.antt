@@ -4,12 +4,13 @@ use Prim.Native.Nat.{_-_, _≤_}
 use native.Mathlib.Omega.{arith}
 use borrow.Author.Needs.{needs}
 use denote.Ref.{now}
-use Rattle.heap.proofs.Matches.{Missed, missed-next, find-at, find-end}
+use Rattle.words.proofs.Missed.{Missed, missed-next}
+use Rattle.heap.proofs.Matches.{entryKey, find-at, find-end}
 use Rattle.heap.proofs.find.Statement.{statement}
 use Rattle.heap.proofs.find.Tie as tie
 
 abbrev Inv-loop : tie.InvT-loop
-Inv-loop entries n key i₀ i = (i ≤ n) × Missed entries key i
+Inv-loop entries n key i₀ i = (i ≤ n) × Missed (entryKey entries) key i
 
 abbrev μ-loop : tie.MeasureT-loop
 μ-loop entries n key i₀ i = n - i
@@ -43,7 +44,7 @@ loop-less c = omega arith
 loop-again : tie.Need-loop-again Inv-loop μ-loop
 loop-again c =
     let a = c .before .before .before .before .before .before .args in
-    (omega arith, missed-next (now (a .entries)) (a .key) (c .before .before .before .loop .i) (c .before .before .before .loop .inv .1) (c .if1 .left))
+    (omega arith, missed-next (entryKey (now (a .entries))) (a .key) (c .before .before .before .loop .i) (c .before .before .before .loop .inv .1) (c .if1 .left))
 
 returns-2 : tie.Need-returns-2 Inv-loop μ-loop
 returns-2 c =

@@ -20,8 +20,8 @@ returns c = search needs
 loop-holds : tie.Need-loop-holds Inv-loop μ-loop
 loop-holds c = search needs
 
-who-at-requires : tie.Need-who-at-requires Inv-loop μ-loop
-who-at-requires c κs = search needs
+item-at-requires : tie.Need-item-at-requires Inv-loop μ-loop
+item-at-requires c κs = search needs
 
 mul-show-entry : tie.Need-mul-show-entry Inv-loop μ-loop
 mul-show-entry c = search needs
@@ -45,4 +45,4 @@ returns-2 : tie.Need-returns-2 Inv-loop μ-loop
 returns-2 c = search needs
 
 pub show-spec : {M : Type 1} → statement M
-show-spec = tie.close (tie.spec Inv-loop μ-loop print-requires returns loop-holds who-at-requires mul-show-entry element-copy-out-show-entry show-entry-requires add-i loop-less loop-again returns-2)
+show-spec = tie.close (tie.spec Inv-loop μ-loop print-requires returns loop-holds item-at-requires mul-show-entry element-copy-out-show-entry show-entry-requires add-i loop-less loop-again returns-2)

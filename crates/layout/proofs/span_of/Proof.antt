@@ -1,12 +1,13 @@
 -- `layout::span_of` meets its contract.
 -- Written by tools/places.py from answers.txt; assumes nothing.
 use Prim.Native.Nat.{_*_, _≤_}
+use mathlib.Core.Path.{refl}
 use native.Mathlib.Omega.{arith}
 use Rattle.header.specs.Shape.{maxLayers, maxHeap}
 use Rattle.matrix_storage.specs.Bits.{maxRows, maxCols}
 use Rattle.layout.proofs.Offsets.{table-bound, cells-bound, norms-bound, seats-bound, cell-off, norm-off, cand-off}
 use Rattle.layout.specs.State.{rowsAt, colsAt}
-use Rattle.layout.specs.Spans.{spanOf}
+use Rattle.layout.specs.inner.Spans.{spanOf}
 use Rattle.layout.proofs.span_of.Statement.{statement}
 use Rattle.layout.proofs.span_of.Tie as tie
 
@@ -65,7 +66,7 @@ unfolding spanOf rowsAt colsAt
 returns c =
     let s = c .before .before .before .args .shape in
     let l = c .before .before .before .args .l in
-    simp (cell-off s l, norm-off s l, cand-off s l)
+    rw (cell-off s l, norm-off s l, cand-off s l) refl
 
 pub span-of-spec : {M : Type 1} → statement M
 span-of-spec = tie.close (tie.spec mul-table mul-cells add-cells-end mul-row-start mul-norms mul-norms-end add-norms-end mul-seats add-seats-end mul-words mul-words-end add-words-end returns)

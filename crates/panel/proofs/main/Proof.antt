@@ -2,10 +2,9 @@
 -- elements of the longest array. A law gives each array's length instead.
 use Prim.Native.Nat.{ℕ, _*_, _≤_}
 use mathlib.Core.Path.{_≡_, sym}
-use lib.ListN.{length, replicate, length-replicate}
+use lib.ListN.{length-replicate}
 use lib.IntN.{pos}
 use native.Mathlib.Omega.{arith}
-use borrow.Author.Needs.{needs}
 use Rattle.matrix_storage.specs.Bits.{maxRows}
 use Rattle.header.specs.Shape.{maxLayers}
 use Rattle.panel_lines.specs.Split.{mostHeld}

@@ -5,7 +5,7 @@ use borrow.Author.Needs.{needs}
 use borrow.Author.Tests.{not-true, not-false}
 use mir.Syntax.{w64}
 use mir.Facts.{toZ-ofZ}
-use Rattle.sums.specs.Entries.{at}
+use Rattle.sums.specs.inner.Spaces.{at}
 use Rattle.sums.specs.Terms.{gOf, counted, addTerm}
 use Rattle.sums.proofs.add_term.Statement.{statement}
 use Rattle.sums.proofs.add_term.Tie as tie

@@ -1,7 +1,7 @@
 -- `sums::join` meets its contract.
 -- Written by tools/places.py from answers.txt; assumes nothing.
 use mathlib.Core.Path.{sym}
-use Rattle.sums.specs.Up.{joinedSums}
+use Rattle.sums.specs.inner.Up.{joinedSums}
 use Rattle.sums.proofs.join.Statement.{statement}
 use Rattle.sums.proofs.join.Tie as tie
 

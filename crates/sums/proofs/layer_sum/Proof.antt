@@ -7,7 +7,7 @@ use native.Mathlib.Omega.{arith}
 use borrow.Author.Needs.{needs, sfits-of}
 use denote.Ref.{now}
 use mir.Facts.{toZ-ofZ}
-use Rattle.sums.specs.Entries.{space, at}
+use Rattle.sums.specs.inner.Spaces.{space, at}
 use Rattle.sums.specs.Terms.{plusZero, sumOver}
 use Rattle.sums.proofs.Views.{view-listed, Summing, sum-start, sum-on, sum-end}
 use Rattle.sums.proofs.layer_sum.Statement.{statement}

@@ -10,12 +10,14 @@ use denote.Ref.{now}
 use mir.Facts.{toZ-ofZ}
 use Rattle.header.specs.Header.{withLayer}
 use Rattle.layout.specs.Slices.{lent, view, Lent}
-use Rattle.layer.specs.Layer.{Layer, layerOf}
-use Rattle.layer.specs.Delta.{delta, deltaLayer}
+use Rattle.layer.specs.Layer.{Layer}
+use Rattle.layer.specs.inner.Needs.{layerOf, delta}
+use Rattle.layer.specs.Delta.{deltaLayer}
 use Rattle.layer.proofs.Steps.{delta-few}
 use Rattle.layout.specs.State.{dimsAt, layerAt}
-use Rattle.layout.specs.Records.{whoAt}
-use Rattle.heap.specs.Offer.{keptBy, lenBy}
+use Rattle.layout.specs.Records.{itemAt}
+use Rattle.heap.specs.Offer.{keptBy}
+use Rattle.heap.specs.inner.Slices.{lenBy}
 use Rattle.layout.proofs.Handed.{Spanned, cell-piece, norm-piece, word-piece, seat-piece, handed-is, Back, back-view, back-standing}
 use Rattle.univmon_delta.proofs.Arrivals.{arrive-ready}
 use Rattle.univmon_delta.proofs.deliver.Statement.{statement}
@@ -34,8 +36,8 @@ span-of-requires c κs = (c .before .before .before .before .pre .placed .standi
 dims-requires : tie.Need-dims-requires
 dims-requires c κs = search needs
 
-who-in-requires : tie.Need-who-in-requires
-who-in-requires c κs = let p = c .before .before .before .before .before .before .pre .placed in (omega (arith, p .inside, p .standing .accepted .few), omega (arith, p .inside, p .recorded))
+item-in-requires : tie.Need-item-in-requires
+item-in-requires c κs = let p = c .before .before .before .before .before .before .pre .placed in (omega (arith, p .inside, p .standing .accepted .few), omega (arith, p .inside, p .recorded))
 
 mul-len : tie.Need-mul-len
 mul-len c = let p = c .before .before .before .before .before .before .before .before .pre .placed in let q = p .standing .accepted .few in let i = p .inside in search needs
@@ -92,7 +94,7 @@ part-apply-delta-end-4 : tie.Need-part-apply-delta-end-4
 part-apply-delta-end-4 c = let b = seat-piece (spanned (c .before .before .before .before .before .before)) in search needs
 
 apply-delta-requires : tie.Need-apply-delta-requires
-apply-delta-requires c κs = rw (c .before .before .before .before .before .before .dims .ensures, c .before .before .before .before .before .who-in .ensures, toZ-ofZ (c .before .before .before .before .before .before .before .before .before .before .before .before .fits .count)) (arrive-ready (c .before .before .before .before .before .before .before .before .before .before .before .before .pre) (spanned (c .before .before .before .before .before .before .before)))
+apply-delta-requires c κs = rw (c .before .before .before .before .before .before .dims .ensures, c .before .before .before .before .before .item-in .ensures, toZ-ofZ (c .before .before .before .before .before .before .before .before .before .before .before .before .fits .count)) (arrive-ready (c .before .before .before .before .before .before .before .before .before .before .before .before .pre) (spanned (c .before .before .before .before .before .before .before)))
 
 len-after-requires : tie.Need-len-after-requires
 len-after-requires c κs = let z = c .before .before .before .before .before .before .before .before .before .before .before .before .before .before .before .before .before .before .before .pre .placed .standing in omega (arith, z .lens (c .before .before .before .before .before .before .before .before .before .before .before .before .before .before .before .before .before .before .before .args .l) (c .before .before .before .before .before .before .before .before .before .before .before .before .before .before .before .before .before .before .before .pre .placed .inside), z .accepted .small)
@@ -122,15 +124,15 @@ back c = record { cells = c .before .before .before .before .before .counters .g
 -- the layer as it came back
 layer-now : (c : tie.After-apply-delta) → let a = c .before .before .before .before .before .before .before .before .before .before .before .before .before .args in let l = c .apply-delta .last in let f = getD (a .h .flags) (a .l) false in
     layerOf (dimsAt (a .h .shape) (a .l)) (l .0) (l .1 .0) (l .1 .1 .0) (l .1 .1 .1 .0) (lenBy (c .apply-delta .result) (getD (a .h .lens) (a .l) 0)) (f && (keptBy (c .apply-delta .result) && a .every))
-    ≡ deltaLayer (dimsAt (a .h .shape) (a .l)) (delta (a .row) (a .col) (a .count) (whoAt (now (a .words)) (a .l)) (a .every)) (layerAt (view (lent-of (c .before .before .before .before .before .before .before .before .before .before .before .before .before))) (a .l))
+    ≡ deltaLayer (dimsAt (a .h .shape) (a .l)) (delta (a .row) (a .col) (a .count) (itemAt (now (a .«record»)) (a .l)) (a .every)) (layerAt (view (lent-of (c .before .before .before .before .before .before .before .before .before .before .before .before .before))) (a .l))
 layer-now c =
     let a = c .before .before .before .before .before .before .before .before .before .before .before .before .before .args in
-    rw (c .before .before .before .before .before .before .before .dims .ensures, c .before .before .before .before .before .before .who-in .ensures, toZ-ofZ (c .before .before .before .before .before .before .before .before .before .before .before .before .before .fits .count)) at (c .apply-delta .ensures .0 (getD (a .h .flags) (a .l) false) (a .every))
-    ∙ ap (deltaLayer (dimsAt (a .h .shape) (a .l)) (delta (a .row) (a .col) (a .count) (whoAt (now (a .words)) (a .l)) (a .every))) (sym (handed-is (spanned (c .before .before .before .before .before .before .before .before))))
+    rw (c .before .before .before .before .before .before .before .dims .ensures, c .before .before .before .before .before .before .item-in .ensures, toZ-ofZ (c .before .before .before .before .before .before .before .before .before .before .before .before .before .fits .count)) at (c .apply-delta .ensures .0 (getD (a .h .flags) (a .l) false) (a .every))
+    ∙ ap (deltaLayer (dimsAt (a .h .shape) (a .l)) (delta (a .row) (a .col) (a .count) (itemAt (now (a .«record»)) (a .l)) (a .every))) (sym (handed-is (spanned (c .before .before .before .before .before .before .before .before))))
 
 -- the header as it is handed back
 header-now : (c : tie.After-touched) → let a = c .before .before .before .before .before .before .before .before .before .before .before .before .before .before .before .before .before .before .before .before .before .before .args in
-    c .touched .result ≡ withLayer (a .h) (a .l) (getD (a .h .flags) (a .l) false && (keptBy (c .before .before .before .before .before .before .before .before .before .apply-delta .result) && a .every)) (lenBy (c .before .before .before .before .before .before .before .before .before .apply-delta .result) (getD (a .h .lens) (a .l) 0))
+    c .touched .result ≡ withLayer (a .h) (a .l) (lenBy (c .before .before .before .before .before .before .before .before .before .apply-delta .result) (getD (a .h .lens) (a .l) 0)) (getD (a .h .flags) (a .l) false && (keptBy (c .before .before .before .before .before .before .before .before .before .apply-delta .result) && a .every))
 header-now c = rw (c .before .before .len-after .ensures, c .before .kept-all .ensures) at (c .touched .ensures)
 
 -- no more candidates than seats
@@ -139,7 +141,7 @@ unfolding layerAt view
 few c =
     let a = c .before .before .before .before .before .before .before .before .before .before .before .before .before .args in
     rw (ap (λ (y : Layer). y .table .len) (layer-now c))
-    (delta-few (dimsAt (a .h .shape) (a .l)) (delta (a .row) (a .col) (a .count) (whoAt (now (a .words)) (a .l)) (a .every)) (layerAt (view (lent-of (c .before .before .before .before .before .before .before .before .before .before .before .before .before))) (a .l)) (c .before .before .before .before .before .before .before .before .before .before .before .before .before .pre .placed .standing .lens (a .l) (c .before .before .before .before .before .before .before .before .before .before .before .before .before .pre .placed .inside)))
+    (delta-few (dimsAt (a .h .shape) (a .l)) (delta (a .row) (a .col) (a .count) (itemAt (now (a .«record»)) (a .l)) (a .every)) (layerAt (view (lent-of (c .before .before .before .before .before .before .before .before .before .before .before .before .before))) (a .l)) (c .before .before .before .before .before .before .before .before .before .before .before .before .before .pre .placed .standing .lens (a .l) (c .before .before .before .before .before .before .before .before .before .before .before .before .before .pre .placed .inside)))
 
 returns : tie.Need-returns
 returns c = (
@@ -148,4 +150,4 @@ returns c = (
 )
 
 pub deliver-spec : {M : Type 1} → statement M
-deliver-spec = tie.close (tie.spec span-of-requires dims-requires who-in-requires mul-len array-read-len mul-apply-delta sub-apply-delta part-apply-delta-start part-apply-delta-end mul-apply-delta-2 sub-apply-delta-2 part-apply-delta-start-2 part-apply-delta-end-2 mul-apply-delta-3 sub-apply-delta-3 part-apply-delta-start-3 part-apply-delta-end-3 mul-apply-delta-4 sub-apply-delta-4 part-apply-delta-start-4 part-apply-delta-end-4 apply-delta-requires len-after-requires kept-all-requires touched-requires same-length same-length-2 same-length-3 same-length-4 returns)
+deliver-spec = tie.close (tie.spec span-of-requires dims-requires item-in-requires mul-len array-read-len mul-apply-delta sub-apply-delta part-apply-delta-start part-apply-delta-end mul-apply-delta-2 sub-apply-delta-2 part-apply-delta-start-2 part-apply-delta-end-2 mul-apply-delta-3 sub-apply-delta-3 part-apply-delta-start-3 part-apply-delta-end-3 mul-apply-delta-4 sub-apply-delta-4 part-apply-delta-start-4 part-apply-delta-end-4 apply-delta-requires len-after-requires kept-all-requires touched-requires same-length same-length-2 same-length-3 same-length-4 returns)

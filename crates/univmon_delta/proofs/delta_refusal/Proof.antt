@@ -9,10 +9,9 @@ use mir.Facts.{toZ-ofZ}
 use Rattle.layout.specs.Slices.{lent, Lent}
 use Rattle.layout.specs.Outcomes.{left, lentTests}
 use Rattle.layout.proofs.Lengths.{standing-of}
-use Rattle.layout.specs.Needs.{Standing}
+use Rattle.layout.specs.inner.Needs.{Standing}
 use Rattle.words.proofs.Tests.{Off, off-number}
-use Rattle.univmon_delta.specs.Deltas.{everyInsert, deltaTests}
-use Rattle.univmon_delta.specs.Arriving.{arrival}
+use Rattle.univmon_delta.specs.Deltas.{everyInsert, deltaTests, arrival}
 use Rattle.univmon_delta.proofs.Refusing.{unfit-number}
 use Rattle.univmon_delta.proofs.delta_refusal.Statement.{statement}
 use Rattle.univmon_delta.proofs.delta_refusal.Tie as tie
@@ -25,7 +24,7 @@ abbrev lent-of : tie.Start → Lent
 lent-of c = lent (c .args .h) (now (c .args .counters)) (now (c .args .norms)) (now (c .args .entries)) (now (c .args .counts))
 
 returns : tie.Need-returns
-returns c = λ f. let a = c .before .before .before .before .before .args in unfit-number (lent-of (c .before .before .before .before .before)) (now (a .words)) (arrival (a .l) (a .row) (a .col) (a .count) f) (c .before .lent-refusal .result) (c .before .lent-refusal .ensures) (c .if1 .taken)
+returns c = λ f. let a = c .before .before .before .before .before .args in unfit-number (lent-of (c .before .before .before .before .before)) (now (a .«record»)) (arrival (a .l) (a .row) (a .col) (a .count) f) (c .before .lent-refusal .result) (c .before .lent-refusal .ensures) (c .if1 .taken)
 
 -- header and lengths were found right
 passed : (c : tie.Else1) → Off (lentTests (lent-of (c .before .before .before .before .before)))

@@ -6,10 +6,9 @@ use native.Mathlib.Omega.{arith}
 use borrow.Author.Needs.{needs, sfits-of}
 use denote.Ref.{now}
 use mir.Facts.{toZ-ofZ}
-use Rattle.countsketch_l2_norm.proofs.Rows.{sum-within}
-use Rattle.countsketch_l2_norm.specs.Norms.{setNorm}
+use Rattle.countsketch_l2_norm.specs.inner.Needs.{setNorm}
 use Rattle.countsketch_l2_norm.specs.Sketch.{cellAt}
-use Rattle.words.proofs.Signed.{back, fits}
+use Rattle.words.proofs.Signed.{back, fits, sum-within}
 use Rattle.words.proofs.Squares.{capped-le}
 use Rattle.words.specs.Num.{capped}
 use Rattle.countsketch_l2_norm.proofs.cells.add_cell.Statement.{statement}
@@ -74,19 +73,4 @@ returns c =
     )
 
 pub add-cell-spec : {M : Type 1} → statement M
-add-cell-spec =
-    tie.close
-    (tie.spec
-    mul-old
-    slice-copy-out-old
-    add-new
-    capped-square-requires
-    capped-square-requires-2
-    norm-of-requires
-    moved-requires
-    put-norm-requires
-    mul-new
-    slice-set-from-new
-    same-length
-    same-length-2
-    returns)
+add-cell-spec = tie.close (tie.spec mul-old slice-copy-out-old add-new capped-square-requires capped-square-requires-2 norm-of-requires moved-requires put-norm-requires mul-new slice-set-from-new same-length same-length-2 returns)

@@ -2,7 +2,7 @@
 -- Written by tools/places.py from answers.txt; assumes nothing.
 use Prim.Native.Nat.{_^_, _<_}
 use borrow.Author.Needs.{needs}
-use Rattle.countsketch_l2_norm.specs.Norms.{setNorm}
+use Rattle.countsketch_l2_norm.specs.inner.Needs.{setNorm}
 use Rattle.words.proofs.TwoWords.{word-low, word-high}
 use Rattle.countsketch_l2_norm.proofs.cells.put_norm.Statement.{statement}
 use Rattle.countsketch_l2_norm.proofs.cells.put_norm.Tie as tie

@@ -6,7 +6,7 @@ use native.Mathlib.Omega.{arith}
 use denote.Ref.{now}
 use Rattle.countsketch_l2_norm.proofs.Places.{row-end}
 use Rattle.countsketch_l2_norm.proofs.Merges.{Norming, norm-on, norm-end}
-use Rattle.countsketch_l2_norm.specs.Norms.{setNorm}
+use Rattle.countsketch_l2_norm.specs.inner.Needs.{setNorm}
 use Rattle.countsketch_l2_norm.proofs.merging.row_norms.Statement.{statement}
 use Rattle.countsketch_l2_norm.proofs.merging.row_norms.Tie as tie
 

@@ -13,7 +13,8 @@ use Rattle.countsketch_l2_norm.proofs.Places.{cell-lt, place-asks}
 use Rattle.countsketch_l2_norm.proofs.Scans.{Scan, scan-start, scan-on, scan-stop, scan-end}
 use Rattle.countsketch_l2_norm.proofs.Rows.{read-step, read-none}
 use Rattle.countsketch_l2_norm.specs.Norms.{normAt}
-use Rattle.countsketch_l2_norm.specs.Sketch.{sketchOf, cellOf, cellAt, rowRead, rowsRead}
+use Rattle.countsketch_l2_norm.specs.Sketch.{cellOf, cellAt, rowRead, rowsRead}
+use Rattle.countsketch_l2_norm.specs.inner.Needs.{sketchOf}
 use Rattle.matrix_storage.specs.Bits.{hashOf}
 use Rattle.countsketch_l2_norm.proofs.update.rows_read.Statement.{statement}
 use Rattle.countsketch_l2_norm.proofs.update.rows_read.Tie as tie

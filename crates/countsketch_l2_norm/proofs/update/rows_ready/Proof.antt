@@ -16,7 +16,8 @@ use Rattle.countsketch_l2_norm.proofs.Places.{cell-lt, place-asks}
 use Rattle.countsketch_l2_norm.proofs.Scans.{Scan, scan-start, scan-on, scan-stop, scan-end}
 use Rattle.countsketch_l2_norm.proofs.Rows.{ready-step, ready-none}
 use Rattle.countsketch_l2_norm.specs.Norms.{normAt}
-use Rattle.countsketch_l2_norm.specs.Sketch.{sketchOf, cellOf, cellAt, rowRead, cellFits, rowsReady}
+use Rattle.countsketch_l2_norm.specs.Sketch.{cellOf, cellAt, rowRead, cellFits}
+use Rattle.countsketch_l2_norm.specs.inner.Needs.{sketchOf, rowsReady}
 use Rattle.matrix_storage.specs.Bits.{signed, hashOf}
 use Rattle.countsketch_l2_norm.proofs.update.rows_ready.Statement.{statement}
 use Rattle.countsketch_l2_norm.proofs.update.rows_ready.Tie as tie

@@ -8,7 +8,8 @@ use denote.Ref.{now}
 use mir.Facts.{toZ-ofZ}
 use Rattle.countsketch_l2_norm.proofs.After.{fit-after}
 use Rattle.countsketch_l2_norm.proofs.Estimates.{counted-in, counted}
-use Rattle.countsketch_l2_norm.specs.Sketch.{sketchOf, Sketch}
+use Rattle.countsketch_l2_norm.specs.Sketch.{Sketch}
+use Rattle.countsketch_l2_norm.specs.inner.Needs.{sketchOf}
 use Rattle.countsketch_l2_norm.specs.Estimate.{cellsInRange}
 use Rattle.matrix_storage.specs.Bits.{hashOf}
 use native.Mathlib.Nat.{zero-add}

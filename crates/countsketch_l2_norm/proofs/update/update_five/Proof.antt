@@ -17,7 +17,7 @@ use Rattle.countsketch_l2_norm.proofs.Filled.{Counted, count-start, cou
 use Rattle.countsketch_l2_norm.specs.Estimate.{estimates}
 use Rattle.matrix_storage.specs.Bits.{hashOf}
 use native.Mathlib.Nat.{le-refl}
-use Rattle.countsketch_l2_norm.specs.Needs.{RowAdded}
+use Rattle.countsketch_l2_norm.specs.inner.Needs.{RowAdded}
 use Rattle.countsketch_l2_norm.proofs.update.update_five.Statement.{statement}
 use Rattle.countsketch_l2_norm.proofs.update.update_five.Tie as tie
 

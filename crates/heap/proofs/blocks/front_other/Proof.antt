@@ -5,12 +5,13 @@ use mathlib.Core.Path.{_≡_, refl, sym, _∙_}
 use native.Mathlib.Omega.{arith}
 use borrow.Author.Tests.{not-false}
 use denote.Ref.{now}
-use Rattle.heap.proofs.Matches.{Missed, missed-four}
+use Rattle.words.proofs.Missed.{Missed}
+use Rattle.heap.proofs.Matches.{entryKey, missed-entries}
 use Rattle.heap.proofs.blocks.front_other.Statement.{statement}
 use Rattle.heap.proofs.blocks.front_other.Tie as tie
 
 abbrev Inv-loop : tie.InvT-loop
-Inv-loop entries n key whole i₀ i = ((i ≤ n) × (i % 4 ≡ 0)) × Missed entries key i
+Inv-loop entries n key whole i₀ i = ((i ≤ n) × (i % 4 ≡ 0)) × Missed (entryKey entries) key i
 
 abbrev μ-loop : tie.MeasureT-loop
 μ-loop entries n key whole i₀ i = n - i
@@ -41,7 +42,7 @@ loop-again c =
     let v = c .before .before .before .loop .inv in
     let t = c .before .before .loop-test .taken in (
       (omega (arith, t, v .0 .1), omega (arith, v .0 .1)),
-      missed-four (now (c .before .before .before .before .before .args .entries)) (c .before .before .before .before .before .args .key) (c .before .before .before .loop .i) (v .1) (sym (c .before .four-other .ensures) ∙ not-false _ (c .if1 .left)),
+      missed-entries (now (c .before .before .before .before .before .args .entries)) (c .before .before .before .before .before .args .key) (c .before .before .before .loop .i) (v .1) (sym (c .before .four-other .ensures) ∙ not-false _ (c .if1 .left)),
     )
 
 returns-2 : tie.Need-returns-2 Inv-loop μ-loop

@@ -11,7 +11,8 @@ use mir.Val.{toZ, ofZ}
 use mir.Facts.{toZ-ofZ}
 use Rattle.words.specs.Num.{allIn}
 use Rattle.words.proofs.Bools.{and-left}
-use Rattle.countsketch_l2_norm.specs.Sketch.{sketchOf, rowsRead, rowsFit}
+use Rattle.countsketch_l2_norm.specs.Sketch.{rowsRead, rowsFit}
+use Rattle.countsketch_l2_norm.specs.inner.Needs.{sketchOf}
 use Rattle.layer.specs.Layer.{hashBy}
 use Rattle.layer.proofs.Tests.{reads-are, fits-are}
 use Rattle.layer.proofs.Steps.{add-is}
@@ -19,16 +20,16 @@ use Rattle.layer.proofs.adding.add.Statement.{statement}
 use Rattle.layer.proofs.adding.add.Tie as tie
 
 -- the tests of the rows, from those of the layer
-rows-are-read : (c : tie.Start) → let a = c .args in rowsRead (a .d .cols) (hashBy (a .who)) (sketchOf (now (a .counters)) (now (a .norms)) (a .d .rows)) (a .d .rows) 0 ≡ true
+rows-are-read : (c : tie.Start) → let a = c .args in rowsRead (a .d .cols) (hashBy (a .item)) (sketchOf (now (a .counters)) (now (a .norms)) (a .d .rows)) (a .d .rows) 0 ≡ true
 rows-are-read c =
     let a = c .args in
-    and-left (rowsRead (a .d .cols) (hashBy (a .who)) (sketchOf (now (a .counters)) (now (a .norms)) (a .d .rows)) (a .d .rows) 0) (allIn (take (a .len) (now (a .counts))))
-    (sym (reads-are (a .d) (a .who) (a .weight) (now (a .counters)) (now (a .norms)) (now (a .entries)) (now (a .counts)) (a .len) false) ∙ c .pre .read)
+    and-left (rowsRead (a .d .cols) (hashBy (a .item)) (sketchOf (now (a .counters)) (now (a .norms)) (a .d .rows)) (a .d .rows) 0) (allIn (take (a .len) (now (a .counts))))
+    (sym (reads-are (a .d) (a .item) (a .weight) (now (a .counters)) (now (a .norms)) (now (a .entries)) (now (a .counts)) (a .len) false) ∙ c .pre .read)
 
-rows-do-fit : (c : tie.Start) → let a = c .args in rowsFit (a .d .cols) (hashBy (a .who)) (a .weight) (now (a .counters)) (a .d .rows) 0 ≡ true
+rows-do-fit : (c : tie.Start) → let a = c .args in rowsFit (a .d .cols) (hashBy (a .item)) (a .weight) (now (a .counters)) (a .d .rows) 0 ≡ true
 rows-do-fit c =
     let a = c .args in
-    sym (fits-are (a .d) (a .who) (a .weight) (now (a .counters)) (now (a .norms)) (now (a .entries)) (now (a .counts)) (a .len) false) ∙ c .pre .fit
+    sym (fits-are (a .d) (a .item) (a .weight) (now (a .counters)) (now (a .norms)) (now (a .entries)) (now (a .counts)) (a .len) false) ∙ c .pre .fit
 
 update-and-count-requires : tie.Need-update-and-count-requires
 update-and-count-requires c κs =
@@ -68,7 +69,7 @@ returns c =
     let a = c .before .before .before .before .before .before .before .before .before .before .before .before .before .before .args in
     let u = c .before .before .before .before .before .before .before .before .before .update-and-count in
     let o = c .before .before .before .offer .ensures in
-    add-is (a .d) (a .who) (a .weight) (now (a .counters)) (now (a .norms)) (now (a .entries)) (now (a .counts)) (a .len) _ _ _ _ (c .before .before .before .offer .result) (u .result) (u .ensures .0) (u .ensures .1)
+    add-is (a .d) (a .item) (a .weight) (now (a .counters)) (now (a .norms)) (now (a .entries)) (now (a .counts)) (a .len) _ _ _ _ (c .before .before .before .offer .result) (u .result) (u .ensures .0) (u .ensures .1)
     (rw (count-back (c .before .before .before .before .before .before .before .before .before)) at (o .0)) (rw (count-back (c .before .before .before .before .before .before .before .before .before)) at (o .1 .0)) (rw (count-back (c .before .before .before .before .before .before .before .before .before)) at (o .1 .1 .0))
 
 pub add-spec : {M : Type 1} → statement M

@@ -13,10 +13,12 @@ use mir.Val.{toZ, ofZ}
 use mir.Facts.{toZ-ofZ}
 use Rattle.words.specs.Num.{allIn}
 use Rattle.words.proofs.Bools.{and-left, and-right}
-use Rattle.countsketch_l2_norm.specs.Sketch.{Sketch, sketchOf, cellAt, cellRead, cellFits, addCell}
+use Rattle.countsketch_l2_norm.specs.Sketch.{Sketch, cellAt, cellRead, cellFits, addCell}
+use Rattle.countsketch_l2_norm.specs.inner.Needs.{sketchOf}
 use Rattle.countsketch_l2_norm.specs.Estimate.{cellsInRange}
 use Rattle.layer.specs.Layer.{hashBy}
-use Rattle.layer.specs.Delta.{delta, deltaFits}
+use Rattle.layer.specs.Delta.{deltaFits}
+use Rattle.layer.specs.inner.Needs.{delta}
 use Rattle.layer.proofs.Tests.{delta-reads-are, cells-set}
 use Rattle.layer.proofs.Steps.{delta-is}
 use Rattle.countsketch_l2_norm.proofs.Places.{place-lt}
@@ -25,21 +27,21 @@ use Rattle.layer.proofs.deltas.apply_delta.Tie as tie
 
 -- the tests of the counter and of the estimate, from those of the layer
 tests : (c : tie.Start) → let a = c .args in
-    cellRead (a .d .cols) (a .row * a .d .cols + a .col) (a .row) (sketchOf (now (a .counters)) (now (a .norms)) (a .d .rows)) && cellsInRange (a .d .cols) (hashBy (a .who)) (now (a .counters)) (a .d .rows) 0 ≡ true
+    cellRead (a .d .cols) (a .row * a .d .cols + a .col) (a .row) (sketchOf (now (a .counters)) (now (a .norms)) (a .d .rows)) && cellsInRange (a .d .cols) (hashBy (a .item)) (now (a .counters)) (a .d .rows) 0 ≡ true
 tests c =
     let a = c .args in
-    and-left (cellRead (a .d .cols) (a .row * a .d .cols + a .col) (a .row) (sketchOf (now (a .counters)) (now (a .norms)) (a .d .rows)) && cellsInRange (a .d .cols) (hashBy (a .who)) (now (a .counters)) (a .d .rows) 0) (allIn (take (a .len) (now (a .counts))))
-    (sym (delta-reads-are (a .d) (a .row) (a .col) (a .count) (a .who) true (now (a .counters)) (now (a .norms)) (now (a .entries)) (now (a .counts)) (a .len) false) ∙ c .pre .read)
+    and-left (cellRead (a .d .cols) (a .row * a .d .cols + a .col) (a .row) (sketchOf (now (a .counters)) (now (a .norms)) (a .d .rows)) && cellsInRange (a .d .cols) (hashBy (a .item)) (now (a .counters)) (a .d .rows) 0) (allIn (take (a .len) (now (a .counts))))
+    (sym (delta-reads-are (a .d) (a .row) (a .col) (a .count) (a .item) true (now (a .counters)) (now (a .norms)) (now (a .entries)) (now (a .counts)) (a .len) false) ∙ c .pre .read)
 
 cell-read : (c : tie.Start) → let a = c .args in cellRead (a .d .cols) (a .row * a .d .cols + a .col) (a .row) (sketchOf (now (a .counters)) (now (a .norms)) (a .d .rows)) ≡ true
 cell-read c =
     let a = c .args in
-    and-left (cellRead (a .d .cols) (a .row * a .d .cols + a .col) (a .row) (sketchOf (now (a .counters)) (now (a .norms)) (a .d .rows))) (cellsInRange (a .d .cols) (hashBy (a .who)) (now (a .counters)) (a .d .rows) 0) (tests c)
+    and-left (cellRead (a .d .cols) (a .row * a .d .cols + a .col) (a .row) (sketchOf (now (a .counters)) (now (a .norms)) (a .d .rows))) (cellsInRange (a .d .cols) (hashBy (a .item)) (now (a .counters)) (a .d .rows) 0) (tests c)
 
-cells-read : (c : tie.Start) → let a = c .args in cellsInRange (a .d .cols) (hashBy (a .who)) (now (a .counters)) (a .d .rows) 0 ≡ true
+cells-read : (c : tie.Start) → let a = c .args in cellsInRange (a .d .cols) (hashBy (a .item)) (now (a .counters)) (a .d .rows) 0 ≡ true
 cells-read c =
     let a = c .args in
-    and-right (cellRead (a .d .cols) (a .row * a .d .cols + a .col) (a .row) (sketchOf (now (a .counters)) (now (a .norms)) (a .d .rows))) (cellsInRange (a .d .cols) (hashBy (a .who)) (now (a .counters)) (a .d .rows) 0) (tests c)
+    and-right (cellRead (a .d .cols) (a .row * a .d .cols + a .col) (a .row) (sketchOf (now (a .counters)) (now (a .norms)) (a .d .rows))) (cellsInRange (a .d .cols) (hashBy (a .item)) (now (a .counters)) (a .d .rows) 0) (tests c)
 
 cell-fits : (c : tie.Start) → let a = c .args in cellFits (a .row * a .d .cols + a .col) (a .count) (now (a .counters)) ≡ true
 unfolding deltaFits
@@ -80,7 +82,7 @@ count-with-hash-requires c κs =
       (
         omega (arith, p .housed .cells, ap length (cells-now (c .before .before .before .before)) ∙ length-set (now (a .counters)) at (cellAt (now (a .counters)) at +ℤ a .count)),
         rw (cells-now (c .before .before .before .before))
-            (cells-set (a .d .cols) (hashBy (a .who)) (now (a .counters)) at (cellAt (now (a .counters)) at +ℤ a .count) (a .d .rows) 0
+            (cells-set (a .d .cols) (hashBy (a .item)) (now (a .counters)) at (cellAt (now (a .counters)) at +ℤ a .count) (a .d .rows) 0
             (place-lt (a .d .rows) (a .d .cols) (a .row) (a .col) (length (now (a .counters))) (p .below) (p .inside) (omega (arith, p .housed .cells))) (cell-fits (c .before .before .before .before .before .before .before .before .before)) (cells-read (c .before .before .before .before .before .before .before .before .before))),
       ),
     )
@@ -106,7 +108,7 @@ returns : tie.Need-returns
 returns c =
     let a = c .before .before .before .before .before .before .before .before .before .before .before .before .before .before .before .before .args in
     let o = c .before .before .before .offer .ensures in
-    delta-is (a .d) (a .row) (a .col) (a .count) (a .who) (now (a .counters)) (now (a .norms)) (now (a .entries)) (now (a .counts)) (a .len) _ _ _ _ (c .before .before .before .offer .result) (c .before .before .before .before .before .before .count-with-hash .result)
+    delta-is (a .d) (a .row) (a .col) (a .count) (a .item) (now (a .counters)) (now (a .norms)) (now (a .entries)) (now (a .counts)) (a .len) _ _ _ _ (c .before .before .before .offer .result) (c .before .before .before .before .before .before .count-with-hash .result)
     (sketch-now (c .before .before .before .before .before .before .before .before .before .before .before)) (c .before .before .before .before .before .before .count-with-hash .ensures)
     (rw (count-back (c .before .before .before .before .before .before)) at (o .0)) (rw (count-back (c .before .before .before .before .before .before)) at (o .1 .0)) (rw (count-back (c .before .before .before .before .before .before)) at (o .1 .1 .0))
 

@@ -13,7 +13,7 @@ cell-fits-requires c κs =
 
 returns : tie.Need-returns
 unfolding deltaFits
-returns c = λ ws es ns len flag every who. rw (toZ-ofZ (c .before .fits .count)) at (c .cell-fits .ensures)
+returns c = λ ws es ns len flag every item. rw (toZ-ofZ (c .before .fits .count)) at (c .cell-fits .ensures)
 
 pub delta-fits-spec : {M : Type 1} → statement M
 delta-fits-spec = tie.close (tie.spec cell-fits-requires returns)

@@ -17,7 +17,7 @@ returns : tie.Need-returns
 returns c =
     let a = c .before .before .before .args in
     λ es flag every n.
-    sym (delta-reads-are (a .d) (a .row) (a .col) n (a .who) every (now (a .counters)) (now (a .norms)) es (now (a .counts)) (a .len) flag ∙ rw (sym (c .before .cell-read .ensures) ∙ not-true _ (c .if1 .taken)))
+    sym (delta-reads-are (a .d) (a .row) (a .col) n (a .item) every (now (a .counters)) (now (a .norms)) es (now (a .counts)) (a .len) flag ∙ rw (sym (c .before .cell-read .ensures) ∙ not-true _ (c .if1 .taken)))
 
 cells-in-requires : tie.Need-cells-in-requires
 cells-in-requires c κs = let h = c .before .before .before .pre .0 in (h .shaped, omega (arith, h .cells))
@@ -27,7 +27,7 @@ returns-2 c =
     let a = c .before .before .before .before .before .args in
     λ es flag every n.
     sym (
-    delta-reads-are (a .d) (a .row) (a .col) n (a .who) every (now (a .counters)) (now (a .norms)) es (now (a .counts)) (a .len) flag
+    delta-reads-are (a .d) (a .row) (a .col) n (a .item) every (now (a .counters)) (now (a .norms)) es (now (a .counts)) (a .len) flag
     ∙ rw (sym (c .before .before .before .cell-read .ensures) ∙ not-false _ (c .before .before .if1 .left), sym (c .before .cells-in .ensures) ∙ not-true _ (c .if2 .taken)))
 
 counts-in-range-requires : tie.Need-counts-in-range-requires
@@ -38,7 +38,7 @@ returns-3 c =
     let a = c .before .before .before .before .before .before .args in
     λ es flag every n.
     sym (
-    delta-reads-are (a .d) (a .row) (a .col) n (a .who) every (now (a .counters)) (now (a .norms)) es (now (a .counts)) (a .len) flag
+    delta-reads-are (a .d) (a .row) (a .col) n (a .item) every (now (a .counters)) (now (a .norms)) es (now (a .counts)) (a .len) flag
     ∙ rw (sym (c .before .before .before .before .cell-read .ensures) ∙ not-false _ (c .before .before .before .if1 .left), sym (c .before .before .cells-in .ensures) ∙ not-false _ (c .before .if2 .left)) (sym (c .counts-in-range .ensures)))
 
 pub delta-reads-spec : {M : Type 1} → statement M

@@ -10,7 +10,7 @@ use borrow.Author.Tests.{not-true, not-false}
 use denote.Ref.{now}
 use Rattle.words.specs.Num.{allIn}
 use Rattle.layer.specs.declared.Dims.{Dims}
-use Rattle.layer.specs.Layer.{layerOf}
+use Rattle.layer.specs.inner.Needs.{layerOf}
 use Rattle.layer.specs.Merge.{mergeReads}
 use Rattle.layer.proofs.Merges.{merge-reads-are}
 use Rattle.layer.proofs.merging.merge_reads.Statement.{statement}

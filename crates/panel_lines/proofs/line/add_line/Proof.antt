@@ -17,7 +17,7 @@ use Rattle.text.proofs.IntReads.{int-fits}
 use Rattle.panel_lines.specs.declared.line.Tail.the-variants as T
 use Rattle.text.specs.declared.signed.Int.the-variants as I
 use Rattle.text.specs.declared.decimals.Num.the-variants as N
-use Rattle.panel_lines.specs.Line.{tailAt, addOf}
+use Rattle.panel_lines.specs.Line.{tailAt, readAdd}
 use Rattle.panel_lines.proofs.Tails.{tail-room}
 use Rattle.panel_lines.proofs.Cases.{refused}
 use Rattle.panel_lines.proofs.line.add_line.Statement.{statement}
@@ -52,8 +52,8 @@ pairs-fit : (c : tie.After-t) → c .before .before .before .before .before .bef
 pairs-fit c = tail-room (now (c .before .before .before .before .before .before .before .before .before .before .before .before .before .before .before .args .s)) (c .before .before .before .before .before .before .w .given .0 .1 .0 + 16) (c .t .given .0 .0) (tail-is c)
 
 returns : tie.Need-returns
-unfolding addOf
-returns c = refused (addOf (now (c .before .before .before .before .before .args .s))) (now (c .before .before .before .before .before .args .words)) (simp (sym (c .before .before .field .ensures) ∙ c .enum-told .given .1))
+unfolding readAdd
+returns c = refused (readAdd (now (c .before .before .before .before .before .args .s))) (now (c .before .before .before .before .before .args .words)) (simp (sym (c .before .before .field .ensures) ∙ c .enum-told .given .1))
 
 signed-field-requires : tie.Need-signed-field-requires
 signed-field-requires c κs = search needs
@@ -65,15 +65,15 @@ enum-told-2 : tie.Need-enum-told-2
 enum-told-2 c = search needs
 
 returns-2 : tie.Need-returns-2
-unfolding addOf
-returns-2 c = refused (addOf (now (c .before .before .before .before .before .before .before .before .before .args .s))) (now (c .before .before .before .before .before .before .before .before .before .args .words)) (simp (key-is (c .before .before .before .before), sym (c .before .before .signed-field .ensures) ∙ c .enum-told2 .given .1))
+unfolding readAdd
+returns-2 c = refused (readAdd (now (c .before .before .before .before .before .before .before .before .before .args .s))) (now (c .before .before .before .before .before .before .before .before .before .args .words)) (simp (key-is (c .before .before .before .before), sym (c .before .before .signed-field .ensures) ∙ c .enum-told2 .given .1))
 
 hex-ok-requires : tie.Need-hex-ok-requires
 hex-ok-requires c κs = search needs
 
 returns-3 : tie.Need-returns-3
-unfolding addOf
-returns-3 c = refused (addOf (now (c .before .before .before .before .before .before .before .before .before .before .before .before .args .s))) (now (c .before .before .before .before .before .before .before .before .before .before .before .before .args .words)) (simp (key-is (c .before .before .before .before .before .before .before), int-is (c .before .before .before), sym (c .before .hex-ok .ensures) ∙ not-true _ (c .if1 .taken)))
+unfolding readAdd
+returns-3 c = refused (readAdd (now (c .before .before .before .before .before .before .before .before .before .before .before .before .args .s))) (now (c .before .before .before .before .before .before .before .before .before .before .before .before .args .words)) (simp (key-is (c .before .before .before .before .before .before .before), int-is (c .before .before .before), sym (c .before .hex-ok .ensures) ∙ not-true _ (c .if1 .taken)))
 
 add-read-tail : tie.Need-add-read-tail
 add-read-tail c = record { fits = omega (arith, room c, c .before .before .before .before .before .before .before .before .before .before .before .before .pre .0) }
@@ -88,8 +88,8 @@ enum-told-3 : tie.Need-enum-told-3
 enum-told-3 c = search needs
 
 returns-4 : tie.Need-returns-4
-unfolding addOf
-returns-4 c = refused (addOf (now (c .before .before .before .before .before .before .before .before .before .before .before .before .before .before .before .args .s))) (now (c .before .before .before .before .before .before .before .before .before .before .before .before .before .before .before .args .words)) (simp (key-is (c .before .before .before .before .before .before .before .before .before .before), int-is (c .before .before .before .before .before .before), hex-yes (c .before .before .before), sym (c .before .before .read-tail .ensures) ∙ c .enum-told3 .given .1))
+unfolding readAdd
+returns-4 c = refused (readAdd (now (c .before .before .before .before .before .before .before .before .before .before .before .before .before .before .before .args .s))) (now (c .before .before .before .before .before .before .before .before .before .before .before .before .before .before .before .args .words)) (simp (key-is (c .before .before .before .before .before .before .before .before .before .before), int-is (c .before .before .before .before .before .before), hex-yes (c .before .before .before), sym (c .before .before .read-tail .ensures) ∙ c .enum-told3 .given .1))
 
 slice-write-words : tie.Need-slice-write-words
 slice-write-words c = search needs
@@ -116,7 +116,7 @@ same-length : tie.Need-same-length
 same-length c = ap length (c .before .before .fill .ensures) ∙ simp (length-sets, length-set)
 
 returns-5 : tie.Need-returns-5
-unfolding addOf
+unfolding readAdd
 returns-5 c =
     let e0 = key-is (c .before .before .before .before .before .before .before .before .before .before .before .before .before .before .before .before) in
     let e1 = int-is (c .before .before .before .before .before .before .before .before .before .before .before .before) in

@@ -5,7 +5,7 @@ use mathlib.Core.Bool.{false, not}
 use borrow.Author.Needs.{needs}
 use denote.Ref.{now}
 use Rattle.text.specs.Words.{isPrefix}
-use Rattle.panel_lines.specs.Line.{shapeOf, addOf, readOf, shapeWord, addWord, asked}
+use Rattle.panel_lines.specs.Line.{readShape, readAdd, readOf, shapeWord, addWord, asked}
 use Rattle.panel_lines.specs.declared.line.Request.the-variants.{Show}
 use Rattle.panel_lines.proofs.Cases.{refused, handed, shape-words, read-long, read-shape, read-add, read-other, read-show, read-none}
 use Rattle.panel_lines.proofs.line.read_line.Statement.{statement}
@@ -34,7 +34,7 @@ returns-2 : tie.Need-returns-2
 returns-2 c =
     let s = now (c .before .before .before .before .before .before .before .args .s) in
     let e = read-shape s (c .before .before .before .before .if1 .left) (sym (c .before .before .has-word .ensures) ∙ c .before .if2 .taken) in
-    handed (readOf s) (shapeOf s) (now (c .before .before .before .before .before .before .before .args .words)) (now (c .before .before .before .before .before .before .before .args .words)) _ e (c .shape-line .ensures) (rw (shape-words s))
+    handed (readOf s) (readShape s) (now (c .before .before .before .before .before .before .before .args .words)) (now (c .before .before .before .before .before .before .before .args .words)) _ e (c .shape-line .ensures) (rw (shape-words s))
 
 slice-aggregate-has-word-2 : tie.Need-slice-aggregate-has-word-2
 slice-aggregate-has-word-2 c = search needs
@@ -52,7 +52,7 @@ returns-3 : tie.Need-returns-3
 returns-3 c =
     let s = now (c .before .before .before .before .before .before .before .before .before .before .before .before .before .args .s) in
     let e = read-add s (c .before .before .before .before .before .before .before .before .before .before .if1 .left) (no-shape (c .before .before .before .before .before .before .before)) (sym (c .before .before .before .before .before .has-word2 .ensures) ∙ c .before .before .before .before .if3 .taken) in
-    handed (readOf s) (addOf s) (now (c .before .before .before .before .before .before .before .before .before .before .before .before .before .args .words)) _ _ e (c .before .before .add-line .ensures .0) (c .before .before .add-line .ensures .1)
+    handed (readOf s) (readAdd s) (now (c .before .before .before .before .before .before .before .before .before .before .before .before .before .args .words)) _ _ e (c .before .before .add-line .ensures .0) (c .before .before .add-line .ensures .1)
 
 returns-4 : tie.Need-returns-4
 returns-4 c = refused (readOf (now (c .before .before .before .before .before .before .before .before .before .before .args .s))) (now (c .before .before .before .before .before .before .before .before .before .before .args .words)) (read-other (now (c .before .before .before .before .before .before .before .before .before .before .args .s)) (c .before .before .before .before .before .before .before .if1 .left) (no-shape (c .before .before .before .before)) (no-add (c .before)) (c .if4 .taken))

@@ -6,7 +6,8 @@ use lib.ListN.{length, take, drop}
 use native.Mathlib.Omega.{arith}
 use borrow.Author.Needs.{needs}
 use denote.Ref.{now}
-use Rattle.panel_lines.specs.Split.{mostHeld, stepOf}
+use Rattle.panel_lines.specs.Split.{mostHeld}
+use Rattle.panel_lines.specs.inner.Steps.{stepOf}
 use Rattle.panel_lines.proofs.Bytes.{step-more, step-line, step-end}
 use Rattle.panel_lines.proofs.split.take_line.Statement.{statement}
 use Rattle.panel_lines.proofs.split.take_line.Tie as tie

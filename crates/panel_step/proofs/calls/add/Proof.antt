@@ -29,7 +29,7 @@ abbrev here : tie.Start → Lent
 here c = lent (c .args .header) (now (c .args .counters)) (now (c .args .norms)) (now (c .args .entries)) (now (c .args .counts))
 
 returns : tie.Need-returns
-returns c = rw (c .refused .ensures) (no-shape (here (c .before .before .before .before .before .before .before)) (now (c .before .before .before .before .before .before .before .args .words)) (c .before .before .before .before .before .before .before .args .weight) (rw (c .before .before .panel-refusal .ensures) at (c .before .if1 .taken)))
+returns c = rw (c .refused .ensures) (no-shape (here (c .before .before .before .before .before .before .before)) (now (c .before .before .before .before .before .before .before .args .«record»)) (c .before .before .before .before .before .before .before .args .weight) (rw (c .before .before .panel-refusal .ensures) at (c .before .if1 .taken)))
 
 -- the shape was taken
 taken : (c : tie.Else1) → refusalIn (here (c .before .before .before .before .before .before)) (c .before .before .before .before .before .before .args .header .shape) ≡ 0
@@ -95,7 +95,7 @@ same-length-4 c = search needs
 
 returns-2 : tie.Need-returns-2
 returns-2 c =
-    has-added (here (c .before .before .before .before .before .before .before .before .before .before .before .before .before .before .before .before .before .before)) (now (c .before .before .before .before .before .before .before .before .before .before .before .before .before .before .before .before .before .before .args .words)) (c .before .before .before .before .before .before .before .before .before .before .before .before .before .before .before .before .before .before .args .weight) (c .before .before .before .before .before .before .before .before .before .before .before .extent-of .result) _ (taken (c .before .before .before .before .before .before .before .before .before .before .before .before)) (c .before .before .before .before .before .before .before .before .before .before .before .extent-of .ensures)
+    has-added (here (c .before .before .before .before .before .before .before .before .before .before .before .before .before .before .before .before .before .before)) (now (c .before .before .before .before .before .before .before .before .before .before .before .before .before .before .before .before .before .before .args .«record»)) (c .before .before .before .before .before .before .before .before .before .before .before .before .before .before .before .before .before .before .args .weight) (c .before .before .before .before .before .before .before .before .before .before .before .extent-of .result) _ (taken (c .before .before .before .before .before .before .before .before .before .before .before .before)) (c .before .before .before .before .before .before .before .before .before .before .before .extent-of .ensures)
     (rw (toZ-ofZ (c .before .before .before .before .before .before .before .before .before .before .before .before .before .before .before .before .before .before .fits .weight)) at (c .before .before .before .before .before .before .update-weighted .ensures))
 
 pub add-spec : {M : Type 1} → statement M

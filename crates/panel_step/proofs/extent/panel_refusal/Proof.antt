@@ -7,10 +7,9 @@ use borrow.Author.Needs.{needs}
 use borrow.Author.Tests.{eq-eqb, ne-eqb, lt-ltb, le-ltb}
 use Rattle.header.specs.Shape.{shapeRefusal}
 use Rattle.header.proofs.Refusals.{accepted-of}
-use Rattle.layout.specs.Slices.{cellsIn, candsIn}
+use Rattle.layout.specs.Slices.{cellsIn, candsIn, extentOf}
 use Rattle.layout.specs.Outcomes.{left}
 use Rattle.layout.specs.declared.Extent.{Extent}
-use Rattle.layout.specs.Spans.{extentOf}
 use Rattle.panel_step.specs.Panel.{maxCounters, maxCandidates, roomy, panelRefusal}
 use Rattle.panel_step.proofs.extent.panel_refusal.Statement.{statement}
 use Rattle.panel_step.proofs.extent.panel_refusal.Tie as tie

@@ -37,7 +37,7 @@ here c = lent (c .args .header) (now (c .args .counters)) (now (c .args .norms))
 returns : tie.Need-returns
 returns c =
     let q = c .before .before .before .put-reply .ensures in
-    (reply-put _ (addCall (here (c .before .before .before .before .before .before .before .before .before .before .before .before .before .before .before .before .before .before .before .before)) (now (c .before .before .before .before .before .before .before .before .before .before .before .before .before .before .before .before .before .before .before .before .args .words)) (c .before .before .before .before .before .before .before .before .before .before .before .before .before .before .before .before .before .before .before .before .args .weight)) _ (now (c .before .before .before .before .before .before .before .before .before .before .before .before .before .before .before .before .before .before .before .before .args .out)) _ (rw (toZ-ofZ (c .before .before .before .before .before .before .before .before .before .before .before .before .before .before .before .before .before .before .before .before .fits .weight)) at (c .before .before .before .before .before .before .before .before .before .before .before .add .ensures)) (q .0) (q .1 .0), q .1 .1)
+    (reply-put _ (addCall (here (c .before .before .before .before .before .before .before .before .before .before .before .before .before .before .before .before .before .before .before .before)) (now (c .before .before .before .before .before .before .before .before .before .before .before .before .before .before .before .before .before .before .before .before .args .«record»)) (c .before .before .before .before .before .before .before .before .before .before .before .before .before .before .before .before .before .before .before .before .args .weight)) _ (now (c .before .before .before .before .before .before .before .before .before .before .before .before .before .before .before .before .before .before .before .before .args .out)) _ (rw (toZ-ofZ (c .before .before .before .before .before .before .before .before .before .before .before .before .before .before .before .before .before .before .before .before .fits .weight)) at (c .before .before .before .before .before .before .before .before .before .before .before .add .ensures)) (q .0) (q .1 .0), q .1 .1)
 
 pub answer-add-spec : {M : Type 1} → statement M
 answer-add-spec = tie.close (tie.spec add-requires put-reply-requires same-length same-length-2 same-length-3 same-length-4 same-length-5 returns)

@@ -12,7 +12,7 @@ use Rattle.layout.specs.Outcomes.{left}
 use Rattle.panel_lines.specs.declared.line.Request.the-variants as ask
 use Rattle.panel_lines.specs.Line.{readOf}
 use Rattle.panel_lines.proofs.Records.{add-few, record-is}
-use Rattle.panel_step.specs.Panel.{Answer, put}
+use Rattle.panel_step.specs.Panel.{Reply, put}
 use Rattle.panel_step.proofs.Replies.{reply-put, no-room, line-put, asks-shape, line-added, asks-show, asks-nothing}
 use Rattle.panel_step.proofs.Weights.{weight-back}
 use Rattle.panel_step.proofs.step.answer_line.Statement.{statement}
@@ -92,7 +92,7 @@ returns-2 c =
     let q = c .before .before .before .before .before .before .before .before .answer-shape .ensures in
     let o = now (c .before .before .before .before .before .before .before .before .before .before .before .before .before .before .before .before .before .before .before .before .before .before .before .before .before .args .out) in
     let w = readOf (now (c .before .before .before .before .before .before .before .before .before .before .before .before .before .before .before .before .before .before .before .before .before .before .before .before .before .args .line)) .words in
-    (q .0 ∙ ap (λ (a : Answer). put a o) (asks-shape (here (c .before .before .before .before .before .before .before .before .before .before .before .before .before .before .before .before .before .before .before .before .before .before .before .before .before)) _ _ _ _ w) ∙ line-put (here (c .before .before .before .before .before .before .before .before .before .before .before .before .before .before .before .before .before .before .before .before .before .before .before .before .before)) (now (c .before .before .before .before .before .before .before .before .before .before .before .before .before .before .before .before .before .before .before .before .before .before .before .before .before .args .line)) o _ (c .before .before .before .before .before .before .before .before .before .before .before .before .before .before .before .before .before .before .before .before .if1 .left) (sym (c .before .before .before .before .before .before .before .before .before .before .before .before .before .before .before .q .given .1) ∙ asks (c .before .before .before .before .before .before .before .before .before .before .before .before .before .before .before .before .before .before)), q .1)
+    (q .0 ∙ ap (λ (a : Reply). put a o) (asks-shape (here (c .before .before .before .before .before .before .before .before .before .before .before .before .before .before .before .before .before .before .before .before .before .before .before .before .before)) _ _ _ _ w) ∙ line-put (here (c .before .before .before .before .before .before .before .before .before .before .before .before .before .before .before .before .before .before .before .before .before .before .before .before .before)) (now (c .before .before .before .before .before .before .before .before .before .before .before .before .before .before .before .before .before .before .before .before .before .before .before .before .before .args .line)) o _ (c .before .before .before .before .before .before .before .before .before .before .before .before .before .before .before .before .before .before .before .before .if1 .left) (sym (c .before .before .before .before .before .before .before .before .before .before .before .before .before .before .before .q .given .1) ∙ asks (c .before .before .before .before .before .before .before .before .before .before .before .before .before .before .before .before .before .before)), q .1)
 
 same-length-6 : tie.Need-same-length-6
 same-length-6 c = search needs
@@ -139,7 +139,7 @@ returns-4 c =
     let q = c .before .before .answer-show .ensures in
     let o = now (c .before .before .before .before .before .before .before .before .before .before .before .before .before .before .before .before .before .before .args .out) in
     let w = readOf (now (c .before .before .before .before .before .before .before .before .before .before .before .before .before .before .before .before .before .before .args .line)) .words in
-    (q .0 ∙ ap (λ (a : Answer). put a o) (asks-show (here (c .before .before .before .before .before .before .before .before .before .before .before .before .before .before .before .before .before .before)) w) ∙ line-put (here (c .before .before .before .before .before .before .before .before .before .before .before .before .before .before .before .before .before .before)) (now (c .before .before .before .before .before .before .before .before .before .before .before .before .before .before .before .before .before .before .args .line)) o ask.Show (c .before .before .before .before .before .before .before .before .before .before .before .before .before .if1 .left) (sym (c .before .before .before .before .before .before .before .before .enum-told .given .1) ∙ asks (c .before .before .before .before .before .before .before .before .before .before .before)), q .1)
+    (q .0 ∙ ap (λ (a : Reply). put a o) (asks-show (here (c .before .before .before .before .before .before .before .before .before .before .before .before .before .before .before .before .before .before)) w) ∙ line-put (here (c .before .before .before .before .before .before .before .before .before .before .before .before .before .before .before .before .before .before)) (now (c .before .before .before .before .before .before .before .before .before .before .before .before .before .before .before .before .before .before .args .line)) o ask.Show (c .before .before .before .before .before .before .before .before .before .before .before .before .before .if1 .left) (sym (c .before .before .before .before .before .before .before .before .enum-told .given .1) ∙ asks (c .before .before .before .before .before .before .before .before .before .before .before)), q .1)
 
 same-length-16 : tie.Need-same-length-16
 same-length-16 c = search needs
@@ -149,7 +149,7 @@ returns-5 c =
     let q = c .before .before .put-reply .ensures in
     let o = now (c .before .before .before .before .before .before .before .before .before .before .before .before .before .before .args .out) in
     let w = readOf (now (c .before .before .before .before .before .before .before .before .before .before .before .before .before .before .args .line)) .words in
-    (reply-put (left 13 (here (c .before .before .before .before .before .before .before .before .before .before .before .before .before .before))) (left 13 (here (c .before .before .before .before .before .before .before .before .before .before .before .before .before .before))) _ o _ refl (q .0) (q .1 .0) ∙ ap (λ (a : Answer). put a o) (asks-nothing (here (c .before .before .before .before .before .before .before .before .before .before .before .before .before .before)) w) ∙ line-put (here (c .before .before .before .before .before .before .before .before .before .before .before .before .before .before)) (now (c .before .before .before .before .before .before .before .before .before .before .before .before .before .before .args .line)) o ask.Unreadable (c .before .before .before .before .before .before .before .before .before .if1 .left) (sym (c .before .before .before .before .enum-told2 .given .1) ∙ asks (c .before .before .before .before .before .before .before)), q .1 .1)
+    (reply-put (left 13 (here (c .before .before .before .before .before .before .before .before .before .before .before .before .before .before))) (left 13 (here (c .before .before .before .before .before .before .before .before .before .before .before .before .before .before))) _ o _ refl (q .0) (q .1 .0) ∙ ap (λ (a : Reply). put a o) (asks-nothing (here (c .before .before .before .before .before .before .before .before .before .before .before .before .before .before)) w) ∙ line-put (here (c .before .before .before .before .before .before .before .before .before .before .before .before .before .before)) (now (c .before .before .before .before .before .before .before .before .before .before .before .before .before .before .args .line)) o ask.Unreadable (c .before .before .before .before .before .before .before .before .before .if1 .left) (sym (c .before .before .before .before .enum-told2 .given .1) ∙ asks (c .before .before .before .before .before .before .before)), q .1 .1)
 
 pub answer-line-spec : {M : Type 1} → statement M
 answer-line-spec = tie.close (tie.spec returns slice-aggregate-read-line read-line-requires enum-known-q answer-shape-requires enum-known-q-2 array-share-prefix-words slice-aggregate-spelt answer-add-requires enum-told answer-show-requires enum-told-2 put-reply-requires same-length same-length-2 same-length-3 same-length-4 same-length-5 returns-2 same-length-6 same-length-7 same-length-8 same-length-9 same-length-10 returns-3 same-length-11 same-length-12 same-length-13 same-length-14 same-length-15 returns-4 same-length-16 returns-5)

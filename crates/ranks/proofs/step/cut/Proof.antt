@@ -2,7 +2,7 @@
 -- Written by tools/places.py from answers.txt; assumes nothing.
 use borrow.Author.Needs.{needs}
 use denote.Ref.{now}
-use Rattle.sums.specs.Entries.{space}
+use Rattle.sums.specs.inner.Spaces.{space}
 use Rattle.ranks.proofs.Levels.{cut-is}
 use Rattle.ranks.proofs.step.cut.Statement.{statement}
 use Rattle.ranks.proofs.step.cut.Tie as tie

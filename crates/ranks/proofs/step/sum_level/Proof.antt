@@ -5,10 +5,10 @@ use mathlib.Core.List.{[]}
 use borrow.Author.Needs.{needs, sfits-of}
 use denote.Ref.{now}
 use mir.Facts.{toZ-ofZ}
-use Rattle.sums.specs.Entries.{space, at}
+use Rattle.sums.specs.inner.Spaces.{space, at}
 use Rattle.sums.specs.Terms.{plusZero}
 use Rattle.sums.proofs.Views.{sum-keys}
-use Rattle.ranks.specs.Step.{upOf, ruleOf}
+use Rattle.ranks.specs.inner.Step.{upOf, ruleOf}
 use Rattle.ranks.proofs.Levels.{level-is}
 use Rattle.ranks.proofs.step.sum_level.Statement.{statement}
 use Rattle.ranks.proofs.step.sum_level.Tie as tie

@@ -11,7 +11,7 @@ use native.Mathlib.Numerals.{add-one}
 use borrow.Author.Needs.{needs}
 use mir.Facts.{toZ-ofZ}
 use Rattle.text.specs.Decimals.{dec}
-use Rattle.text.specs.Signs.{signed}
+use Rattle.text.specs.Signs.{signedDec}
 use Rattle.text.proofs.IntTexts.{below, not-below}
 use Rattle.text.proofs.signed.put_signed.Statement.{statement}
 use Rattle.text.proofs.signed.put_signed.Tie as tie
@@ -23,10 +23,10 @@ magnitude-requires c κs = search needs
 size : (c : tie.After-magnitude) → c .magnitude .result ≡ natAbs (c .before .before .args .x)
 size c = rw (toZ-ofZ (c .before .before .fits .x)) at (c .magnitude .ensures)
 
-minus : (c : tie.Then1) → signed (c .before .before .before .args .x) ≡ 45 ∷ dec (c .before .magnitude .result)
+minus : (c : tie.Then1) → signedDec (c .before .before .before .args .x) ≡ 45 ∷ dec (c .before .magnitude .result)
 minus c = rw (size (c .before)) (below (c .before .before .before .args .x) (rw (toZ-ofZ (c .before .before .before .fits .x)) at (c .if1 .taken)))
 
-plus : (c : tie.Else1) → signed (c .before .before .before .args .x) ≡ dec (c .before .magnitude .result)
+plus : (c : tie.Else1) → signedDec (c .before .before .before .args .x) ≡ dec (c .before .magnitude .result)
 plus c = rw (size (c .before)) (not-below (c .before .before .before .args .x) (rw (toZ-ofZ (c .before .before .before .fits .x)) at (c .if1 .left)))
 
 slice-write-out : tie.Need-slice-write-out

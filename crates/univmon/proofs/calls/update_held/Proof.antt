@@ -8,7 +8,7 @@ use Rattle.header.specs.Header.{headOf, beginHeader, beginTests, scalarsOf}
 use Rattle.layout.specs.Slices.{lent, Lent}
 use Rattle.layout.specs.Outcomes.{left, leftBy}
 use Rattle.univmon.specs.Calls.{updateCall, lentUpdateCall}
-use Rattle.univmon.specs.Needs.{sentAfter}
+use Rattle.univmon.specs.inner.Needs.{sentAfter}
 use Rattle.header.specs.declared.Answered.{Answered}
 use Rattle.words.specs.Tests.{number}
 use Rattle.header.proofs.Steps.{header-begun, header-number, begin-light}
@@ -27,10 +27,10 @@ scalars-requires : tie.Need-scalars-requires
 scalars-requires c κs = search needs
 
 slice-aggregate-update : tie.Need-slice-aggregate-update
-slice-aggregate-update c = let h = c .before .before .before .before .before .before .before .before .before .good .1 .0 in search (needs, h .1 .1 .1 .1 .1 .0 .1 .0 .1)
+slice-aggregate-update c = let h = c .before .before .before .before .before .before .before .before .before .good .1 .0 in search (needs, h .1 .1 .1 .1 .0 .1 .0 .1)
 
 slice-aggregate-update-2 : tie.Need-slice-aggregate-update-2
-slice-aggregate-update-2 c = let h = c .before .before .before .before .before .before .before .before .before .before .good .1 .0 in search (needs, h .1 .1 .1 .1 .0 .1 .0 .1)
+slice-aggregate-update-2 c = let h = c .before .before .before .before .before .before .before .before .before .before .good .1 .0 in search (needs, h .1 .1 .1 .1 .1 .0 .1 .0 .1)
 
 -- the state that is lent
 abbrev lent-of : tie.Start → Lent
@@ -64,17 +64,17 @@ same-length-4 c = search needs
 -- what all but the beginning left
 left-is : (c : tie.After-update) → let a = c .before .before .before .before .before .before .before .before .before .before .before .before .before .before .before .args in let l = c .update .last in
     left (c .update .result) (lent (headOf (scalarsOf (a .header)) (l .1 .1 .1 .0) (l .1 .1 .1 .1 .0)) (l .1 .1 .1 .1 .1 .0) (l .1 .1 .1 .1 .1 .1 .0) (l .1 .1 .1 .1 .1 .1 .1 .0) (l .1 .1 .1 .1 .1 .1 .1 .1 .0))
-    ≡ sentAfter (a .kind) (number (beginTests (scalarsOf (a .header)) (a .weight) (modeOf (a .kind)))) (now (a .words)) (a .weight) (lent-of (c .before .before .before .before .before .before .before .before .before .before .before .before .before .before .before))
+    ≡ sentAfter (a .kind) (number (beginTests (scalarsOf (a .header)) (a .weight) (modeOf (a .kind)))) (now (a .«record»)) (a .weight) (lent-of (c .before .before .before .before .before .before .before .before .before .before .before .before .before .before .before))
 left-is c = rw (toZ-ofZ (c .before .before .before .before .before .before .before .before .before .before .before .before .before .before .before .fits .weight), c .before .before .before .before .before .before .before .scalars .ensures, number-is (c .before .before .before .before .before .before .before .before .before .before)) at (c .update .ensures)
 
 -- the header has 19 lengths and flags
-same-call : (c : tie.After-lens2) → let a = c .before .before .before .before .before .before .before .before .before .before .args in leftBy (lent-of (c .before .before .before .before .before .before .before .before .before .before)) (lentUpdateCall (a .kind) (lent-of (c .before .before .before .before .before .before .before .before .before .before)) (now (a .words)) (a .weight)) ≡ leftBy (lent-of (c .before .before .before .before .before .before .before .before .before .before)) (updateCall (a .kind) (lent-of (c .before .before .before .before .before .before .before .before .before .before)) (now (a .words)) (a .weight))
-same-call c = let a = c .before .before .before .before .before .before .before .before .before .before .args in placed-call (a .kind) (lent-of (c .before .before .before .before .before .before .before .before .before .before)) (now (a .words)) (a .weight) (sym (slice-aggregate-update-2 c)) (sym (slice-aggregate-update (c .before)))
+same-call : (c : tie.After-flags2) → let a = c .before .before .before .before .before .before .before .before .before .before .args in leftBy (lent-of (c .before .before .before .before .before .before .before .before .before .before)) (lentUpdateCall (a .kind) (lent-of (c .before .before .before .before .before .before .before .before .before .before)) (now (a .«record»)) (a .weight)) ≡ leftBy (lent-of (c .before .before .before .before .before .before .before .before .before .before)) (updateCall (a .kind) (lent-of (c .before .before .before .before .before .before .before .before .before .before)) (now (a .«record»)) (a .weight))
+same-call c = let a = c .before .before .before .before .before .before .before .before .before .before .args in placed-call (a .kind) (lent-of (c .before .before .before .before .before .before .before .before .before .before)) (now (a .«record»)) (a .weight) (sym (slice-aggregate-update (c .before))) (sym (slice-aggregate-update-2 c))
 
 returns : tie.Need-returns
 returns c =
     let a = c .before .before .before .before .before .before .before .before .before .before .before .before .before .before .before .before .before .before .before .before .before .before .before .before .before .args in
-    let q = call-refused (a .kind) (lent-of (c .before .before .before .before .before .before .before .before .before .before .before .before .before .before .before .before .before .before .before .before .before .before .before .before .before)) (now (a .words)) (a .weight) (c .before .before .before .before .before .before .before .before .before .before .update .result) _ (left-is (c .before .before .before .before .before .before .before .before .before .before)) (c .before .if1 .taken) in
+    let q = call-refused (a .kind) (lent-of (c .before .before .before .before .before .before .before .before .before .before .before .before .before .before .before .before .before .before .before .before .before .before .before .before .before)) (now (a .«record»)) (a .weight) (c .before .before .before .before .before .before .before .before .before .before .update .result) _ (left-is (c .before .before .before .before .before .before .before .before .before .before)) (c .before .if1 .taken) in
     rw (c .with-layers .ensures) (ap (left (c .before .before .before .before .before .before .before .before .before .before .update .result)) (q .0) ∙ q .1 ∙ same-call (c .before .before .before .before .before .before .before .before .before .before .before .before .before .before .before))
 
 with-layers-requires-2 : tie.Need-with-layers-requires-2
@@ -95,7 +95,7 @@ same-length-8 c = search needs
 returns-2 : tie.Need-returns-2
 returns-2 c =
     let a = c .before .before .before .before .before .before .before .before .before .before .before .before .before .before .before .before .before .before .before .before .before .before .before .before .before .before .args in
-    let q = call-done (a .kind) (lent-of (c .before .before .before .before .before .before .before .before .before .before .before .before .before .before .before .before .before .before .before .before .before .before .before .before .before .before)) (now (a .words)) (a .weight) (c .before .before .before .before .before .before .before .before .before .before .before .update .result) _ (left-is (c .before .before .before .before .before .before .before .before .before .before .before)) (c .before .before .if1 .left) in
+    let q = call-done (a .kind) (lent-of (c .before .before .before .before .before .before .before .before .before .before .before .before .before .before .before .before .before .before .before .before .before .before .before .before .before .before)) (now (a .«record»)) (a .weight) (c .before .before .before .before .before .before .before .before .before .before .before .update .result) _ (left-is (c .before .before .before .before .before .before .before .before .before .before .before)) (c .before .before .if1 .left) in
     let z : c .before .before .before .before .before .before .before .before .before .before .before .before .before .before .before .before .before .before .before .before .before .begin-update .result .refusal ≡ 0 = number-is (c .before .before .before .before .before .before .before .before .before .before .before .before .before .before .before .before .before .before .before .before .before) ∙ q .0 in
     rw (c .with-layers2 .ensures, header-begun (a .header) (a .weight) (modeOf (a .kind)) (c .before .before .before .before .before .before .before .before .before .before .before .before .before .before .before .before .before .before .before .before .before .begin-update .result) (begins (c .before .before .before .before .before .before .before .before .before .before .before .before .before .before .before .before .before .before .before .before .before)) z) (q .1 ∙ same-call (c .before .before .before .before .before .before .before .before .before .before .before .before .before .before .before .before))
 

@@ -9,26 +9,26 @@ use denote.Ref.{now}
 use Rattle.header.specs.Header.{headOf}
 use Rattle.layout.specs.Slices.{lent, view, Lent}
 use Rattle.layout.specs.Outcomes.{left}
-use Rattle.univmon.specs.Needs.{readsAt}
 use Rattle.words.proofs.Scans.{Scan, scan-start, scan-on, scan-stop, scan-end}
 use Rattle.layout.specs.State.{allLayers}
+use Rattle.univmon.specs.Updates.{readsAt}
 use Rattle.layout.proofs.States.{layers-step, layers-none}
 use Rattle.univmon.proofs.Judging.{judge-one}
 use Rattle.univmon.proofs.judge.all_read.Statement.{statement}
 use Rattle.univmon.proofs.judge.all_read.Tie as tie
 
 abbrev Inv-loop : tie.InvT-loop
-Inv-loop h flags lens counters norms entries counts words first many end l₀ l = (w : ℕ) → Scan (λ k i. allLayers (readsAt (h .shape) words w) k i (view (lent (headOf h flags lens) counters norms entries counts))) many first l
+Inv-loop h lens flags counters norms entries counts «record» first many end l₀ l = (w : ℕ) → Scan (λ k i. allLayers (readsAt (h .shape) «record» w) k i (view (lent (headOf h lens flags) counters norms entries counts))) many first l
 
 abbrev μ-loop : tie.MeasureT-loop
-μ-loop h flags lens counters norms entries counts words first many end l₀ l = many + first - l
+μ-loop h lens flags counters norms entries counts «record» first many end l₀ l = many + first - l
 
 -- the state that is lent, and the test of k of its layers from i on
 abbrev lent-of : tie.Start Inv-loop μ-loop → Lent
-lent-of c = lent (headOf (c .args .h) (now (c .args .flags)) (now (c .args .lens))) (now (c .args .counters)) (now (c .args .norms)) (now (c .args .entries)) (now (c .args .counts))
+lent-of c = lent (headOf (c .args .h) (now (c .args .lens)) (now (c .args .flags))) (now (c .args .counters)) (now (c .args .norms)) (now (c .args .entries)) (now (c .args .counts))
 
 abbrev tested : ℕ → tie.Start Inv-loop μ-loop → ℕ → ℕ → Bool
-tested w c k i = let a = c .args in allLayers (readsAt (a .h .shape) (now (a .words)) w) k i (view (lent-of c))
+tested w c k i = let a = c .args in allLayers (readsAt (a .h .shape) (now (a .«record»)) w) k i (view (lent-of c))
 
 add-end : tie.Need-add-end Inv-loop μ-loop
 add-end c = let p = c .before .before .before .before .before .pre in record { fits = omega (arith, p .inside, p .standing .accepted .few) }
@@ -37,7 +37,7 @@ loop-holds : tie.Need-loop-holds Inv-loop μ-loop
 loop-holds c = λ w. let a = c .before .before .before .before .before .args in scan-start (tested w (c .before .before .before .before .before)) (a .many) (a .first)
 
 reads-at-requires : tie.Need-reads-at-requires Inv-loop μ-loop
-reads-at-requires c κs = let a = c .before .before .before .before .before .before .before .args in judge-one (lent-of (c .before .before .before .before .before .before .before)) (now (a .words)) 0 (a .many) (a .first) (c .before .loop .l) (c .before .before .before .before .before .before .before .pre) (omega (arith, c .loop-test .taken))
+reads-at-requires c κs = let a = c .before .before .before .before .before .before .before .args in judge-one (lent-of (c .before .before .before .before .before .before .before)) (now (a .«record»)) 0 (a .many) (a .first) (c .before .loop .l) (c .before .before .before .before .before .before .before .pre) (omega (arith, c .loop-test .taken))
 
 returns : tie.Need-returns Inv-loop μ-loop
 returns c = λ w.

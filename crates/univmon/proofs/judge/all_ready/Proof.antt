@@ -9,7 +9,7 @@ use denote.Ref.{now}
 use Rattle.header.specs.Header.{headOf}
 use Rattle.layout.specs.Slices.{lent, view, Lent}
 use Rattle.layout.specs.Outcomes.{left}
-use Rattle.univmon.specs.Needs.{readyAt}
+use Rattle.univmon.specs.inner.Needs.{readyAt}
 use Rattle.words.proofs.Scans.{Scan, scan-start, scan-on, scan-stop, scan-end}
 use Rattle.layout.specs.State.{allLayers}
 use Rattle.layout.proofs.States.{layers-step, layers-none}
@@ -18,17 +18,17 @@ use Rattle.univmon.proofs.judge.all_ready.Statement.{statement}
 use Rattle.univmon.proofs.judge.all_ready.Tie as tie
 
 abbrev Inv-loop : tie.InvT-loop
-Inv-loop h flags lens counters norms entries counts words weight first many end l₀ l = Scan (λ k i. allLayers (readyAt (h .shape) words weight) k i (view (lent (headOf h flags lens) counters norms entries counts))) many first l
+Inv-loop h lens flags counters norms entries counts «record» weight first many end l₀ l = Scan (λ k i. allLayers (readyAt (h .shape) «record» weight) k i (view (lent (headOf h lens flags) counters norms entries counts))) many first l
 
 abbrev μ-loop : tie.MeasureT-loop
-μ-loop h flags lens counters norms entries counts words weight first many end l₀ l = many + first - l
+μ-loop h lens flags counters norms entries counts «record» weight first many end l₀ l = many + first - l
 
 -- the state that is lent, and the test of k of its layers from i on
 abbrev lent-of : tie.Start Inv-loop μ-loop → Lent
-lent-of c = lent (headOf (c .args .h) (now (c .args .flags)) (now (c .args .lens))) (now (c .args .counters)) (now (c .args .norms)) (now (c .args .entries)) (now (c .args .counts))
+lent-of c = lent (headOf (c .args .h) (now (c .args .lens)) (now (c .args .flags))) (now (c .args .counters)) (now (c .args .norms)) (now (c .args .entries)) (now (c .args .counts))
 
 abbrev tested : tie.Start Inv-loop μ-loop → ℕ → ℕ → Bool
-tested c k i = let a = c .args in allLayers (readyAt (a .h .shape) (now (a .words)) (a .weight)) k i (view (lent-of c))
+tested c k i = let a = c .args in allLayers (readyAt (a .h .shape) (now (a .«record»)) (a .weight)) k i (view (lent-of c))
 
 add-end : tie.Need-add-end Inv-loop μ-loop
 add-end c = let p = c .before .before .before .before .before .pre in record { fits = omega (arith, p .inside, p .standing .accepted .few) }
@@ -37,7 +37,7 @@ loop-holds : tie.Need-loop-holds Inv-loop μ-loop
 loop-holds c = let a = c .before .before .before .before .before .args in scan-start (tested (c .before .before .before .before .before)) (a .many) (a .first)
 
 ready-at-requires : tie.Need-ready-at-requires Inv-loop μ-loop
-ready-at-requires c κs = let a = c .before .before .before .before .before .before .before .args in judge-one (lent-of (c .before .before .before .before .before .before .before)) (now (a .words)) (a .weight) (a .many) (a .first) (c .before .loop .l) (c .before .before .before .before .before .before .before .pre) (omega (arith, c .loop-test .taken))
+ready-at-requires c κs = let a = c .before .before .before .before .before .before .before .args in judge-one (lent-of (c .before .before .before .before .before .before .before)) (now (a .«record»)) (a .weight) (a .many) (a .first) (c .before .loop .l) (c .before .before .before .before .before .before .before .pre) (omega (arith, c .loop-test .taken))
 
 returns : tie.Need-returns Inv-loop μ-loop
 returns c =

@@ -9,7 +9,7 @@ use borrow.Author.Needs.{needs}
 use denote.Ref.{now}
 use Rattle.header.specs.Header.{headOf}
 use Rattle.layout.specs.Slices.{lent, Lent}
-use Rattle.univmon.specs.Needs.{readyAt}
+use Rattle.univmon.specs.inner.Needs.{readyAt}
 use Rattle.layout.specs.State.{candOff}
 use Rattle.layout.proofs.Views.{layer-view, housed-here}
 use Rattle.words.specs.Parts.{part}
@@ -21,13 +21,13 @@ dims-requires c κs = search needs
 
 -- the state that is lent
 abbrev lent-of : tie.Start → Lent
-lent-of c = lent (headOf (c .args .h) (now (c .args .flags)) (now (c .args .lens))) (now (c .args .counters)) (now (c .args .norms)) (now (c .args .entries)) (now (c .args .counts))
+lent-of c = lent (headOf (c .args .h) (now (c .args .lens)) (now (c .args .flags))) (now (c .args .counters)) (now (c .args .norms)) (now (c .args .entries)) (now (c .args .counts))
 
 inside : (c : tie.Start) → c .args .l < c .args .h .shape .layers
 inside c = let p = c .pre in omega (arith, p .inside)
 
-who-in-requires : tie.Need-who-in-requires
-who-in-requires c κs = let p = c .before .before .before .before .before .before .before .pre in let i = inside (c .before .before .before .before .before .before .before) in (omega (arith, i, p .standing .accepted .few), omega (arith, i, p .recorded))
+item-in-requires : tie.Need-item-in-requires
+item-in-requires c κs = let p = c .before .before .before .before .before .before .before .pre in let i = inside (c .before .before .before .before .before .before .before) in (omega (arith, i, p .standing .accepted .few), omega (arith, i, p .recorded))
 
 mul-len : tie.Need-mul-len
 mul-len c = let p = c .before .before .before .before .before .before .before .before .pre in let q = p .standing .accepted .few in let i = inside (c .before .before .before .before .before .before .before .before) in let hl = p .headed .lens in search needs
@@ -52,9 +52,9 @@ returns : tie.Need-returns
 returns c =
     let a = c .before .before .before .before .before .before .before .before .before .before .before .before .before .args in
     let sh = a .h .shape in
-    rw (c .before .before .before .before .before .before .dims .ensures, c .before .before .before .before .before .who-in .ensures, c .before .before .before .cells-at .ensures, c .before .before .norms-at .ensures, c .before .seats-at .ensures) at
+    rw (c .before .before .before .before .before .before .dims .ensures, c .before .before .before .before .before .item-in .ensures, c .before .before .before .cells-at .ensures, c .before .before .norms-at .ensures, c .before .seats-at .ensures) at
     (c .add-ready .ensures (part (4 * candOff sh (a .l)) (4 * sh .«heap_size») (now (a .entries))) (getD (now (a .flags)) (a .l) false))
-    ∙ ap (readyAt sh (now (a .words)) (a .weight) (a .l)) (sym (layer-view (lent-of (c .before .before .before .before .before .before .before .before .before .before .before .before .before)) (c .before .before .before .before .before .before .before .before .before .before .before .before .before .pre .standing .sizes) (a .l) (inside (c .before .before .before .before .before .before .before .before .before .before .before .before .before))))
+    ∙ ap (readyAt sh (now (a .«record»)) (a .weight) (a .l)) (sym (layer-view (lent-of (c .before .before .before .before .before .before .before .before .before .before .before .before .before)) (c .before .before .before .before .before .before .before .before .before .before .before .before .before .pre .standing .sizes) (a .l) (inside (c .before .before .before .before .before .before .before .before .before .before .before .before .before))))
 
 pub ready-at-spec : {M : Type 1} → statement M
-ready-at-spec = tie.close (tie.spec dims-requires who-in-requires mul-len shared-slice-read-len cells-at-requires norms-at-requires seats-at-requires add-ready-requires returns)
+ready-at-spec = tie.close (tie.spec dims-requires item-in-requires mul-len shared-slice-read-len cells-at-requires norms-at-requires seats-at-requires add-ready-requires returns)

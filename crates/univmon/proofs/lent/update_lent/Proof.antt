@@ -7,7 +7,7 @@ use mir.Facts.{toZ-ofZ}
 use Rattle.header.specs.Header.{headOf, beginOf, beginTests}
 use Rattle.layout.specs.Slices.{lent, Lent}
 use Rattle.layout.specs.Outcomes.{left}
-use Rattle.univmon.specs.Needs.{sentAfter}
+use Rattle.univmon.specs.inner.Needs.{sentAfter}
 use Rattle.header.specs.declared.AnsweredLent.{AnsweredLent}
 use Rattle.words.specs.Tests.{number}
 use Rattle.header.proofs.Steps.{begun-is, begin-number, begin-light}
@@ -24,17 +24,17 @@ begin-update-requires c κs = search needs
 
 -- the state that is lent
 abbrev lent-of : tie.Start → Lent
-lent-of c = lent (headOf (c .args .had) (now (c .args .flags)) (now (c .args .lens))) (now (c .args .counters)) (now (c .args .norms)) (now (c .args .entries)) (now (c .args .counts))
+lent-of c = lent (headOf (c .args .scalars) (now (c .args .lens)) (now (c .args .flags))) (now (c .args .counters)) (now (c .args .norms)) (now (c .args .entries)) (now (c .args .counts))
 
 -- what the tests of weight and mode answered
-begins : (c : tie.After-begin-update) → c .begin-update .result ≡ beginOf (c .before .before .before .before .before .before .before .args .had) (c .before .before .before .before .before .before .before .args .weight) (modeOf (c .before .before .before .before .before .before .before .args .kind))
+begins : (c : tie.After-begin-update) → c .begin-update .result ≡ beginOf (c .before .before .before .before .before .before .before .args .scalars) (c .before .before .before .before .before .before .before .args .weight) (modeOf (c .before .before .before .before .before .before .before .args .kind))
 begins c = rw (toZ-ofZ (c .before .before .before .before .before .before .before .fits .weight), c .before .mode-of .ensures) at (c .begin-update .ensures)
 
-number-is : (c : tie.After-begin-update) → c .begin-update .result .refusal ≡ number (beginTests (c .before .before .before .before .before .before .before .args .had) (c .before .before .before .before .before .before .before .args .weight) (modeOf (c .before .before .before .before .before .before .before .args .kind)))
-number-is c = let a = c .before .before .before .before .before .before .before .args in ap (λ (b : AnsweredLent). b .refusal) (begins c) ∙ begin-number (a .had) (a .weight) (modeOf (a .kind))
+number-is : (c : tie.After-begin-update) → c .begin-update .result .refusal ≡ number (beginTests (c .before .before .before .before .before .before .before .args .scalars) (c .before .before .before .before .before .before .before .args .weight) (modeOf (c .before .before .before .before .before .before .before .args .kind)))
+number-is c = let a = c .before .before .before .before .before .before .before .args in ap (λ (b : AnsweredLent). b .refusal) (begins c) ∙ begin-number (a .scalars) (a .weight) (modeOf (a .kind))
 
 update-requires : tie.Need-update-requires
-update-requires c κs = λ z. let a = c .before .before .before .before .before .before .before .before .before .before .before .before .before .args in rw (toZ-ofZ (c .before .before .before .before .before .before .before .before .before .before .before .before .before .fits .weight)) (begin-light (a .had) (a .weight) (modeOf (a .kind)) (sym (number-is (c .before .before .before .before .before .before)) ∙ z))
+update-requires c κs = λ z. let a = c .before .before .before .before .before .before .before .before .before .before .before .before .before .args in rw (toZ-ofZ (c .before .before .before .before .before .before .before .before .before .before .before .before .before .fits .weight)) (begin-light (a .scalars) (a .weight) (modeOf (a .kind)) (sym (number-is (c .before .before .before .before .before .before)) ∙ z))
 
 same-length : tie.Need-same-length
 same-length c = search needs
@@ -56,14 +56,14 @@ same-length-6 c = search needs
 
 -- what all but the beginning left
 left-is : (c : tie.After-update) → let a = c .before .before .before .before .before .before .before .before .before .before .before .before .before .before .args in let l = c .update .last in
-    left (c .update .result) (lent (headOf (a .had) (l .1 .1 .1 .0) (l .1 .1 .1 .1 .0)) (l .1 .1 .1 .1 .1 .0) (l .1 .1 .1 .1 .1 .1 .0) (l .1 .1 .1 .1 .1 .1 .1 .0) (l .1 .1 .1 .1 .1 .1 .1 .1 .0))
-    ≡ sentAfter (a .kind) (number (beginTests (a .had) (a .weight) (modeOf (a .kind)))) (now (a .words)) (a .weight) (lent-of (c .before .before .before .before .before .before .before .before .before .before .before .before .before .before))
+    left (c .update .result) (lent (headOf (a .scalars) (l .1 .1 .1 .0) (l .1 .1 .1 .1 .0)) (l .1 .1 .1 .1 .1 .0) (l .1 .1 .1 .1 .1 .1 .0) (l .1 .1 .1 .1 .1 .1 .1 .0) (l .1 .1 .1 .1 .1 .1 .1 .1 .0))
+    ≡ sentAfter (a .kind) (number (beginTests (a .scalars) (a .weight) (modeOf (a .kind)))) (now (a .«record»)) (a .weight) (lent-of (c .before .before .before .before .before .before .before .before .before .before .before .before .before .before))
 left-is c = rw (toZ-ofZ (c .before .before .before .before .before .before .before .before .before .before .before .before .before .before .fits .weight), number-is (c .before .before .before .before .before .before .before)) at (c .update .ensures)
 
 returns : tie.Need-returns
 returns c =
     let a = c .before .before .before .before .before .before .before .before .before .before .before .before .before .before .before .before .before .before .before .before .before .before .before .before .before .args in
-    let q = call-refused (a .kind) (lent-of (c .before .before .before .before .before .before .before .before .before .before .before .before .before .before .before .before .before .before .before .before .before .before .before .before .before)) (now (a .words)) (a .weight) (c .before .before .before .before .before .before .before .before .before .before .before .update .result) _ (left-is (c .before .before .before .before .before .before .before .before .before .before .before)) (c .if1 .taken) in
+    let q = call-refused (a .kind) (lent-of (c .before .before .before .before .before .before .before .before .before .before .before .before .before .before .before .before .before .before .before .before .before .before .before .before .before)) (now (a .«record»)) (a .weight) (c .before .before .before .before .before .before .before .before .before .before .before .update .result) _ (left-is (c .before .before .before .before .before .before .before .before .before .before .before)) (c .if1 .taken) in
     ap (left (c .before .before .before .before .before .before .before .before .before .before .before .update .result)) (q .0) ∙ q .1
 
 same-length-7 : tie.Need-same-length-7
@@ -87,9 +87,9 @@ same-length-12 c = search needs
 returns-2 : tie.Need-returns-2
 returns-2 c =
     let a = c .before .before .before .before .before .before .before .before .before .before .before .before .before .before .before .before .before .before .before .before .before .before .before .before .before .args in
-    let q = call-done (a .kind) (lent-of (c .before .before .before .before .before .before .before .before .before .before .before .before .before .before .before .before .before .before .before .before .before .before .before .before .before)) (now (a .words)) (a .weight) (c .before .before .before .before .before .before .before .before .before .before .before .update .result) _ (left-is (c .before .before .before .before .before .before .before .before .before .before .before)) (c .if1 .left) in
+    let q = call-done (a .kind) (lent-of (c .before .before .before .before .before .before .before .before .before .before .before .before .before .before .before .before .before .before .before .before .before .before .before .before .before)) (now (a .«record»)) (a .weight) (c .before .before .before .before .before .before .before .before .before .before .before .update .result) _ (left-is (c .before .before .before .before .before .before .before .before .before .before .before)) (c .if1 .left) in
     let z : c .before .before .before .before .before .before .before .before .before .before .before .before .before .before .before .before .before .before .begin-update .result .refusal ≡ 0 = number-is (c .before .before .before .before .before .before .before .before .before .before .before .before .before .before .before .before .before .before) ∙ q .0 in
-    rw (z, begun-is (a .had) (a .weight) (modeOf (a .kind)) (c .before .before .before .before .before .before .before .before .before .before .before .before .before .before .before .before .before .before .begin-update .result) (begins (c .before .before .before .before .before .before .before .before .before .before .before .before .before .before .before .before .before .before)) z) (q .1)
+    rw (z, begun-is (a .scalars) (a .weight) (modeOf (a .kind)) (c .before .before .before .before .before .before .before .before .before .before .before .before .before .before .before .before .before .before .begin-update .result) (begins (c .before .before .before .before .before .before .before .before .before .before .before .before .before .before .before .before .before .before)) z) (q .1)
 
 pub update-lent-spec : {M : Type 1} → statement M
 update-lent-spec = tie.close (tie.spec mode-of-requires begin-update-requires update-requires same-length same-length-2 same-length-3 same-length-4 same-length-5 same-length-6 returns same-length-7 same-length-8 same-length-9 same-length-10 same-length-11 same-length-12 returns-2)

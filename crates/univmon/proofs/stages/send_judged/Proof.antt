@@ -6,15 +6,15 @@ use denote.Ref.{now}
 use Rattle.header.specs.Header.{headOf}
 use Rattle.layout.specs.Slices.{lent, view, Lent}
 use Rattle.layout.specs.Outcomes.{left}
-use Rattle.univmon.specs.Needs.{layersTests}
 use Rattle.words.specs.Tests.{number}
+use Rattle.univmon.specs.Updates.{layersTests}
 use Rattle.univmon.proofs.Updating.{sent-refused, sends-ready, sent-done}
 use Rattle.univmon.proofs.stages.send_judged.Statement.{statement}
 use Rattle.univmon.proofs.stages.send_judged.Tie as tie
 
 -- the state that is lent
 abbrev lent-of : tie.Start → Lent
-lent-of c = lent (headOf (c .args .h) (now (c .args .flags)) (now (c .args .lens))) (now (c .args .counters)) (now (c .args .norms)) (now (c .args .entries)) (now (c .args .counts))
+lent-of c = lent (headOf (c .args .h) (now (c .args .lens)) (now (c .args .flags))) (now (c .args .counters)) (now (c .args .norms)) (now (c .args .entries)) (now (c .args .counts))
 
 judge-layers-requires : tie.Need-judge-layers-requires
 judge-layers-requires c κs = c .before .before .before .before .before .before .before .before .before .before .before .pre
@@ -38,14 +38,14 @@ same-length-6 : tie.Need-same-length-6
 same-length-6 c = search needs
 
 returns : tie.Need-returns
-returns c = let a = c .before .before .before .before .before .before .before .before .before .before .before .before .before .args in sent-refused (now (a .words)) (a .weight) (a .many) (a .first) (lent-of (c .before .before .before .before .before .before .before .before .before .before .before .before .before)) (c .before .judge-layers .result) (c .before .judge-layers .ensures) (c .if1 .taken)
+returns c = let a = c .before .before .before .before .before .before .before .before .before .before .before .before .before .args in sent-refused (now (a .«record»)) (a .weight) (a .many) (a .first) (lent-of (c .before .before .before .before .before .before .before .before .before .before .before .before .before)) (c .before .judge-layers .result) (c .before .judge-layers .ensures) (c .if1 .taken)
 
 -- every layer is ready
-judged : (c : tie.Else1) → let a = c .before .before .before .before .before .before .before .before .before .before .before .before .before .args in number (layersTests (a .h .shape) (now (a .words)) (a .weight) (a .many) (a .first) (view (lent-of (c .before .before .before .before .before .before .before .before .before .before .before .before .before)))) ≡ 0
+judged : (c : tie.Else1) → let a = c .before .before .before .before .before .before .before .before .before .before .before .before .before .args in number (layersTests (a .h .shape) (now (a .«record»)) (a .weight) (a .many) (a .first) (view (lent-of (c .before .before .before .before .before .before .before .before .before .before .before .before .before)))) ≡ 0
 judged c = sym (c .before .judge-layers .ensures) ∙ c .if1 .left
 
 send-requires : tie.Need-send-requires
-send-requires c κs = let a = c .before .before .before .before .before .before .before .before .before .before .before .before .before .before .before .before .before .before .before .args in sends-ready (now (a .words)) (a .weight) (a .many) (a .first) (lent-of (c .before .before .before .before .before .before .before .before .before .before .before .before .before .before .before .before .before .before .before)) (c .before .before .before .before .before .before .before .before .before .before .before .before .before .before .before .before .before .before .before .pre) (judged (c .before .before .before .before .before .before))
+send-requires c κs = let a = c .before .before .before .before .before .before .before .before .before .before .before .before .before .before .before .before .before .before .before .args in sends-ready (now (a .«record»)) (a .weight) (a .many) (a .first) (lent-of (c .before .before .before .before .before .before .before .before .before .before .before .before .before .before .before .before .before .before .before)) (c .before .before .before .before .before .before .before .before .before .before .before .before .before .before .before .before .before .before .before .pre) (judged (c .before .before .before .before .before .before))
 
 same-length-7 : tie.Need-same-length-7
 same-length-7 c = search needs
@@ -68,7 +68,7 @@ same-length-12 c = search needs
 returns-2 : tie.Need-returns-2
 returns-2 c =
     let a = c .before .before .before .before .before .before .before .before .before .before .before .before .before .before .before .before .before .before .before .before .before .before .before .before .before .before .before .before .before .before .args in
-    sent-done (now (a .words)) (a .weight) (a .many) (a .first) (lent-of (c .before .before .before .before .before .before .before .before .before .before .before .before .before .before .before .before .before .before .before .before .before .before .before .before .before .before .before .before .before .before)) _ (judged (c .before .before .before .before .before .before .before .before .before .before .before .before .before .before .before .before .before)) (c .before .before .before .before .before .before .before .before .before .before .send .ensures .1) (λ i. c .before .before .before .slice-known7 .given i .fits) (c .before .before .before .before .before .before .before .before .before .before .send .ensures .0)
+    sent-done (now (a .«record»)) (a .weight) (a .many) (a .first) (lent-of (c .before .before .before .before .before .before .before .before .before .before .before .before .before .before .before .before .before .before .before .before .before .before .before .before .before .before .before .before .before .before)) _ (judged (c .before .before .before .before .before .before .before .before .before .before .before .before .before .before .before .before .before)) (c .before .before .before .before .before .before .before .before .before .before .send .ensures .1) (λ i. c .before .before .before .slice-known7 .given i .fits) (c .before .before .before .before .before .before .before .before .before .before .send .ensures .0)
 
 pub send-judged-spec : {M : Type 1} → statement M
 send-judged-spec = tie.close (tie.spec judge-layers-requires same-length same-length-2 same-length-3 same-length-4 same-length-5 same-length-6 returns send-requires same-length-7 same-length-8 same-length-9 same-length-10 same-length-11 same-length-12 returns-2)

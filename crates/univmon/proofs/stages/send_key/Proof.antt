@@ -18,7 +18,7 @@ shared-slice-read-bottom-of c = search needs
 
 -- the state that is lent
 abbrev lent-of : tie.Start → Lent
-lent-of c = lent (headOf (c .args .h) (now (c .args .flags)) (now (c .args .lens))) (now (c .args .counters)) (now (c .args .norms)) (now (c .args .entries)) (now (c .args .counts))
+lent-of c = lent (headOf (c .args .h) (now (c .args .lens)) (now (c .args .flags))) (now (c .args .counters)) (now (c .args .norms)) (now (c .args .entries)) (now (c .args .counts))
 
 bottom-of-requires : tie.Need-bottom-of-requires
 bottom-of-requires c κs = let q = c .before .before .before .before .before .before .pre .standing .accepted in (q .some, omega (arith, q .few))
@@ -33,18 +33,18 @@ sub-many : tie.Need-sub-many
 sub-many c = rw (c .first-sent .ensures) (first-below (c .before .before .before .before .before .before .before .before .args .kind) (c .before .bottom-of .result))
 
 -- the layers that the key is sent to
-bottom-is : (c : tie.After-bottom-of) → c .bottom-of .result ≡ bottomBy (view (lent-of (c .before .before .before .before .before .before .before))) (now (c .before .before .before .before .before .before .before .args .words))
+bottom-is : (c : tie.After-bottom-of) → c .bottom-of .result ≡ bottomBy (view (lent-of (c .before .before .before .before .before .before .before))) (now (c .before .before .before .before .before .before .before .args .«record»))
 unfolding view
 bottom-is c = c .bottom-of .ensures .0
 
-first-is : (c : tie.After-first-sent) → c .first-sent .result ≡ firstSent (c .before .before .before .before .before .before .before .before .args .kind) (bottomBy (view (lent-of (c .before .before .before .before .before .before .before .before))) (now (c .before .before .before .before .before .before .before .before .args .words)))
+first-is : (c : tie.After-first-sent) → c .first-sent .result ≡ firstSent (c .before .before .before .before .before .before .before .before .args .kind) (bottomBy (view (lent-of (c .before .before .before .before .before .before .before .before))) (now (c .before .before .before .before .before .before .before .before .args .«record»)))
 first-is c = c .first-sent .ensures ∙ ap (firstSent (c .before .before .before .before .before .before .before .before .args .kind)) (bottom-is (c .before))
 
-many-is : (c : tie.After-first-sent) → c .before .bottom-of .result + 1 - c .first-sent .result ≡ manySent (c .before .before .before .before .before .before .before .before .args .kind) (bottomBy (view (lent-of (c .before .before .before .before .before .before .before .before))) (now (c .before .before .before .before .before .before .before .before .args .words)))
+many-is : (c : tie.After-first-sent) → c .before .bottom-of .result + 1 - c .first-sent .result ≡ manySent (c .before .before .before .before .before .before .before .before .args .kind) (bottomBy (view (lent-of (c .before .before .before .before .before .before .before .before))) (now (c .before .before .before .before .before .before .before .before .args .«record»)))
 many-is c = rw (c .first-sent .ensures) (many-sent (c .before .before .before .before .before .before .before .before .args .kind) (c .before .bottom-of .result)) ∙ ap (manySent (c .before .before .before .before .before .before .before .before .args .kind)) (bottom-is (c .before))
 
 send-judged-requires : tie.Need-send-judged-requires
-send-judged-requires c κs = let a = c .before .before .before .before .before .before .before .before .before .before .before .before .before .before .args in rw (many-is (c .before .before .before .before .before .before), first-is (c .before .before .before .before .before .before)) (judge-ready (a .kind) (lent-of (c .before .before .before .before .before .before .before .before .before .before .before .before .before .before)) (now (a .words)) (a .weight) (c .before .before .before .before .before .before .before .before .before .before .before .before .before .before .pre))
+send-judged-requires c κs = let a = c .before .before .before .before .before .before .before .before .before .before .before .before .before .before .args in rw (many-is (c .before .before .before .before .before .before), first-is (c .before .before .before .before .before .before)) (judge-ready (a .kind) (lent-of (c .before .before .before .before .before .before .before .before .before .before .before .before .before .before)) (now (a .«record»)) (a .weight) (c .before .before .before .before .before .before .before .before .before .before .before .before .before .before .pre))
 
 same-length : tie.Need-same-length
 same-length c = search needs

@@ -16,7 +16,7 @@ use Rattle.univmon.proofs.stages.sound_refusal.Tie as tie
 
 -- the header of what is lent
 abbrev head-of : tie.Start → Header
-head-of c = headOf (c .args .had) (now (c .args .flags)) (now (c .args .lens))
+head-of c = headOf (c .args .scalars) (now (c .args .lens)) (now (c .args .flags))
 
 returns : tie.Need-returns
 returns c = rw (ne-eqb _ maxLayers (c .if1 .taken))
@@ -29,10 +29,10 @@ fields-in-range-requires c κs = (c .before .before .if1 .left, c .before .if2 .
 
 -- the header was found in range, or not
 in-range : (c : tie.Else3) → headerOk (head-of (c .before .before .before .before .before .before .before)) ≡ true
-in-range c = sym (c .before .fields-in-range .ensures (c .before .before .before .before .before .before .before .args .had .mode)) ∙ not-false _ (c .if3 .left)
+in-range c = sym (c .before .fields-in-range .ensures (c .before .before .before .before .before .before .before .args .scalars .mode)) ∙ not-false _ (c .if3 .left)
 
 returns-3 : tie.Need-returns-3
-returns-3 c = rw (eq-eqb _ maxLayers (c .before .before .before .before .if1 .left), eq-eqb _ maxLayers (c .before .before .before .if2 .left), sym (c .before .fields-in-range .ensures (c .before .before .before .before .before .before .before .args .had .mode)) ∙ not-true _ (c .if3 .taken))
+returns-3 c = rw (eq-eqb _ maxLayers (c .before .before .before .before .if1 .left), eq-eqb _ maxLayers (c .before .before .before .if2 .left), sym (c .before .fields-in-range .ensures (c .before .before .before .before .before .before .before .args .scalars .mode)) ∙ not-true _ (c .if3 .taken))
 
 lengths-match-requires : tie.Need-lengths-match-requires
 lengths-match-requires c κs = ranged-of (head-of (c .before .before .before .before .before .before .before)) (in-range c) .accepted
@@ -41,7 +41,7 @@ returns-4 : tie.Need-returns-4
 returns-4 c = rw (eq-eqb _ maxLayers (c .before .before .before .before .before .before .if1 .left), eq-eqb _ maxLayers (c .before .before .before .before .before .if2 .left), in-range (c .before .before), sym (c .before .lengths-match .ensures) ∙ not-true _ (c .if4 .taken))
 
 -- the lengths were found right
-sized : (c : tie.Else4) → let a = c .before .before .before .before .before .before .before .before .before .args in lengthsOk (a .had .shape) (a .counters) (a .norms) (a .entries) (a .counts) ≡ true
+sized : (c : tie.Else4) → let a = c .before .before .before .before .before .before .before .before .before .args in lengthsOk (a .scalars .shape) (a .counters) (a .norms) (a .entries) (a .counts) ≡ true
 sized c = sym (c .before .lengths-match .ensures) ∙ not-false _ (c .if4 .left)
 
 mul-if5 : tie.Need-mul-if5

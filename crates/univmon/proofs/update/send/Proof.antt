@@ -4,37 +4,36 @@ use Prim.Native.Nat.{_+_, _-_}
 use mathlib.Core.Path.{sym, _∙_}
 use native.Mathlib.Omega.{arith}
 use denote.Ref.{now}
-use Rattle.header.specs.Header.{headOf}
+use Rattle.header.specs.Header.{headOf, Headed}
 use Rattle.layout.specs.Slices.{lent, Lent}
 use Rattle.layout.specs.Outcomes.{left}
-use Rattle.layout.specs.Needs.{Headed}
 use Rattle.univmon.proofs.Sending.{Sending, sending-start, sending-ready, sending-on, sending-end}
 use Rattle.univmon.proofs.update.send.Statement.{statement}
 use Rattle.univmon.proofs.update.send.Tie as tie
 
 abbrev Inv-loop : tie.InvT-loop
-Inv-loop h flags₀ lens₀ counters₀ norms₀ entries₀ counts₀ words weight first many end l₀ flags lens counters norms entries counts l = Sending (lent (headOf h flags₀ lens₀) counters₀ norms₀ entries₀ counts₀) words weight many first (lent (headOf h flags lens) counters norms entries counts) l
+Inv-loop h lens₀ flags₀ counters₀ norms₀ entries₀ counts₀ «record» weight first many end l₀ lens flags counters norms entries counts l = Sending (lent (headOf h lens₀ flags₀) counters₀ norms₀ entries₀ counts₀) «record» weight many first (lent (headOf h lens flags) counters norms entries counts) l
 
 abbrev μ-loop : tie.MeasureT-loop
-μ-loop h flags₀ lens₀ counters₀ norms₀ entries₀ counts₀ words weight first many end l₀ flags lens counters norms entries counts l = many + first - l
+μ-loop h lens₀ flags₀ counters₀ norms₀ entries₀ counts₀ «record» weight first many end l₀ lens flags counters norms entries counts l = many + first - l
 
 -- the state that was lent, and the state in the loop
 abbrev lent-of : tie.Start Inv-loop μ-loop → Lent
-lent-of c = lent (headOf (c .args .h) (now (c .args .flags)) (now (c .args .lens))) (now (c .args .counters)) (now (c .args .norms)) (now (c .args .entries)) (now (c .args .counts))
+lent-of c = lent (headOf (c .args .h) (now (c .args .lens)) (now (c .args .flags))) (now (c .args .counters)) (now (c .args .norms)) (now (c .args .entries)) (now (c .args .counts))
 
 abbrev lent-here : tie.At-loop Inv-loop μ-loop → Lent
-lent-here c = lent (headOf (c .before .before .before .before .before .before .args .h) (c .loop .flags) (c .loop .lens)) (c .loop .counters) (c .loop .norms) (c .loop .entries) (c .loop .counts)
+lent-here c = lent (headOf (c .before .before .before .before .before .before .args .h) (c .loop .lens) (c .loop .flags)) (c .loop .counters) (c .loop .norms) (c .loop .entries) (c .loop .counts)
 
 add-end : tie.Need-add-end Inv-loop μ-loop
 add-end c = let p = c .before .before .before .before .before .pre in record { fits = omega (arith, p .inside, p .standing .accepted .few) }
 
 loop-holds : tie.Need-loop-holds Inv-loop μ-loop
-loop-holds c = let a = c .before .before .before .before .before .args in sending-start (lent-of (c .before .before .before .before .before)) (now (a .words)) (a .weight) (a .many) (a .first) (c .before .before .before .before .before .pre)
+loop-holds c = let a = c .before .before .before .before .before .args in sending-start (lent-of (c .before .before .before .before .before)) (now (a .«record»)) (a .weight) (a .many) (a .first) (c .before .before .before .before .before .pre)
 
 send-one-requires : tie.Need-send-one-requires Inv-loop μ-loop
 send-one-requires c κs =
     let a = c .before .before .before .before .before .before .before .before .before .before .before .before .before .args in
-    sending-ready (lent-of (c .before .before .before .before .before .before .before .before .before .before .before .before .before)) (now (a .words)) (a .weight) (a .many) (a .first) (c .before .before .before .before .before .before .before .before .before .before .before .before .before .pre) (lent-here (c .before .before .before .before .before .before .before)) (c .before .before .before .before .before .before .before .loop .l) (c .before .before .before .before .before .before .before .loop .inv) (omega (arith, c .before .before .before .before .before .before .loop-test .taken))
+    sending-ready (lent-of (c .before .before .before .before .before .before .before .before .before .before .before .before .before)) (now (a .«record»)) (a .weight) (a .many) (a .first) (c .before .before .before .before .before .before .before .before .before .before .before .before .before .pre) (lent-here (c .before .before .before .before .before .before .before)) (c .before .before .before .before .before .before .before .loop .l) (c .before .before .before .before .before .before .before .loop .inv) (omega (arith, c .before .before .before .before .before .before .loop-test .taken))
 
 add-l : tie.Need-add-l Inv-loop μ-loop
 add-l c = let p = c .before .before .before .before .before .before .before .before .before .before .before .before .before .before .before .before .before .before .before .before .before .before .before .before .pre in record { fits = omega (arith, p .inside, p .standing .accepted .few, c .before .before .before .before .before .before .before .before .before .before .before .before .before .before .before .before .before .loop-test .taken) }
@@ -44,19 +43,19 @@ loop-less c = omega (arith, c .before .before .before .before .before .before .b
 
 -- lengths and flags keep their places
 headed-on : (c : tie.After-counts Inv-loop μ-loop) → Headed (headOf (c .before .before .before .before .before .before .before .before .before .before .before .before .before .before .before .before .before .before .before .before .before .before .before .before .args .h) (c .before .before .before .before .before .before .before .before .before .before .send-one .last .1 .0) (c .before .before .before .before .before .before .before .before .before .before .send-one .last .1 .1 .0))
-headed-on c = let v = c .before .before .before .before .before .before .before .before .before .before .before .before .before .before .before .before .before .before .loop .inv .headed in record { lens = c .before .before .before .before .before .before .before .before .before .before .send-one .kept .1 .1 .0 ∙ v .lens; flags = c .before .before .before .before .before .before .before .before .before .before .send-one .kept .1 .0 ∙ v .flags }
+headed-on c = let v = c .before .before .before .before .before .before .before .before .before .before .before .before .before .before .before .before .before .before .loop .inv .headed in record { lens = c .before .before .before .before .before .before .before .before .before .before .send-one .kept .1 .0 ∙ v .lens; flags = c .before .before .before .before .before .before .before .before .before .before .send-one .kept .1 .1 .0 ∙ v .flags }
 
 loop-again : tie.Need-loop-again Inv-loop μ-loop
 loop-again c =
     let a = c .before .before .before .before .before .before .before .before .before .before .before .before .before .before .before .before .before .before .before .before .before .before .before .before .args in
-    sending-on (lent-of (c .before .before .before .before .before .before .before .before .before .before .before .before .before .before .before .before .before .before .before .before .before .before .before .before)) (now (a .words)) (a .weight) (a .many) (a .first) (c .before .before .before .before .before .before .before .before .before .before .before .before .before .before .before .before .before .before .before .before .before .before .before .before .pre) (lent-here (c .before .before .before .before .before .before .before .before .before .before .before .before .before .before .before .before .before .before)) (c .before .before .before .before .before .before .before .before .before .before .before .before .before .before .before .before .before .before .loop .l) (c .before .before .before .before .before .before .before .before .before .before .before .before .before .before .before .before .before .before .loop .inv) (omega (arith, c .before .before .before .before .before .before .before .before .before .before .before .before .before .before .before .before .before .loop-test .taken)) _
+    sending-on (lent-of (c .before .before .before .before .before .before .before .before .before .before .before .before .before .before .before .before .before .before .before .before .before .before .before .before)) (now (a .«record»)) (a .weight) (a .many) (a .first) (c .before .before .before .before .before .before .before .before .before .before .before .before .before .before .before .before .before .before .before .before .before .before .before .before .pre) (lent-here (c .before .before .before .before .before .before .before .before .before .before .before .before .before .before .before .before .before .before)) (c .before .before .before .before .before .before .before .before .before .before .before .before .before .before .before .before .before .before .loop .l) (c .before .before .before .before .before .before .before .before .before .before .before .before .before .before .before .before .before .before .loop .inv) (omega (arith, c .before .before .before .before .before .before .before .before .before .before .before .before .before .before .before .before .before .loop-test .taken)) _
     (c .before .before .before .before .before .before .before .before .before .before .send-one .ensures .0) (c .before .before .before .before .before .before .before .before .before .before .send-one .ensures .1) (headed-on c)
 
 same-length : tie.Need-same-length Inv-loop μ-loop
-same-length c = c .before .loop .inv .headed .flags ∙ sym (c .before .before .before .before .before .before .before .pre .headed .flags)
+same-length c = c .before .loop .inv .headed .lens ∙ sym (c .before .before .before .before .before .before .before .pre .headed .lens)
 
 same-length-2 : tie.Need-same-length-2 Inv-loop μ-loop
-same-length-2 c = c .before .loop .inv .headed .lens ∙ sym (c .before .before .before .before .before .before .before .pre .headed .lens)
+same-length-2 c = c .before .loop .inv .headed .flags ∙ sym (c .before .before .before .before .before .before .before .pre .headed .flags)
 
 same-length-3 : tie.Need-same-length-3 Inv-loop μ-loop
 same-length-3 c = let v = c .before .loop .inv in v .standing .sizes .cells ∙ rw (v .shape) (sym (c .before .before .before .before .before .before .before .pre .standing .sizes .cells))
@@ -73,7 +72,7 @@ same-length-6 c = let v = c .before .loop .inv in v .standing .sizes .counts ∙
 returns : tie.Need-returns Inv-loop μ-loop
 returns c =
     let a = c .before .before .before .before .before .before .before .args in (
-      sending-end (lent-of (c .before .before .before .before .before .before .before)) (now (a .words)) (a .weight) (a .many) (a .first) (lent-here (c .before)) (c .before .loop .l) (c .before .loop .inv) (omega (arith, c .loop-test .left)),
+      sending-end (lent-of (c .before .before .before .before .before .before .before)) (now (a .«record»)) (a .weight) (a .many) (a .first) (lent-here (c .before)) (c .before .loop .l) (c .before .loop .inv) (omega (arith, c .loop-test .left)),
       c .before .loop .inv .standing,
     )
 

@@ -11,11 +11,13 @@ use Rattle.header.specs.Header.{headOf, withLayer}
 use Rattle.layout.specs.Slices.{lent, view, Lent}
 use Rattle.layout.specs.Outcomes.{left}
 use Rattle.header.proofs.Steps.{touched-kept, touched-lost}
-use Rattle.layer.specs.Layer.{Layer, layerOf, item, addLayer}
+use Rattle.layer.specs.Layer.{Layer, addLayer, layerUpdate}
+use Rattle.layer.specs.inner.Needs.{layerOf}
 use Rattle.layer.proofs.Steps.{add-few}
 use Rattle.layout.specs.State.{dimsAt, layerAt}
-use Rattle.layout.specs.Records.{whoAt}
-use Rattle.heap.specs.Offer.{keptBy, lenBy}
+use Rattle.layout.specs.Records.{itemAt}
+use Rattle.heap.specs.Offer.{keptBy}
+use Rattle.heap.specs.inner.Slices.{lenBy}
 use Rattle.layout.proofs.Handed.{Spanned, cell-piece, norm-piece, word-piece, seat-piece, handed-is, Back, back-view, back-standing}
 use Rattle.univmon.proofs.Sends.{send-ready}
 use Rattle.univmon.proofs.update.send_one.Statement.{statement}
@@ -23,7 +25,7 @@ use Rattle.univmon.proofs.update.send_one.Tie as tie
 
 -- the state that is lent, and where its layer stands
 abbrev lent-of : tie.Start → Lent
-lent-of c = lent (headOf (c .args .h) (now (c .args .flags)) (now (c .args .lens))) (now (c .args .counters)) (now (c .args .norms)) (now (c .args .entries)) (now (c .args .counts))
+lent-of c = lent (headOf (c .args .h) (now (c .args .lens)) (now (c .args .flags))) (now (c .args .counters)) (now (c .args .norms)) (now (c .args .entries)) (now (c .args .counts))
 
 spanned : (c : tie.After-span-of) → Spanned (lent-of (c .before .before .before .before .before .before .before)) (c .before .before .before .before .before .before .before .args .l) (c .span-of .result)
 spanned c = record { standing = c .before .before .before .before .before .before .before .pre .standing; inside = c .before .before .before .before .before .before .before .pre .inside; is = c .span-of .ensures }
@@ -34,8 +36,8 @@ span-of-requires c κs = (c .before .before .before .before .before .before .pre
 dims-requires : tie.Need-dims-requires
 dims-requires c κs = search needs
 
-who-in-requires : tie.Need-who-in-requires
-who-in-requires c κs = let p = c .before .before .before .before .before .before .before .before .pre in (omega (arith, p .inside, p .standing .accepted .few), omega (arith, p .inside, p .recorded))
+item-in-requires : tie.Need-item-in-requires
+item-in-requires c κs = let p = c .before .before .before .before .before .before .before .before .pre in (omega (arith, p .inside, p .standing .accepted .few), omega (arith, p .inside, p .recorded))
 
 mul-len : tie.Need-mul-len
 mul-len c = let p = c .before .before .before .before .before .before .before .before .before .pre in let q = p .standing .accepted .few in let i = p .inside in let hl = p .headed .lens in let hf = p .headed .flags in search needs
@@ -92,7 +94,7 @@ part-add-end-4 : tie.Need-part-add-end-4
 part-add-end-4 c = let b = seat-piece (spanned (c .before .before .before .before .before .before)) in search needs
 
 add-requires : tie.Need-add-requires
-add-requires c κs = rw (c .before .before .before .before .before .before .dims .ensures, c .before .before .before .before .before .who-in .ensures) (send-ready (c .before .before .before .before .before .before .before .before .before .before .before .before .before .before .pre) (spanned (c .before .before .before .before .before .before .before)))
+add-requires c κs = rw (c .before .before .before .before .before .before .dims .ensures, c .before .before .before .before .before .item-in .ensures) (send-ready (c .before .before .before .before .before .before .before .before .before .before .before .before .before .before .pre) (spanned (c .before .before .before .before .before .before .before)))
 
 len-after-requires : tie.Need-len-after-requires
 len-after-requires c κs = let z = c .before .before .before .before .before .before .before .before .before .before .before .before .before .before .before .before .before .before .before .before .before .pre .standing in omega (arith, z .lens (c .before .before .before .before .before .before .before .before .before .before .before .before .before .before .before .before .before .before .before .before .before .args .l) (c .before .before .before .before .before .before .before .before .before .before .before .before .before .before .before .before .before .before .before .before .before .pre .inside), z .accepted .small)
@@ -128,26 +130,26 @@ back c = record { cells = c .before .before .before .before .before .counters .g
 -- the layer as it came back
 layer-now : (c : tie.After-add) → let a = c .before .before .before .before .before .before .before .before .before .before .before .before .before .before .before .args in let l = c .add .last in let f = getD (now (a .flags)) (a .l) false in
     layerOf (dimsAt (a .h .shape) (a .l)) (l .0) (l .1 .0) (l .1 .1 .0) (l .1 .1 .1 .0) (lenBy (c .add .result) (getD (now (a .lens)) (a .l) 0)) (f && keptBy (c .add .result))
-    ≡ addLayer (dimsAt (a .h .shape) (a .l)) (item (whoAt (now (a .words)) (a .l)) (a .weight)) (layerAt (view (lent-of (c .before .before .before .before .before .before .before .before .before .before .before .before .before .before .before))) (a .l))
+    ≡ addLayer (dimsAt (a .h .shape) (a .l)) (layerUpdate (itemAt (now (a .«record»)) (a .l)) (a .weight)) (layerAt (view (lent-of (c .before .before .before .before .before .before .before .before .before .before .before .before .before .before .before))) (a .l))
 layer-now c =
     let a = c .before .before .before .before .before .before .before .before .before .before .before .before .before .before .before .args in
-    rw (c .before .before .before .before .before .before .before .dims .ensures, c .before .before .before .before .before .before .who-in .ensures) at (c .add .ensures .0 (getD (now (a .flags)) (a .l) false))
-    ∙ ap (addLayer (dimsAt (a .h .shape) (a .l)) (item (whoAt (now (a .words)) (a .l)) (a .weight))) (sym (handed-is (spanned (c .before .before .before .before .before .before .before .before))))
+    rw (c .before .before .before .before .before .before .before .dims .ensures, c .before .before .before .before .before .before .item-in .ensures) at (c .add .ensures .0 (getD (now (a .flags)) (a .l) false))
+    ∙ ap (addLayer (dimsAt (a .h .shape) (a .l)) (layerUpdate (itemAt (now (a .«record»)) (a .l)) (a .weight))) (sym (handed-is (spanned (c .before .before .before .before .before .before .before .before))))
 
 -- flags and lengths as they are handed back
-after-kept : (c : tie.Then1) → let a = c .before .before .before .before .before .before .before .before .before .before .before .before .before .before .before .before .before .before .before .before .before .before .before .before .args in let h = headOf (a .h) (now (a .flags)) (now (a .lens)) in
-    headOf (a .h) (now (a .flags)) (set (now (a .lens)) (a .l) (c .before .before .len-after .result))
-    ≡ withLayer h (a .l) (getD (now (a .flags)) (a .l) false && keptBy (c .before .before .before .before .before .before .before .before .before .add .result)) (lenBy (c .before .before .before .before .before .before .before .before .before .add .result) (getD (now (a .lens)) (a .l) 0))
+after-kept : (c : tie.Then1) → let a = c .before .before .before .before .before .before .before .before .before .before .before .before .before .before .before .before .before .before .before .before .before .before .before .before .args in let h = headOf (a .h) (now (a .lens)) (now (a .flags)) in
+    headOf (a .h) (set (now (a .lens)) (a .l) (c .before .before .len-after .result)) (now (a .flags))
+    ≡ withLayer h (a .l) (lenBy (c .before .before .before .before .before .before .before .before .before .add .result) (getD (now (a .lens)) (a .l) 0)) (getD (now (a .flags)) (a .l) false && keptBy (c .before .before .before .before .before .before .before .before .before .add .result))
 after-kept c =
     let a = c .before .before .before .before .before .before .before .before .before .before .before .before .before .before .before .before .before .before .before .before .before .before .before .before .args in
-    rw (c .before .before .len-after .ensures) (touched-kept (headOf (a .h) (now (a .flags)) (now (a .lens))) (a .l) _ (keptBy (c .before .before .before .before .before .before .before .before .before .add .result)) (sym (c .before .kept .ensures) ∙ c .if1 .taken))
+    rw (c .before .before .len-after .ensures) (touched-kept (headOf (a .h) (now (a .lens)) (now (a .flags))) (a .l) _ (keptBy (c .before .before .before .before .before .before .before .before .before .add .result)) (sym (c .before .kept .ensures) ∙ c .if1 .taken))
 
-after-lost : (c : tie.Else1) → let a = c .before .before .before .before .before .before .before .before .before .before .before .before .before .before .before .before .before .before .before .before .before .before .before .before .args in let h = headOf (a .h) (now (a .flags)) (now (a .lens)) in
-    headOf (a .h) (set (now (a .flags)) (a .l) false) (set (now (a .lens)) (a .l) (c .before .before .len-after .result))
-    ≡ withLayer h (a .l) (getD (now (a .flags)) (a .l) false && keptBy (c .before .before .before .before .before .before .before .before .before .add .result)) (lenBy (c .before .before .before .before .before .before .before .before .before .add .result) (getD (now (a .lens)) (a .l) 0))
+after-lost : (c : tie.Else1) → let a = c .before .before .before .before .before .before .before .before .before .before .before .before .before .before .before .before .before .before .before .before .before .before .before .before .args in let h = headOf (a .h) (now (a .lens)) (now (a .flags)) in
+    headOf (a .h) (set (now (a .lens)) (a .l) (c .before .before .len-after .result)) (set (now (a .flags)) (a .l) false)
+    ≡ withLayer h (a .l) (lenBy (c .before .before .before .before .before .before .before .before .before .add .result) (getD (now (a .lens)) (a .l) 0)) (getD (now (a .flags)) (a .l) false && keptBy (c .before .before .before .before .before .before .before .before .before .add .result))
 after-lost c =
     let a = c .before .before .before .before .before .before .before .before .before .before .before .before .before .before .before .before .before .before .before .before .before .before .before .before .args in
-    rw (c .before .before .len-after .ensures) (touched-lost (headOf (a .h) (now (a .flags)) (now (a .lens))) (a .l) _ (keptBy (c .before .before .before .before .before .before .before .before .before .add .result)) (sym (c .before .kept .ensures) ∙ c .if1 .left))
+    rw (c .before .before .len-after .ensures) (touched-lost (headOf (a .h) (now (a .lens)) (now (a .flags))) (a .l) _ (keptBy (c .before .before .before .before .before .before .before .before .before .add .result)) (sym (c .before .kept .ensures) ∙ c .if1 .left))
 
 -- no more candidates than seats
 few : (c : tie.After-add) → lenBy (c .add .result) (getD (now (c .before .before .before .before .before .before .before .before .before .before .before .before .before .before .before .args .lens)) (c .before .before .before .before .before .before .before .before .before .before .before .before .before .before .before .args .l) 0) ≤ dimsAt (c .before .before .before .before .before .before .before .before .before .before .before .before .before .before .before .args .h .shape) (c .before .before .before .before .before .before .before .before .before .before .before .before .before .before .before .args .l) .size
@@ -155,7 +157,7 @@ unfolding layerAt view
 few c =
     let a = c .before .before .before .before .before .before .before .before .before .before .before .before .before .before .before .args in
     rw (ap (λ (y : Layer). y .table .len) (layer-now c))
-    (add-few (dimsAt (a .h .shape) (a .l)) (item (whoAt (now (a .words)) (a .l)) (a .weight)) (layerAt (view (lent-of (c .before .before .before .before .before .before .before .before .before .before .before .before .before .before .before))) (a .l)) (c .before .before .before .before .before .before .before .before .before .before .before .before .before .before .before .pre .standing .lens (a .l) (c .before .before .before .before .before .before .before .before .before .before .before .before .before .before .before .pre .inside)))
+    (add-few (dimsAt (a .h .shape) (a .l)) (layerUpdate (itemAt (now (a .«record»)) (a .l)) (a .weight)) (layerAt (view (lent-of (c .before .before .before .before .before .before .before .before .before .before .before .before .before .before .before))) (a .l)) (c .before .before .before .before .before .before .before .before .before .before .before .before .before .before .before .pre .standing .lens (a .l) (c .before .before .before .before .before .before .before .before .before .before .before .before .before .before .before .pre .inside)))
 
 returns : tie.Need-returns
 returns c = (
@@ -191,4 +193,4 @@ returns-2 c = (
 )
 
 pub send-one-spec : {M : Type 1} → statement M
-send-one-spec = tie.close (tie.spec span-of-requires dims-requires who-in-requires mul-len slice-read-len mul-add sub-add part-add-start part-add-end mul-add-2 sub-add-2 part-add-start-2 part-add-end-2 mul-add-3 sub-add-3 part-add-start-3 part-add-end-3 mul-add-4 sub-add-4 part-add-start-4 part-add-end-4 add-requires len-after-requires mul-lens slice-write-lens kept-requires same-length same-length-2 same-length-3 same-length-4 same-length-5 returns slice-write-flags same-length-6 same-length-7 same-length-8 same-length-9 same-length-10 same-length-11 returns-2)
+send-one-spec = tie.close (tie.spec span-of-requires dims-requires item-in-requires mul-len slice-read-len mul-add sub-add part-add-start part-add-end mul-add-2 sub-add-2 part-add-start-2 part-add-end-2 mul-add-3 sub-add-3 part-add-start-3 part-add-end-3 mul-add-4 sub-add-4 part-add-start-4 part-add-end-4 add-requires len-after-requires mul-lens slice-write-lens kept-requires same-length same-length-2 same-length-3 same-length-4 same-length-5 returns slice-write-flags same-length-6 same-length-7 same-length-8 same-length-9 same-length-10 same-length-11 returns-2)

@@ -19,7 +19,7 @@ abbrev here : tie.Start → CLent
 here c = cLent (c .args .header) (now (c .args .counters)) (now (c .args .norms)) (now (c .args .entries)) (now (c .args .counts))
 
 returns : tie.Need-returns
-returns c = change-no-mode true (λ s. updateCall kind.Terminal s (now (c .before .before .before .before .before .args .words)) (c .before .before .before .before .before .args .weight)) (here (c .before .before .before .before .before)) (omega (arith, c .if1 .taken))
+returns c = change-no-mode true (λ s. updateCall kind.Terminal s (now (c .before .before .before .before .before .args .«record»)) (c .before .before .before .before .before .args .weight)) (here (c .before .before .before .before .before)) (omega (arith, c .if1 .taken))
 
 header-of-requires : tie.Need-header-of-requires
 header-of-requires c κs = search needs
@@ -45,7 +45,7 @@ same-length-4 c = search needs
 returns-2 : tie.Need-returns-2
 returns-2 c =
     rw (c .c-answered .ensures)
-    (changed true (λ s. updateCall kind.Terminal s (now (c .before .before .before .before .before .before .before .before .before .before .before .before .before .before .before .before .before .before .args .words)) (c .before .before .before .before .before .before .before .before .before .before .before .before .before .before .before .before .before .before .args .weight)) (here (c .before .before .before .before .before .before .before .before .before .before .before .before .before .before .before .before .before .before)) (omega (arith, c .before .before .before .before .before .before .before .before .before .before .before .before .before .if1 .left)) refl _ _
+    (changed true (λ s. updateCall kind.Terminal s (now (c .before .before .before .before .before .before .before .before .before .before .before .before .before .before .before .before .before .before .args .«record»)) (c .before .before .before .before .before .before .before .before .before .before .before .before .before .before .before .before .before .before .args .weight)) (here (c .before .before .before .before .before .before .before .before .before .before .before .before .before .before .before .before .before .before)) (omega (arith, c .before .before .before .before .before .before .before .before .before .before .before .before .before .if1 .left)) refl _ _
     (rw (c .before .before .before .before .before .before .before .before .before .before .before .before .header-of .ensures, toZ-ofZ (c .before .before .before .before .before .before .before .before .before .before .before .before .before .before .before .before .before .before .fits .weight)) at (c .before .before .before .before .before .before .before .update-weighted-terminal .ensures)))
 
 pub univmon-update-weighted-terminal-spec : {M : Type 1} → statement M

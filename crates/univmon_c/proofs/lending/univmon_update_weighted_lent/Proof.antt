@@ -16,10 +16,10 @@ use Rattle.univmon_c.proofs.lending.univmon_update_weighted_lent.Tie as
 
 -- what C lends
 abbrev here : tie.Start → CLent
-here c = cLent (cHead (c .args .shape) (c .args .weight-had) (c .args .mode) (now (c .args .lens)) (now (c .args .flags))) (now (c .args .counters)) (now (c .args .norms)) (now (c .args .entries)) (now (c .args .counts))
+here c = cLent (cHead (c .args .shape) (c .args .total-weight) (c .args .mode) (now (c .args .lens)) (now (c .args .flags))) (now (c .args .counters)) (now (c .args .norms)) (now (c .args .entries)) (now (c .args .counts))
 
 returns : tie.Need-returns
-returns c = change-no-mode true (λ s. lentUpdateCall kind.Standard s (now (c .before .before .before .before .before .before .args .words)) (c .before .before .before .before .before .before .args .weight)) (here (c .before .before .before .before .before .before)) (omega (arith, c .if1 .taken))
+returns c = change-no-mode true (λ s. lentUpdateCall kind.Standard s (now (c .before .before .before .before .before .before .args .«record»)) (c .before .before .before .before .before .before .args .weight)) (here (c .before .before .before .before .before .before)) (omega (arith, c .if1 .taken))
 
 scalars-of-requires : tie.Need-scalars-of-requires
 scalars-of-requires c κs = search needs
@@ -51,7 +51,7 @@ same-length-6 c = search needs
 returns-2 : tie.Need-returns-2
 returns-2 c =
     rw (c .c-step .ensures)
-    (stepped kind.Standard (now (c .before .before .before .before .before .before .before .before .before .before .before .before .before .before .before .before .before .before .before .before .before .before .before .before .before .args .words)) (c .before .before .before .before .before .before .before .before .before .before .before .before .before .before .before .before .before .before .before .before .before .before .before .before .before .args .weight) (here (c .before .before .before .before .before .before .before .before .before .before .before .before .before .before .before .before .before .before .before .before .before .before .before .before .before)) (omega (arith, c .before .before .before .before .before .before .before .before .before .before .before .before .before .before .before .before .before .before .before .if1 .left)) _ _
+    (stepped kind.Standard (now (c .before .before .before .before .before .before .before .before .before .before .before .before .before .before .before .before .before .before .before .before .before .before .before .before .before .args .«record»)) (c .before .before .before .before .before .before .before .before .before .before .before .before .before .before .before .before .before .before .before .before .before .before .before .before .before .args .weight) (here (c .before .before .before .before .before .before .before .before .before .before .before .before .before .before .before .before .before .before .before .before .before .before .before .before .before)) (omega (arith, c .before .before .before .before .before .before .before .before .before .before .before .before .before .before .before .before .before .before .before .if1 .left)) _ _
     (rw (c .before .before .before .before .before .before .before .before .before .before .before .before .before .before .before .before .before .before .scalars-of .ensures, toZ-ofZ (c .before .before .before .before .before .before .before .before .before .before .before .before .before .before .before .before .before .before .before .before .before .before .before .before .before .fits .weight)) at (c .before .before .before .before .before .before .before .before .before .before .before .update-weighted-lent .ensures)))
 
 pub univmon-update-weighted-lent-spec : {M : Type 1} → statement M

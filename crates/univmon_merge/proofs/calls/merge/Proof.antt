@@ -42,24 +42,15 @@ returns c = merge-refused (lent-of (c .before .before .before .before .before .b
 none : (c : tie.Else1) → number (mergeTests (lent-of (c .before .before .before .before .before .before .before .before .before .before)) (other-of (c .before .before .before .before .before .before .before .before .before .before))) ≡ 0
 none c = sym (c .before .merge-refusal .ensures) ∙ c .if1 .left
 
-plus-requires : tie.Need-plus-requires
-plus-requires c κs = totals-fit (lent-of (c .before .before .before .before .before .before .before .before .before .before)) (other-of (c .before .before .before .before .before .before .before .before .before .before)) (none c)
-
-with-totals-requires : tie.Need-with-totals-requires
-with-totals-requires c κs = search needs
-
-join-requires : tie.Need-join-requires
-join-requires c κs = search needs
-
-with-mode-requires : tie.Need-with-mode-requires
-with-mode-requires c κs = search needs
+begin-requires : tie.Need-begin-requires
+begin-requires c κs = totals-fit (lent-of (c .before .before .before .before .before .before .before .before .before .before .before)) (other-of (c .before .before .before .before .before .before .before .before .before .before .before)) (none (c .before))
 
 -- the header with the sum of the totals and its mode
-header-set : (c : tie.After-with-mode) → c .with-mode .result ≡ begun (c .before .before .before .before .before .before .before .before .before .before .before .before .before .before .args .header) (c .before .before .before .before .before .before .before .before .before .before .before .before .before .before .args .other .totals) (c .before .before .before .before .before .before .before .before .before .before .before .before .before .before .args .other .mode)
-header-set c = rw (c .before .join .ensures, c .before .before .with-totals .ensures, c .before .before .before .plus .ensures) at (c .with-mode .ensures)
+header-set : (c : tie.After-begin) → c .begin .result ≡ begun (c .before .before .before .before .before .before .before .before .before .before .before .before .args .header) (c .before .before .before .before .before .before .before .before .before .before .before .before .args .other .totals) (c .before .before .before .before .before .before .before .before .before .before .before .before .args .other .mode)
+header-set c = c .begin .ensures
 
 merge-layers-requires : tie.Need-merge-layers-requires
-merge-layers-requires c κs = rw (header-set (c .before .before .before .before)) (merges-of (lent-of (c .before .before .before .before .before .before .before .before .before .before .before .before .before .before .before .before .before .before)) (other-of (c .before .before .before .before .before .before .before .before .before .before .before .before .before .before .before .before .before .before)) (none (c .before .before .before .before .before .before .before .before)) (c .before .before .before .before .before .before .before .before .before .before .before .before .before .before .before .before .before .before .args .other .totals) (c .before .before .before .before .before .before .before .before .before .before .before .before .before .before .before .before .before .before .args .other .mode))
+merge-layers-requires c κs = rw (header-set (c .before .before .before .before)) (merges-of (lent-of (c .before .before .before .before .before .before .before .before .before .before .before .before .before .before .before .before)) (other-of (c .before .before .before .before .before .before .before .before .before .before .before .before .before .before .before .before)) (none (c .before .before .before .before .before .before)) (c .before .before .before .before .before .before .before .before .before .before .before .before .before .before .before .before .args .other .totals) (c .before .before .before .before .before .before .before .before .before .before .before .before .before .before .before .before .args .other .mode))
 
 same-length-5 : tie.Need-same-length-5
 same-length-5 c = search needs
@@ -75,13 +66,13 @@ same-length-8 c = search needs
 
 -- the state as it was left
 view-now : (c : tie.After-merge-layers) → let l = c .merge-layers .last in
-    view (lent (c .merge-layers .result) (l .1 .0) (l .1 .1 .0) (l .1 .1 .1 .0) (l .1 .1 .1 .1 .0)) ≡ merged (view (lent-of (c .before .before .before .before .before .before .before .before .before .before .before .before .before .before .before .before .before .before .before))) (view (other-of (c .before .before .before .before .before .before .before .before .before .before .before .before .before .before .before .before .before .before .before)))
-view-now c = rw (header-set (c .before .before .before .before .before)) at (c .merge-layers .ensures .0) ∙ merged-is (lent-of (c .before .before .before .before .before .before .before .before .before .before .before .before .before .before .before .before .before .before .before)) (other-of (c .before .before .before .before .before .before .before .before .before .before .before .before .before .before .before .before .before .before .before))
+    view (lent (c .merge-layers .result) (l .1 .0) (l .1 .1 .0) (l .1 .1 .1 .0) (l .1 .1 .1 .1 .0)) ≡ merged (view (lent-of (c .before .before .before .before .before .before .before .before .before .before .before .before .before .before .before .before .before))) (view (other-of (c .before .before .before .before .before .before .before .before .before .before .before .before .before .before .before .before .before)))
+view-now c = rw (header-set (c .before .before .before .before .before)) at (c .merge-layers .ensures .0) ∙ merged-is (lent-of (c .before .before .before .before .before .before .before .before .before .before .before .before .before .before .before .before .before)) (other-of (c .before .before .before .before .before .before .before .before .before .before .before .before .before .before .before .before .before))
 
 returns-2 : tie.Need-returns-2
 returns-2 c =
-    ap (left 0) (lent-is _ (merged (view (lent-of (c .before .before .before .before .before .before .before .before .before .before .before .before .before .before .before .before .before .before .before .before .before .before .before .before .before))) (view (other-of (c .before .before .before .before .before .before .before .before .before .before .before .before .before .before .before .before .before .before .before .before .before .before .before .before .before)))) (c .before .before .before .before .before .before .merge-layers .ensures .1) (λ k. c .before .before .before .slice-known3 .given k .fits) (view-now (c .before .before .before .before .before .before)))
-    ∙ merge-done (lent-of (c .before .before .before .before .before .before .before .before .before .before .before .before .before .before .before .before .before .before .before .before .before .before .before .before .before)) (other-of (c .before .before .before .before .before .before .before .before .before .before .before .before .before .before .before .before .before .before .before .before .before .before .before .before .before)) (none (c .before .before .before .before .before .before .before .before .before .before .before .before .before .before .before))
+    ap (left 0) (lent-is _ (merged (view (lent-of (c .before .before .before .before .before .before .before .before .before .before .before .before .before .before .before .before .before .before .before .before .before .before .before))) (view (other-of (c .before .before .before .before .before .before .before .before .before .before .before .before .before .before .before .before .before .before .before .before .before .before .before)))) (c .before .before .before .before .before .before .merge-layers .ensures .1) (λ k. c .before .before .before .slice-known3 .given k .fits) (view-now (c .before .before .before .before .before .before)))
+    ∙ merge-done (lent-of (c .before .before .before .before .before .before .before .before .before .before .before .before .before .before .before .before .before .before .before .before .before .before .before)) (other-of (c .before .before .before .before .before .before .before .before .before .before .before .before .before .before .before .before .before .before .before .before .before .before .before)) (none (c .before .before .before .before .before .before .before .before .before .before .before .before .before))
 
 pub merge-spec : {M : Type 1} → statement M
-merge-spec = tie.close (tie.spec merge-refusal-requires same-length same-length-2 same-length-3 same-length-4 returns plus-requires with-totals-requires join-requires with-mode-requires merge-layers-requires same-length-5 same-length-6 same-length-7 same-length-8 returns-2)
+merge-spec = tie.close (tie.spec merge-refusal-requires same-length same-length-2 same-length-3 same-length-4 returns begin-requires merge-layers-requires same-length-5 same-length-6 same-length-7 same-length-8 returns-2)

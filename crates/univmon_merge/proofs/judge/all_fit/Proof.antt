@@ -9,7 +9,7 @@ use denote.Ref.{now}
 use Rattle.layout.specs.Slices.{lent, view, Lent}
 use Rattle.words.proofs.Scans.{Scan, scan-start, scan-on, scan-stop, scan-end}
 use Rattle.layout.specs.State.{allLayers}
-use Rattle.univmon_merge.specs.Pairs.{fitsWith}
+use Rattle.univmon_merge.specs.inner.Pairs.{fitsWith}
 use Rattle.layout.proofs.States.{layers-step, layers-none}
 use Rattle.univmon_merge.proofs.Pairings.{read-one}
 use Rattle.univmon_merge.proofs.judge.all_fit.Statement.{statement}

@@ -6,7 +6,7 @@ use borrow.Author.Tests.{not-true, not-false}
 use denote.Ref.{now}
 use Rattle.layout.specs.Slices.{lent, view, Lent}
 use Rattle.layout.specs.State.{allLayers}
-use Rattle.univmon_merge.specs.Pairs.{readsWith}
+use Rattle.univmon_merge.specs.inner.Pairs.{readsWith}
 use Rattle.univmon_merge.proofs.judge.layers_refusal.Statement.{statement}
 use Rattle.univmon_merge.proofs.judge.layers_refusal.Tie as tie
 

@@ -11,7 +11,7 @@ use Rattle.layout.specs.Slices.{lent, Lent}
 use Rattle.words.specs.Parts.{part}
 use Rattle.layout.specs.State.{dimsAt, normOff, candOff}
 use Rattle.layout.proofs.Views.{housed-here}
-use Rattle.univmon_merge.specs.Pairs.{Paired}
+use Rattle.univmon_merge.specs.inner.Pairs.{Paired}
 use Rattle.univmon_merge.proofs.Pairing.{pair-inside, other-sizes, other-housed, reads-here}
 use Rattle.univmon_merge.proofs.judge.reads_at.Statement.{statement}
 use Rattle.univmon_merge.proofs.judge.reads_at.Tie as tie

@@ -11,11 +11,12 @@ use denote.Ref.{now}
 use Rattle.layout.specs.Slices.{lent, view, Lent}
 use Rattle.words.specs.Parts.{part}
 use Rattle.header.specs.Header.{withLayer}
-use Rattle.layer.specs.Layer.{Layer, layerOf}
+use Rattle.layer.specs.Layer.{Layer}
+use Rattle.layer.specs.inner.Needs.{layerOf}
 use Rattle.layer.specs.Merge.{mergeLayer}
 use Rattle.layer.proofs.Merges.{merge-few}
 use Rattle.layout.specs.State.{dimsAt, normOff, candOff, layerAt}
-use Rattle.univmon_merge.specs.Pairs.{Paired, mergesWith}
+use Rattle.univmon_merge.specs.inner.Pairs.{Paired, mergesWith}
 use Rattle.layout.proofs.Handed.{Spanned, cell-piece, norm-piece, word-piece, seat-piece, handed-is, Back, back-view, back-standing}
 use Rattle.univmon_merge.proofs.Pairing.{pair-inside, other-sizes, other-housed, other-is, merge-ready, flag-is}
 use Rattle.univmon_merge.proofs.layers.merge_one.Statement.{statement}
@@ -152,11 +153,11 @@ layer-now c =
     ∙ sym (ap₂ (mergeLayer d) (handed-is (spanned (c .before .before .before .before .before .before .before .before .before .before))) (other-is (paired (c .before .before .before .before .before .before .before .before .before .before .before .before .before .before .before .before))))
 
 -- the header as it is handed back
-header-now : (c : tie.After-touched) → let a = c .before .before .before .before .before .before .before .before .before .before .before .before .before .before .before .before .before .before .before .before .before .before .before .before .before .args in c .touched .result ≡ withLayer (a .h) (a .l) (flag-of (c .before .before .before .before .before .before .before .before .before)) (c .before .before .before .before .before .before .before .before .before .merge .result .len)
+header-now : (c : tie.After-touched) → let a = c .before .before .before .before .before .before .before .before .before .before .before .before .before .before .before .before .before .before .before .before .before .before .before .before .before .args in c .touched .result ≡ withLayer (a .h) (a .l) (c .before .before .before .before .before .before .before .before .before .merge .result .len) (flag-of (c .before .before .before .before .before .before .before .before .before))
 header-now c =
     let a = c .before .before .before .before .before .before .before .before .before .before .before .before .before .before .before .before .before .before .before .before .before .before .before .before .before .args in
     c .touched .ensures
-    ∙ ap (λ (b : Bool). withLayer (a .h) (a .l) b (c .before .before .before .before .before .before .before .before .before .merge .result .len))
+    ∙ ap (λ (b : Bool). withLayer (a .h) (a .l) (c .before .before .before .before .before .before .before .before .before .merge .result .len) b)
     (ap (λ (b : Bool). getD (a .h .flags) (a .l) false && b) (c .before .seated .ensures) ∙ flag-is (getD (a .h .flags) (a .l) false) (getD (a .other .flags) (a .l) false) (leb (c .before .before .before .before .before .before .before .before .before .merge .result .keys) (a .h .shape .«heap_size»)))
 
 -- no more candidates than seats

@@ -1,0 +1,18 @@
+-- How long the four slices are, and where a layer stands in them.
+use Prim.Native.Nat.{ℕ, _+_, _*_}
+use Rattle.header.specs.declared.Shape.{Shape}
+use Rattle.layout.specs.declared.Span.{Span}
+use Rattle.layout.specs.State.{dimsAt, cellOff, normOff, candOff}
+
+unfoldable pub spanOf : Shape → ℕ → Span
+spanOf sh l =
+    record {
+      cells = cellOff sh l;
+      «cells_end» = cellOff sh l + dimsAt sh l .rows * dimsAt sh l .cols;
+      norms = 2 * normOff sh l;
+      «norms_end» = 2 * normOff sh l + 2 * dimsAt sh l .rows;
+      words = 4 * candOff sh l;
+      «words_end» = 4 * candOff sh l + 4 * dimsAt sh l .size;
+      seats = candOff sh l;
+      «seats_end» = candOff sh l + dimsAt sh l .size;
+    }

@@ -1,0 +1,84 @@
+-- What the inner functions need, by name.
+use Prim.Native.Nat.{ℕ, _+_, _≤_, _<_}
+use mathlib.Core.Path.{_≡_}
+use mathlib.Core.Bool.{Bool, true, not, _&&_}
+use mathlib.Core.List.{List, [], _∷_, _++_}
+use lib.ListN.{length}
+use lib.IntN.{ℤ, natAbs}
+use lib.Dec.{eqb}
+use Rattle.words.specs.Num.{top}
+use Rattle.header.specs.declared.Shape.{Shape}
+use Rattle.header.specs.declared.Header.{Header}
+use Rattle.header.specs.Header.{Headed}
+use Rattle.layer.specs.Layer.{Layer, addReads, addFits, layerUpdate}
+use Rattle.univmon.specs.declared.Kind.{Kind}
+use Rattle.layout.specs.State.{dimsAt, layerAt, allLayers, overLayers}
+use Rattle.layout.specs.Slices.{Lent, view, flat}
+use Rattle.layout.specs.Records.{recordLength, itemAt}
+use Rattle.layout.specs.inner.Needs.{Standing}
+use Rattle.layout.specs.Outcomes.{Left, leftBy, judge, sizeTests, recordTest}
+use Rattle.univmon.specs.Updates.{readsAt, fitsAt, addsAt, firstSent, manySent, bottomBy, layersTests, sentTests}
+use Rattle.univmon.specs.Calls.{placeTests}
+
+-- what the update of layer l needs
+pub record SendReady (r : Lent) (words : List ℕ) (w l : ℕ) : Type 0 where
+  pub standing : Standing r
+  pub headed : Headed (r .head)
+  pub recorded : length words ≡ recordLength (r .head .shape .layers)
+  pub light : w ≤ top
+  pub inside : l < r .head .shape .layers
+  pub read : addReads (dimsAt (r .head .shape) l) (layerUpdate (itemAt words l) w) (layerAt (view r) l) ≡ true
+  pub fit : addFits (dimsAt (r .head .shape) l) (layerUpdate (itemAt words l) w) (layerAt (view r) l) ≡ true
+
+-- what the update of many layers from the first on needs
+pub record SendsReady (r : Lent) (words : List ℕ) (w many first : ℕ) : Type 0 where
+  pub standing : Standing r
+  pub headed : Headed (r .head)
+  pub recorded : length words ≡ recordLength (r .head .shape .layers)
+  pub light : w ≤ top
+  pub inside : first + many ≤ r .head .shape .layers
+  pub read : allLayers (readsAt (r .head .shape) words w) many first (view r) ≡ true
+  pub fit : allLayers (fitsAt (r .head .shape) words w) many first (view r) ≡ true
+
+-- both tests of an update at a layer
+abbrev pub readyAt : Shape → List ℕ → ℕ → ℕ → Layer → Bool
+readyAt sh words w l y = readsAt sh words w l y && fitsAt sh words w l y
+
+-- what the tests of many layers from the first on need
+pub record JudgeReady (r : Lent) (words : List ℕ) (w many first : ℕ) : Type 0 where
+  pub standing : Standing r
+  pub headed : Headed (r .head)
+  pub recorded : length words ≡ recordLength (r .head .shape .layers)
+  pub light : w ≤ top
+  pub inside : first + many ≤ r .head .shape .layers
+
+-- what is left after many layers from the first on were tested and then sent to: a refusal and nothing changed, or 0 and the layers changed
+unfoldable pub sentBy : List ℕ → ℕ → ℕ → ℕ → Lent → Left
+sentBy words w many first r =
+    leftBy r (judge (layersTests (r .head .shape) words w many first (view r)) (flat (overLayers (addsAt (r .head .shape) words w) many first (view r))))
+
+-- what the tests and sends of a key need
+pub record KeyReady (r : Lent) (words : List ℕ) (w : ℕ) : Type 0 where
+  pub standing : Standing r
+  pub headed : Headed (r .head)
+  pub recorded : length words ≡ recordLength (r .head .shape .layers)
+  pub light : w ≤ top
+
+-- tests and sends of the layers that a key reaches
+abbrev pub keySent : Kind → List ℕ → ℕ → Lent → Left
+keySent k words w r = sentBy words w (manySent k (bottomBy (view r) words)) (firstSent k (bottomBy (view r) words)) r
+
+-- header, lengths and record, where a header's lengths and flags are lent too: 9, 12
+abbrev pub soundTests : Header → ℕ → ℕ → ℕ → ℕ → ℕ → List (Bool × ℕ)
+soundTests h xs ws es ns n = placeTests h ++ (sizeTests h xs ws es ns ++ (recordTest (h .shape) n ∷ []))
+
+-- these tests of a lent state and a record
+abbrev pub soundIn : Lent → List ℕ → List (Bool × ℕ)
+soundIn r words = soundTests (r .head) (length (r .counters)) (length (r .norms)) (length (r .entries)) (length (r .counts)) (length words)
+
+-- what all of an update but its beginning leaves, where n is what the beginning is refused with: totals and mode stay
+unfoldable pub sentAfter : Kind → ℕ → List ℕ → ℤ → Lent → Left
+sentAfter k n words w r =
+    leftBy r
+    (judge (soundIn r words ++ ((not (eqb n 0), n) ∷ sentTests k (view r) words w))
+    (flat (overLayers (addsAt (r .head .shape) words (natAbs w)) (manySent k (bottomBy (view r) words)) (firstSent k (bottomBy (view r) words)) (view r))))
