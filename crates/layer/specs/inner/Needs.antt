@@ -7,13 +7,13 @@ use lib.ListN.{length, replicate}
 use lib.IntN.{ℤ, pos}
 use Rattle.words.specs.Num.{top}
 use Rattle.matrix_storage.specs.inner.Shaped.{Shaped}
+use Rattle.countsketch_l2_norm.specs.inner.Needs.{sketchOf}
 use Rattle.heap_moves.specs.declared.Item.{Item}
 use Rattle.heap_moves.specs.Cands.{mostCands}
+use Rattle.heap.specs.inner.Slices.{tableOf}
 use Rattle.layer.specs.declared.Dims.{Dims}
 use Rattle.layer.specs.Layer.{Layer, layerUpdate, addReads, addFits, noTable}
 use Rattle.layer.specs.Delta.{deltaReads, deltaFits, Delta}
-use Rattle.heap.specs.inner.Slices.{tableOf}
-use Rattle.countsketch_l2_norm.specs.inner.Needs.{sketchOf}
 
 -- the layer that stands in four slices
 abbrev pub layerOf : Dims → List ℤ → List ℕ → List ℕ → List ℤ → ℕ → Bool → Layer
