@@ -13,6 +13,7 @@ use Rattle.words.specs.Num.{top, squareCap, inRange, allIn, capped}
 use Rattle.words.proofs.Bools.{both}
 use Rattle.words.proofs.Signed.{abs-add, abs-neg}
 use Rattle.words.proofs.Squares.{range-bound, range-of, all-at}
+use Rattle.words.proofs.Lists.{getD-all}
 use Rattle.structure_utils.specs.Median.{sortZ, middle}
 use Rattle.structure_utils.proofs.Sorting.{all-sort}
 use Rattle.countsketch_l2_norm.specs.Estimate.{estimates, estimateOf}
@@ -20,10 +21,9 @@ use Rattle.countsketch_l2_norm.specs.Merge.{rowNorms, sumBelow, squaresF
 use Rattle.countsketch_l2_norm.specs.L2.{normsInRange}
 use Rattle.countsketch_l2_norm.proofs.Merges.{squares-most, length-rowNorms, row-at}
 use Rattle.countsketch_l2_norm.proofs.After.{all-cells}
-use Rattle.countsketch_l2_norm.proofs.Estimates.{all-estimates}
 use lib.Seq.{ext-getD}
+use Rattle.countsketch_l2_norm.proofs.Estimates.{all-estimates}
 use Rattle.countsketch_l2_norm.proofs.Kept.{Kept}
-use Rattle.words.proofs.Lists.{getD-all}
 
 half-abs : (v : ℤ) → natAbs v ≤ top + top → natAbs (quotZ v (pos 2)) ≤ top
 half-abs (pos a) h = omega arith

@@ -19,9 +19,9 @@ use Rattle.header.specs.Header.{freshHeader, lensFrom, headerOk}
 use Rattle.header.specs.Shape.{shapeRefusal, bottomFrom, bottomOf, bottomLayer}
 use Rattle.layer.specs.Layer.{addSketch, addLayer, addReads, addFits}
 use Rattle.layer.specs.Merge.{items}
-use Rattle.univmon.specs.Calls.{newCall, updateCall}
 use Rattle.layout.specs.Slices.{lengthsOk, view, flat, freshLent}
 use Rattle.layout.specs.State.{rowsAt, colsAt, cellOff, normOff, candOff, layerAt, putLayer, overLayers, allLayers}
+use Rattle.univmon.specs.Calls.{newCall, updateCall}
 use Rattle.univmon.specs.Updates.{updateTests, updated}
 use Rattle.sums.specs.Layers.{gSum, standardSum}
 use Rattle.sums.specs.Terms.{gOf, factor, counted, addTerm, sumOver}

@@ -16,10 +16,10 @@ use Rattle.header.specs.declared.Shape.{Shape}
 use Rattle.header.specs.declared.BottomLayer.{BottomLayer}
 use Rattle.header.specs.declared.BottomLayer.the-variants as bottom
 use Rattle.header.specs.Shape.{bottomLayer}
-use Rattle.univmon.specs.declared.Kind.the-variants as kind
 use Rattle.layout.specs.Slices.{Lent}
-use Rattle.univmon.specs.Calls.{newCall, updateCall}
 use Rattle.layout.specs.Outcomes.{leftBy}
+use Rattle.univmon.specs.declared.Kind.the-variants as kind
+use Rattle.univmon.specs.Calls.{newCall, updateCall}
 use Rattle.estimates.specs.declared.Answer.{Answer}
 use Rattle.estimates.specs.Calls.{l2Call, cardinalityCall}
 

@@ -7,13 +7,13 @@ use mathlib.Core.List.{List, [], _∷_}
 use lib.ListN.{length, getD, take}
 use lib.IntN.{ℤ}
 use Rattle.words.specs.Num.{inRange, allIn}
+use Rattle.words.proofs.Bools.{both}
 use Rattle.heap_moves.specs.Cands.{Cand, noCand}
 use Rattle.heap_moves.specs.Flat.{candOf, countsOf}
 use Rattle.heap_moves.specs.inner.Totals.{Each}
 use Rattle.heap_moves.proofs.Moved.{each-set, each-next}
 use Rattle.heap.specs.Offer.{Table, Offered, offer}
 use Rattle.heap.proofs.Effects.{Effect, rescored, seated, displaced, turned-away, offer-effect}
-use Rattle.words.proofs.Bools.{both}
 
 -- what holds of an entry still holds when its count becomes v
 abbrev pub Recounts : (Cand → Type 0) → ℤ → Type 0

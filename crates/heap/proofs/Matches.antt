@@ -9,11 +9,11 @@ use lib.ListN.{length, getD, take}
 use lib.Seq.{getD-take, length-take-le}
 use lib.IntN.{ℤ}
 use borrow.Author.Tests.{eq-eqb, ne-eqb}
+use Rattle.words.specs.inner.Fours.{fourOther}
+use Rattle.words.proofs.Missed.{Missed, missed-four}
 use Rattle.heap_moves.specs.Cands.{Cand, noCand}
 use Rattle.heap_moves.specs.Flat.{candsOf}
 use Rattle.heap_moves.proofs.Views.{length-cands, cand-at}
-use Rattle.words.specs.inner.Fours.{fourOther}
-use Rattle.words.proofs.Missed.{Missed, missed-four}
 use Rattle.heap.specs.Offer.{find}
 
 pub find-first : (k : ℕ) (cs : List Cand) (i : ℕ) → i < length cs → ((j : ℕ) → j < i → getD cs j noCand .item .key ≢ k) → getD cs i noCand .item .key ≡ k → i ≡ find k cs

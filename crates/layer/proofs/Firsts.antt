@@ -12,10 +12,10 @@ use lib.Dec.{eqb}
 use borrow.Author.Tests.{eqb-true}
 use Rattle.heap_moves.specs.declared.Item.{Item}
 use Rattle.heap_moves.specs.Cands.{Cand}
-use Rattle.heap.specs.Offer.{find}
 use Rattle.heap_moves.specs.Flat.{itemOf, candsOf}
-use Rattle.heap.specs.inner.Slices.{tableOf}
 use Rattle.heap_moves.proofs.Views.{item-drop, item-path, length-cands}
+use Rattle.heap.specs.Offer.{find}
+use Rattle.heap.specs.inner.Slices.{tableOf}
 use Rattle.layer.specs.Merge.{hasKey, firsts, items}
 use Rattle.layer.specs.inner.Gather.{itemKeys, itemsFrom, itemsOf, keysOf, Front}
 

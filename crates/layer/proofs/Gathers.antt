@@ -7,14 +7,14 @@ use mathlib.Core.Bool.{Bool, true, false, cond}
 use mathlib.Core.List.{List, [], _∷_, _++_}
 use lib.ListN.{length, getD, replicate, length-append}
 use lib.IntN.{ℤ, pos}
+use Rattle.countsketch_l2_norm.specs.Estimate.{estimateOf}
 use Rattle.heap_moves.specs.declared.Item.{Item}
-use Rattle.heap.specs.declared.Answer.{Answer}
 use Rattle.heap_moves.specs.Cands.{Cand, noCand}
+use Rattle.heap_moves.specs.Flat.{itemOf, candsOf, candOf, entriesOf, countsOf}
+use Rattle.heap.specs.declared.Answer.{Answer}
 use Rattle.heap.specs.Offer.{Table}
 use Rattle.heap.specs.inner.Slices.{lenBy, tableOf, offered}
-use Rattle.heap_moves.specs.Flat.{itemOf, candsOf, candOf, entriesOf, countsOf}
 use Rattle.heap.proofs.Sounds.{offer-table}
-use Rattle.countsketch_l2_norm.specs.Estimate.{estimateOf}
 use Rattle.layer.specs.declared.Dims.{Dims}
 use Rattle.layer.specs.declared.Merged.{Merged}
 use Rattle.layer.specs.Layer.{hashBy, countOf, offerTo, noTable}

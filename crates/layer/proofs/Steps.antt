@@ -11,8 +11,8 @@ use Rattle.countsketch_l2_norm.specs.Estimate.{estimateOf}
 use Rattle.countsketch_l2_norm.proofs.After.{length-rows, length-rows-norms}
 use Rattle.heap_moves.specs.declared.Item.{Item}
 use Rattle.heap_moves.specs.Flat.{candOf, entriesOf, countsOf}
-use Rattle.heap.specs.declared.Answer.{Answer}
 use Rattle.heap_moves.specs.Cands.{Cand}
+use Rattle.heap.specs.declared.Answer.{Answer}
 use Rattle.heap.specs.Offer.{Table, Offered, offer, rescore, seat, replaceRoot, keptBy, kept}
 use Rattle.heap.specs.inner.Slices.{lenBy, tableOf, offered}
 use Rattle.heap.proofs.Cases.{offer-cases}

@@ -11,7 +11,7 @@ ghost use Rattle.words.specs.Num.{top};
 ghost use Rattle.heap.specs.Offer.{keptBy};
 ghost use Rattle.heap.specs.inner.Slices.{lenBy};
 ghost use Rattle.layer.specs.Layer.{addLayer, addAnswer, addReads, addFits, layerUpdate};
-ghost use Rattle.layer.specs.inner.Needs.{layerOf, Housed, AddReady};
+ghost use Rattle.layer.specs.inner.Needs.{layerOf, Housed, AddReady, layerIn, layerOut};
 
 // Whether all that an update reads of the layer is in range.
 pub fn add_reads(
@@ -72,9 +72,9 @@ pub fn add(
     weight: u64,
 ) -> Answer
     requires { ⌜ AddReady d len item weight (now counters) (now norms) (now entries) (now counts) ⌝ }
-    ensures { λ r. ⌜ ((flag : Bool) → layerOf d (now (counters .exit)) (now (norms .exit)) (now (entries .exit)) (now (counts .exit)) (lenBy r len) (flag && keptBy r)
-        ≡ addLayer d (layerUpdate item weight) (layerOf d (now (counters .entry)) (now (norms .entry)) (now (entries .entry)) (now (counts .entry)) len flag)) ⌝ }
-    ensures { λ r. ⌜ ((flag : Bool) → r ≡ addAnswer d (layerUpdate item weight) (layerOf d (now (counters .entry)) (now (norms .entry)) (now (entries .entry)) (now (counts .entry)) len flag)) ⌝ }
+    ensures { λ r. ⌜ ((flag : Bool) → layerOut d counters norms entries counts (lenBy r len) (flag && keptBy r)
+        ≡ addLayer d (layerUpdate item weight) (layerIn d counters norms entries counts len flag)) ⌝ }
+    ensures { λ r. ⌜ ((flag : Bool) → r ≡ addAnswer d (layerUpdate item weight) (layerIn d counters norms entries counts len flag)) ⌝ }
 {
     let rows = d.rows;
     let cols = d.cols;

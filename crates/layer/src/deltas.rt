@@ -10,11 +10,11 @@ ghost use lib.ListN.{length};
 ghost use lib.IntN.{ℤ};
 ghost use Rattle.words.specs.Num.{inRange};
 ghost use Rattle.matrix_storage.specs.inner.Shaped.{Shaped};
-ghost use Rattle.heap_moves.specs.declared.Item.{Item};
 ghost use Rattle.countsketch_l2_norm.specs.Sketch.{cellAt};
+ghost use Rattle.heap_moves.specs.declared.Item.{Item};
 ghost use Rattle.heap.specs.Offer.{keptBy};
 ghost use Rattle.heap.specs.inner.Slices.{lenBy};
-ghost use Rattle.layer.specs.inner.Needs.{layerOf, delta, Housed, DeltaReady};
+ghost use Rattle.layer.specs.inner.Needs.{layerOf, delta, Housed, DeltaReady, layerIn, layerOut};
 ghost use Rattle.layer.specs.Delta.{deltaLayer, deltaAnswer, deltaReads, deltaFits};
 
 // Whether all that a delta reads of the layer is in range.
@@ -66,9 +66,9 @@ pub fn apply_delta(
     item: Item,
 ) -> Answer
     requires { ⌜ DeltaReady d len row col count item (now counters) (now norms) (now entries) (now counts) ⌝ }
-    ensures { λ r. ⌜ ((flag every : Bool) → layerOf d (now (counters .exit)) (now (norms .exit)) (now (entries .exit)) (now (counts .exit)) (lenBy r len) (flag && (keptBy r && every))
-        ≡ deltaLayer d (delta row col count item every) (layerOf d (now (counters .entry)) (now (norms .entry)) (now (entries .entry)) (now (counts .entry)) len flag)) ⌝ }
-    ensures { λ r. ⌜ ((flag every : Bool) → r ≡ deltaAnswer d (delta row col count item every) (layerOf d (now (counters .entry)) (now (norms .entry)) (now (entries .entry)) (now (counts .entry)) len flag)) ⌝ }
+    ensures { λ r. ⌜ ((flag every : Bool) → layerOut d counters norms entries counts (lenBy r len) (flag && (keptBy r && every))
+        ≡ deltaLayer d (delta row col count item every) (layerIn d counters norms entries counts len flag)) ⌝ }
+    ensures { λ r. ⌜ ((flag every : Bool) → r ≡ deltaAnswer d (delta row col count item every) (layerIn d counters norms entries counts len flag)) ⌝ }
 {
     let rows = d.rows;
     let cols = d.cols;

@@ -12,7 +12,7 @@ ghost use lib.IntN.{ℤ};
 ghost use lib.Dec.{leb};
 ghost use Rattle.words.specs.Num.{allIn};
 ghost use Rattle.layer.specs.declared.Dims.{Dims};
-ghost use Rattle.layer.specs.inner.Needs.{layerOf};
+ghost use Rattle.layer.specs.inner.Needs.{layerOf, layerIn, layerOut};
 ghost use Rattle.layer.specs.Merge.{mergeLayer, mergeReads, mergeFits};
 ghost use Rattle.layer.specs.inner.Gather.{LayerMergeReady};
 
@@ -66,8 +66,8 @@ pub fn merge(
 ) -> Merged
     requires { ⌜ LayerMergeReady d len «other_len» (now counters) (now norms) (now entries) (now counts) (now «other_counters») (now «other_entries») ⌝ }
     ensures { λ r. ⌜ ((ws₂ : List ℕ) (ns₂ : List ℤ) (flag flag₂ : Bool) → «other_len» ≤ length ns₂
-        → layerOf d (now (counters .exit)) (now (norms .exit)) (now (entries .exit)) (now (counts .exit)) (r .len) (flag && flag₂ && leb (r .keys) (d .size))
-        ≡ mergeLayer d (layerOf d (now (counters .entry)) (now (norms .entry)) (now (entries .entry)) (now (counts .entry)) len flag)
+        → layerOut d counters norms entries counts (r .len) (flag && flag₂ && leb (r .keys) (d .size))
+        ≡ mergeLayer d (layerIn d counters norms entries counts len flag)
         (layerOf d (now («other_counters» .entry)) ws₂ (now («other_entries» .entry)) ns₂ «other_len» flag₂)) ⌝ }
 {
     countsketch_l2_norm::merge(counters, norms, other_counters, d.rows, d.cols);

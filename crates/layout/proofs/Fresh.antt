@@ -8,8 +8,11 @@ use lib.ListN.{getD, replicate, length-replicate, length-append, getD-replicate,
 use lib.Seq.{getD-append-add}
 use lib.IntN.{pos, ℤ}
 use Rattle.words.specs.Parts.{part}
+use Rattle.words.proofs.Lists.{getD-all, part-all}
 use Rattle.countsketch_l2_norm.specs.Merge.{sumBelow}
+use Rattle.countsketch_l2_norm.specs.Norms.{wordsOf}
 use Rattle.heap_moves.specs.Cands.{noCand}
+use Rattle.heap_moves.specs.Flat.{entriesOf, countsOf}
 use Rattle.header.specs.declared.Shape.{Shape}
 use Rattle.header.specs.Shape.{maxLayers}
 use Rattle.header.specs.Header.{freshFlags, freshHeader}
@@ -17,9 +20,6 @@ use Rattle.header.specs.inner.Accepted.{Accepted}
 use Rattle.layer.specs.inner.Needs.{noLayer}
 use Rattle.layout.specs.State.{rowsAt, colsAt, dimsAt, cellOff, normOff, candOff, layerAt, newState}
 use Rattle.layout.proofs.Offsets.{off-step}
-use Rattle.words.proofs.Lists.{getD-all, part-all}
-use Rattle.countsketch_l2_norm.specs.Norms.{wordsOf}
-use Rattle.heap_moves.specs.Flat.{entriesOf, countsOf}
 use Rattle.layout.specs.Slices.{normsIn, candsIn, flat, freshLent}
 use Rattle.layout.proofs.Replaced.{Sized}
 

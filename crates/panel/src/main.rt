@@ -11,9 +11,9 @@ use panel_step::answer_line;
 ghost use mathlib.Core.Path.{_≡_};
 ghost use Prim.Native.Nat.{ℕ, min, _+_, _≤_};
 ghost use lib.ListN.{length, take};
+ghost use Rattle.layout.specs.Lending.{lentIn, lentOut};
 ghost use Rattle.panel_lines.specs.Split.{mostHeld, chunkLines, chunkHeld};
 ghost use Rattle.panel_step.specs.Panel.{longest, answerLine, answersOf, found, put, behind};
-ghost use Rattle.layout.specs.Lending.{lentIn, lentOut};
 
 // The bytes that are read at once, and the most that are written at once. Larger ones save no time, and all that the program holds
 // is on the stack: these two, the slices of `main` and the working space of a sum, 167 KB in all.

@@ -23,9 +23,9 @@ use Rattle.header.specs.Header.{zeroHeader, freshHeader, beginOf, lensFrom, hea
 use Rattle.header.specs.Shape.{shapeRefusal, bottomFrom, bottomOf}
 use Rattle.layer.specs.Merge.{items}
 use Rattle.layer.specs.Layer.{addSketch, addLayer, addReads, addFits}
-use Rattle.univmon.specs.Calls.{updateCall}
 use Rattle.layout.specs.Slices.{Lent, lent, lengthsOk, view, flat, freshLent}
 use Rattle.layout.specs.State.{rowsAt, colsAt, cellOff, normOff, candOff, layerAt, putLayer, overLayers, allLayers}
+use Rattle.univmon.specs.Calls.{updateCall}
 use Rattle.univmon.specs.Updates.{updateTests, updated}
 use Rattle.sums.specs.Layers.{gSum, standardSum}
 use Rattle.sums.specs.Terms.{gOf, factor, counted, addTerm, sumOver}

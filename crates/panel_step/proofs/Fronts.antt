@@ -9,11 +9,11 @@ use lib.IntN.{ℤ}
 use Rattle.header.specs.declared.Shape.{Shape}
 use Rattle.header.specs.declared.Header.{Header}
 use Rattle.header.specs.Shape.{shapeRefusal}
-use Rattle.univmon.specs.declared.Kind.the-variants as kind
 use Rattle.layout.specs.Slices.{Lent, lent, cellsIn, normsIn, candsIn, lengthsOk, freshLent, extentOf}
 use Rattle.layout.specs.Outcomes.{Outcome, Left, left, leftBy}
-use Rattle.univmon.specs.Calls.{newCall, updateCall}
 use Rattle.layout.specs.declared.Extent.{Extent}
+use Rattle.univmon.specs.declared.Kind.the-variants as kind
+use Rattle.univmon.specs.Calls.{newCall, updateCall}
 use Rattle.panel_step.specs.Panel.{inUse, putBack, refusalIn, shapeCall, backBy, addCall}
 use Rattle.panel_step.proofs.Rooms.{Fit, fit-of}
 

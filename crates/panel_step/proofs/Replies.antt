@@ -8,18 +8,18 @@ use lib.ListN.{length, take}
 use lib.Seq.{sets}
 use lib.IntN.{ℤ}
 use lib.Ieee.{binary64, toBits}
-use Rattle.text.proofs.Puts.{joined}
 use Rattle.header.specs.declared.Shape.{Shape}
 use Rattle.header.specs.declared.Header.{Header}
 use Rattle.layout.specs.Slices.{Lent, extentOf}
 use Rattle.layout.specs.Outcomes.{Left, left}
+use Rattle.layout.specs.declared.Extent.{Extent}
 use Rattle.estimates.specs.declared.PanelAnswer.{PanelAnswer}
 use Rattle.estimates.specs.Calls.{panelCall}
+use Rattle.text.proofs.Puts.{joined}
 use Rattle.panel_lines.specs.declared.line.Request.{Request}
 use Rattle.panel_lines.specs.declared.line.Request.the-variants as ask
 use Rattle.panel_lines.specs.Line.{readOf}
 use Rattle.panel_lines.specs.Answers.{okText, refusedText, showText}
-use Rattle.layout.specs.declared.Extent.{Extent}
 use Rattle.panel_step.proofs.Fronts.{partsIn}
 use Rattle.panel_step.specs.Panel.{refusalIn, shapeCall, addCall, panelText, showLine, Reply, reply, replyText, replied, answerTo, answerLine, Found, found, put, longest, answerWithin}
 

@@ -6,8 +6,8 @@ use native.Mathlib.Omega.{arith}
 use native.Mathlib.Nat.{le-refl}
 use borrow.Author.Tests.{eqb-true, eqb-false, leb-true, ltb-false, le-leb}
 use lib.Dec.{eqb, ltb, leb}
-use Rattle.header.specs.declared.Shape.{Shape}
 use Rattle.matrix_storage.specs.Bits.{maxRows}
+use Rattle.header.specs.declared.Shape.{Shape}
 use Rattle.header.specs.Shape.{maxLayers, shapeRefusal}
 use Rattle.header.proofs.Refusals.{accepted-of}
 use Rattle.layout.specs.Slices.{cellsIn, normsIn, candsIn, extentOf}

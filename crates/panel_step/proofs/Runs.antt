@@ -7,8 +7,8 @@ use native.Mathlib.Omega.{arith}
 use borrow.Author.Tests.{le-ltb}
 use lib.ListN.{length, take, drop, length-append, length-drop, drop-of-length-le}
 use lib.Seq.{sets, sets-eq, drop-drop, take-all}
-use Rattle.text.proofs.Puts.{sets-append}
 use Rattle.layout.specs.Slices.{Lent}
+use Rattle.text.proofs.Puts.{sets-append}
 use Rattle.panel_lines.specs.Line.{Reading}
 use Rattle.panel_lines.specs.Split.{someLast, chunkLines, chunkHeld, lines, wholeOf}
 use Rattle.panel_lines.specs.inner.Steps.{heldOf, runLines, runHeld, linesOfChunks}

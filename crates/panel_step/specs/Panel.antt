@@ -11,10 +11,10 @@ use lib.Ieee.{binary64, toBits}
 use Rattle.header.specs.declared.Shape.{Shape}
 use Rattle.header.specs.declared.Header.{Header}
 use Rattle.header.specs.Shape.{maxLayers, shapeRefusal}
-use Rattle.univmon.specs.declared.Kind.the-variants as kind
 use Rattle.layout.specs.declared.Extent.{Extent}
 use Rattle.layout.specs.Slices.{Lent, lent, cellsIn, candsIn, freshLent, extentOf}
 use Rattle.layout.specs.Outcomes.{Outcome, Left, left, leftBy}
+use Rattle.univmon.specs.declared.Kind.the-variants as kind
 use Rattle.univmon.specs.Calls.{updateCall}
 use Rattle.estimates.specs.declared.PanelAnswer.{PanelAnswer}
 use Rattle.estimates.specs.Calls.{panelCall}

@@ -12,11 +12,11 @@ ghost use lib.ListN.{length};
 ghost use lib.Seq.{sets};
 ghost use Rattle.header.specs.Shape.{maxLayers};
 ghost use Rattle.layout.specs.Outcomes.{left};
+ghost use Rattle.layout.specs.Lending.{lentIn, lentOut};
 ghost use Rattle.univmon.specs.Calls.{answered};
 ghost use Rattle.estimates.specs.Calls.{panelCall};
 ghost use Rattle.panel_lines.specs.Answers.{showBytes};
 ghost use Rattle.panel_step.specs.Panel.{shapeCall, addCall, showLine, panelText};
-ghost use Rattle.layout.specs.Lending.{lentIn, lentOut};
 
 // 13 before a shape.
 const NO_SHAPE: u64 = 13;

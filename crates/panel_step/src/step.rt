@@ -17,8 +17,8 @@ ghost use mathlib.Core.List.{[], _∷_, _++_};
 ghost use Prim.Native.Nat.{ℕ, _≤_};
 ghost use lib.ListN.{length};
 ghost use lib.Seq.{sets};
-ghost use Rattle.panel_step.specs.Panel.{shapeCall, addCall, showLine, replyText, replied, reply, found, put, longest, answerWithin};
 ghost use Rattle.layout.specs.Lending.{lentIn, lentOut};
+ghost use Rattle.panel_step.specs.Panel.{shapeCall, addCall, showLine, replyText, replied, reply, found, put, longest, answerWithin};
 
 // The longest answer, with its newline: `(show ..)` of the most layers.
 pub const LONGEST: usize = SHOW_BARE + 2 * Shape::MAX_LAYERS + 1;

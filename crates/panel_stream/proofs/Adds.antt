@@ -14,8 +14,8 @@ use Rattle.header.specs.declared.Shape.{Shape}
 use Rattle.header.specs.declared.Mode.{Mode}
 use Rattle.header.specs.declared.Mode.the-variants as mode
 use Rattle.header.specs.Header.{clash}
-use Rattle.univmon.specs.declared.Kind.the-variants as kind
 use Rattle.layout.specs.Records.{recordLength}
+use Rattle.univmon.specs.declared.Kind.the-variants as kind
 use Rattle.shared_streams.specs.Books.{Book, weightOf, bookMode}
 use Rattle.shared_streams.specs.Ledger.{feedNumber}
 use Rattle.shared_streams.proofs.BookLaws.{OfMode, no-clash}

@@ -15,9 +15,9 @@ use Rattle.header.specs.declared.Header.{Header}
 use Rattle.header.specs.declared.Mode.the-variants as mode
 use Rattle.header.specs.Shape.{shapeRefusal}
 use Rattle.header.specs.Header.{zeroHeader}
-use Rattle.univmon.specs.declared.Kind.the-variants as kind
 use Rattle.layout.specs.Slices.{Lent, lentOk, flat, freshLent, extentOf}
 use Rattle.layout.specs.Outcomes.{Outcome, Left, left, leftBy}
+use Rattle.univmon.specs.declared.Kind.the-variants as kind
 use Rattle.univmon.specs.Calls.{updateCall}
 use Rattle.shared_streams.specs.Books.{Update}
 use Rattle.shared_streams.specs.Relays.{updateBy}

@@ -16,6 +16,9 @@ use Rattle.header.specs.declared.Mode.the-variants as mode
 use Rattle.header.specs.Shape.{shapeRefusal}
 use Rattle.header.specs.inner.Accepted.{Accepted}
 use Rattle.header.proofs.Refusals.{accepted-of}
+use Rattle.layer.specs.declared.Dims.{Dims}
+use Rattle.layer.specs.Layer.{Layer, countsRead}
+use Rattle.layer.specs.Merge.{items}
 use Rattle.layout.specs.State.{State, rowsAt, colsAt, dimsAt, layerAt}
 use Rattle.layout.specs.Slices.{Lent, normsIn, view}
 use Rattle.estimates.specs.Norms.{l2OfState}
@@ -23,9 +26,6 @@ use Rattle.estimates.specs.Sums.{layerReads, itemsRead}
 use Rattle.estimates.specs.declared.Answer.{Answer}
 use Rattle.estimates.specs.declared.PanelAnswer.{PanelAnswer}
 use Rattle.estimates.specs.Calls.{answer, normState, l2Reads, l1Call, l2Call, cardinalityCall, panelCall}
-use Rattle.layer.specs.declared.Dims.{Dims}
-use Rattle.layer.specs.Layer.{Layer, countsRead}
-use Rattle.layer.specs.Merge.{items}
 use Rattle.shared_streams.specs.Books.{Book, bookKeys, normBy, flagBy, weightOf, distinct, OneRecord, sent}
 use Rattle.shared_streams.specs.SharedStreams.{Claimed}
 use Rattle.shared_streams.proofs.BookLaws.{sent-weights}

@@ -17,9 +17,9 @@ use Rattle.countsketch_l2_norm.specs.L2.{l2Of}
 use Rattle.header.specs.declared.Shape.{Shape}
 use Rattle.header.specs.Shape.{maxLayers}
 use Rattle.header.specs.Header.{zeroHeader}
-use Rattle.univmon.specs.declared.Kind.the-variants as kind
 use Rattle.layout.specs.State.{rowsAt}
 use Rattle.layout.specs.Slices.{Lent}
+use Rattle.univmon.specs.declared.Kind.the-variants as kind
 use Rattle.estimates.specs.Calls.{panelCall}
 use Rattle.shared_streams.specs.Books.{Book, bookKeys, normBy, flagBy, weightOf, distinct, OneRecord}
 use Rattle.shared_streams.specs.Relays.{Relay, updateBy}

@@ -16,11 +16,11 @@ use Rattle.header.specs.declared.Mode.{Mode}
 use Rattle.header.specs.Shape.{shapeRefusal, sameShape}
 use Rattle.header.specs.Totals.{totalsTests}
 use Rattle.header.specs.Header.{scalarsOf, clash, beginTests}
-use Rattle.univmon.specs.declared.Kind.{Kind}
 use Rattle.layout.specs.Records.{recordLength}
 use Rattle.layout.specs.Slices.{Lent, view, flat}
 use Rattle.layout.specs.Outcomes.{Outcome, judge, lentTests}
 use Rattle.layout.proofs.Judged.{passed, refused}
+use Rattle.univmon.specs.declared.Kind.{Kind}
 use Rattle.univmon.specs.Updates.{modeOf, sentTests, updateTests, updated}
 use Rattle.univmon.specs.Calls.{updateCall}
 use Rattle.univmon_merge.specs.Merges.{pairTests, mergeTests, merged, mergeCall}

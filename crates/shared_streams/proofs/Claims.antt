@@ -9,22 +9,25 @@ use lib.IntN.{ℤ, pos}
 use lib.Dec.{eqb}
 use lib.Ieee.{binary64, ofInt}
 use borrow.Author.Tests.{le-leb, eq-eqb}
+use Rattle.words.proofs.Tests.{Off, number-off}
+use Rattle.words.proofs.Lists.{all-at, All, all-map}
+use Rattle.float64.proofs.Ints.{int-value}
 use Rattle.header.specs.declared.Shape.{Shape}
 use Rattle.header.specs.declared.Mode.{Mode}
 use Rattle.header.specs.declared.Mode.the-variants as mode
-use Rattle.words.proofs.Tests.{Off, number-off}
-use Rattle.float64.proofs.Ints.{int-value}
 use Rattle.header.specs.Shape.{maxLayers, shapeRefusal, bottomOf}
 use Rattle.header.specs.inner.Accepted.{Accepted}
 use Rattle.header.proofs.Refusals.{accepted-of}
-use Rattle.univmon.specs.declared.Kind.{Kind}
-use Rattle.univmon.specs.declared.Kind.the-variants as kind
+use Rattle.header.specs.Header.{Headed}
 use Rattle.layout.specs.State.{State}
-use Rattle.univmon.specs.Updates.{modeOf}
 use Rattle.layout.specs.Slices.{Lent, view, flat, freshLent}
 use Rattle.layout.specs.Outcomes.{Outcome, lentTests}
+use Rattle.layout.proofs.Flatten.{flat-lengths}
+use Rattle.layout.proofs.Replaced.{Sized}
+use Rattle.univmon.specs.declared.Kind.{Kind}
+use Rattle.univmon.specs.declared.Kind.the-variants as kind
+use Rattle.univmon.specs.Updates.{modeOf}
 use Rattle.univmon.specs.Calls.{updateCall, lentUpdateCall}
-use Rattle.header.specs.Header.{Headed}
 use Rattle.sums.specs.Terminal.{terminalSum, heavy}
 use Rattle.sums.specs.Layers.{standardSum}
 use Rattle.sums.specs.declared.G.the-variants as g
@@ -40,17 +43,14 @@ use Rattle.shared_streams.proofs.BookLaws.{Fitting, no-weight, OfMode}
 use Rattle.shared_streams.proofs.Relays.{RelayBy}
 use Rattle.shared_streams.proofs.Refusals.{ranged-by, sums-read}
 use Rattle.shared_streams.proofs.Reorders.{reordered-all, reordered-weight}
-use Rattle.layout.proofs.Flatten.{flat-lengths}
 use Rattle.shared_streams.proofs.Values.{holds-by}
 use Rattle.shared_streams.proofs.Same.{holds-reordered, same-values}
 use Rattle.shared_streams.proofs.Calls.{LentBy, lent-view, lent-off, lent-fresh}
-use Rattle.layout.proofs.Replaced.{Sized}
 use Rattle.shared_streams.proofs.Takes.{takes-all}
 use Rattle.shared_streams.proofs.Acceptance.{feed-answers}
 use Rattle.shared_streams.proofs.Sent.{Hashed, hashed, botBy, sent-times}
 use Rattle.shared_streams.proofs.Standard.{standard-counts}
 use Rattle.shared_streams.proofs.Terminal.{terminal-counts}
-use Rattle.words.proofs.Lists.{all-at, All, all-map}
 
 -- ---- kinds and modes
 

@@ -7,15 +7,15 @@ use lib.ListN.{length}
 use lib.IntN.{pos}
 use lib.Ieee.{binary64, ofInt, ofBits, toBits, add, sub, mul, div, le}
 use Rattle.words.specs.Num.{inRange, capped, allIn}
+use Rattle.float64.specs.Norm.{normRead}
+use Rattle.float64.specs.Root.{root}
+use Rattle.float64.specs.Cut.{heavyThreshold}
 use Rattle.matrix_storage.specs.Bits.{log2In, log2, maskBits, hashOf, column, signed}
 use Rattle.structure_utils.specs.Median.{insertBy, sortBy, middleF, median, middle}
 use Rattle.countsketch_l2_norm.specs.Estimate.{estimates, estimateF, estimateOf, cellsInRange}
 use Rattle.countsketch_l2_norm.specs.Merge.{sums, sumBelow, squaresFrom, rowNorms}
 use Rattle.countsketch_l2_norm.specs.Norms.{normsOf, wordsOf}
 use Rattle.countsketch_l2_norm.specs.L2.{l2Squared, l2Of, normsInRange}
-use Rattle.float64.specs.Norm.{normRead}
-use Rattle.float64.specs.Root.{root}
-use Rattle.float64.specs.Cut.{heavyThreshold}
 use Rattle.countsketch_l2_norm.specs.Sketch.{addCell, addRows, rowsRead, rowsFit}
 use Rattle.heap_moves.specs.Cands.{up, down, updateAt, leftOr, lower}
 use Rattle.heap_moves.specs.Flat.{candsOf, entriesOf}
@@ -25,10 +25,10 @@ use Rattle.header.specs.Shape.{shapeRefusal, bottomFrom, bottomOf}
 use Rattle.header.specs.declared.Shape.{Shape}
 use Rattle.layer.specs.Layer.{addSketch, addLayer, addReads, addFits}
 use Rattle.layer.specs.Merge.{hasKey, firsts, items, offerAll, mergeLayer, mergeReads, mergeFits}
-use Rattle.univmon.specs.declared.Kind.the-variants as kind
-use Rattle.univmon.specs.Calls.{updateCall}
 use Rattle.layout.specs.Slices.{lengthsOk, view, flat, freshLent}
 use Rattle.layout.specs.State.{rowsAt, colsAt, cellOff, normOff, candOff, layerAt, putLayer, overLayers, allLayers}
+use Rattle.univmon.specs.declared.Kind.the-variants as kind
+use Rattle.univmon.specs.Calls.{updateCall}
 use Rattle.univmon.specs.Updates.{updateTests, updated}
 use Rattle.univmon_merge.specs.Merges.{mergeTests, merged, mergeCall}
 use Rattle.sums.specs.Layers.{gSum, standardSum}

@@ -13,9 +13,9 @@ use Rattle.header.specs.declared.Totals.{Totals}
 use Rattle.header.specs.declared.Scalars.{Scalars}
 use Rattle.header.specs.Totals.{totalsTests}
 use Rattle.header.specs.Header.{clash, beginTests}
+use Rattle.layout.specs.Outcomes.{Outcome, recordTest}
 use Rattle.univmon.specs.declared.Kind.{Kind}
 use Rattle.univmon.specs.Updates.{modeOf}
-use Rattle.layout.specs.Outcomes.{Outcome, recordTest}
 use Rattle.shared_streams.specs.Books.{Update, Book, weightOf, bookMode}
 use Rattle.shared_streams.specs.Feeds.{feed, join, names}
 use Rattle.shared_streams.specs.Relays.{Feed, updating, Relay, Call}

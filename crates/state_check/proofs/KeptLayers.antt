@@ -8,6 +8,7 @@ use lib.ListN.{set, length-replicate}
 use lib.IntN.{ℤ, pos, _+ℤ_}
 use Rattle.words.specs.Num.{inRange, allIn}
 use Rattle.words.proofs.Bools.{and-left, and-right, both}
+use Rattle.words.proofs.Lists.{getD-all}
 use Rattle.matrix_storage.specs.Bits.{signed}
 use Rattle.countsketch_l2_norm.specs.Sketch.{Sketch, cellOf, cellAt, addCell, addRow, addRows, rowsFit}
 use Rattle.countsketch_l2_norm.specs.Merge.{sums}
@@ -16,6 +17,7 @@ use Rattle.countsketch_l2_norm.proofs.Merges.{length-sums, length-rowNorms}
 use Rattle.countsketch_l2_norm.proofs.Places.{cell-before}
 use Rattle.countsketch_l2_norm.proofs.Rows.{fit-later}
 use Rattle.countsketch_l2_norm.proofs.After.{length-cell, length-cell-norms, length-rows, length-rows-norms}
+use Rattle.countsketch_l2_norm.proofs.Bounds.{count-in}
 use Rattle.heap_moves.specs.declared.Item.{Item}
 use Rattle.heap_moves.specs.Cands.{noCand}
 use Rattle.heap_moves.specs.Flat.{candOf}
@@ -23,14 +25,12 @@ use Rattle.heap_moves.specs.inner.Totals.{Each}
 use Rattle.heap.specs.Offer.{Table}
 use Rattle.heap.specs.inner.Sound.{Sound}
 use Rattle.heap.proofs.Sounds.{offer-sound, offer-long}
+use Rattle.heap.proofs.Entries.{InR, offer-each}
 use Rattle.layer.specs.declared.Dims.{Dims}
 use Rattle.layer.specs.Layer.{Layer, LayerUpdate, hashBy, countOf, offerTo, addSketch, addLayer, addFits, noTable}
 use Rattle.layer.specs.Delta.{Delta, placeBy, deltaLayer, deltaFits}
 use Rattle.layer.specs.Merge.{bothItems, offerAll, mergeLayer, mergeFits}
-use Rattle.words.proofs.Lists.{getD-all}
 use Rattle.state_check.proofs.Whole.{Whole}
-use Rattle.heap.proofs.Entries.{InR, offer-each}
-use Rattle.countsketch_l2_norm.proofs.Bounds.{count-in}
 
 -- ---- counters
 

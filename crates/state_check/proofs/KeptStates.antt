@@ -25,16 +25,16 @@ use Rattle.layer.specs.Layer.{Layer}
 use Rattle.layer.specs.inner.Needs.{noLayer}
 use Rattle.layer.specs.Delta.{deltaLayer, deltaFits}
 use Rattle.layer.specs.Merge.{mergeLayer, mergeFits}
-use Rattle.univmon.specs.declared.Kind.{Kind}
 use Rattle.layout.specs.State.{State, shapeOf, rowsAt, colsAt, dimsAt, layerAt, allLayers, newState}
 use Rattle.layout.specs.Records.{bottomWord}
 use Rattle.layout.proofs.States.{layers-step}
 use Rattle.layout.proofs.Fresh.{new-layer, new-sized, new-past-lens, new-past-flags}
+use Rattle.layout.proofs.Offsets.{shaped-at}
+use Rattle.univmon.specs.declared.Kind.{Kind}
 use Rattle.univmon.specs.Updates.{layerUpdateAt, fitsAt, addsAt, modeOf, firstSent, manySent, bottomBy, sentTests, updated}
 use Rattle.univmon.proofs.Touched.{sent-room}
 use Rattle.univmon_delta.specs.Deltas.{Arrival, deltaBy, counterTests, deltaTestsAt, arrived}
 use Rattle.univmon_merge.specs.Merges.{pairTests, merged}
-use Rattle.layout.proofs.Offsets.{shaped-at}
 use Rattle.state_check.proofs.KeptLayers.{add-whole, delta-whole, merge-whole}
 use Rattle.state_check.proofs.Passed.{passed-at}
 use Rattle.state_check.proofs.Whole.{Whole}

@@ -26,6 +26,7 @@ use Rattle.heap_moves.specs.inner.Totals.{Each}
 use Rattle.heap_moves.proofs.Views.{item-path, cand-path}
 use Rattle.heap.specs.Offer.{Table}
 use Rattle.heap.specs.inner.Sound.{Sound}
+use Rattle.heap.proofs.Entries.{InR}
 use Rattle.layer.specs.declared.Dims.{Dims}
 use Rattle.layer.specs.Layer.{Layer}
 use Rattle.layer.specs.inner.Needs.{Fits}
@@ -33,7 +34,6 @@ use Rattle.state_check.specs.Check.{rowOk, rowsOk, isNone, seatedOk, sea
 use Rattle.state_check.proofs.RowSums.{all-of, rows-step, rows-none}
 use Rattle.state_check.proofs.Seatings.{seats-step, seats-none}
 use Rattle.state_check.proofs.Passed.{passed-at, passed-all}
-use Rattle.heap.proofs.Entries.{InR}
 
 -- counters in range, norms that are their rows' sums, candidates in heap order with zeros behind them, counts in range
 pub record Whole (d : Dims) (y : Layer) : Type 0 where

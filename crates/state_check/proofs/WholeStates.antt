@@ -10,8 +10,8 @@ use lib.Dec.{eqb}
 use borrow.Author.Tests.{eq-eqb, eqb-true, lt-ltb, le-ltb, le-leb, not-true}
 use Rattle.words.specs.Num.{top}
 use Rattle.words.proofs.Bools.{and-left, and-right, both}
-use Rattle.heap_moves.proofs.Views.{length-cands}
 use Rattle.countsketch_l2_norm.proofs.Norms.{length-norms}
+use Rattle.heap_moves.proofs.Views.{length-cands}
 use Rattle.header.specs.declared.Shape.{Shape}
 use Rattle.header.specs.declared.Header.{Header}
 use Rattle.header.specs.declared.Mode.{Mode}

@@ -12,9 +12,9 @@ use Rattle.countsketch_l2_norm.specs.Sketch.{Sketch}
 use Rattle.countsketch_l2_norm.specs.Merge.{rowNorm}
 use Rattle.heap_moves.specs.Cands.{Cand, noCand, countAt, parent}
 use Rattle.heap.specs.Offer.{Table}
+use Rattle.header.specs.Header.{headerOk}
 use Rattle.layer.specs.declared.Dims.{Dims}
 use Rattle.layer.specs.Layer.{Layer}
-use Rattle.header.specs.Header.{headerOk}
 use Rattle.layout.specs.State.{State, shapeOf, dimsAt, allLayers}
 use Rattle.layout.specs.Slices.{Lent, lentOk, view}
 

@@ -3,12 +3,12 @@ ghost use mathlib.Core.Path.{_≡_};
 ghost use mathlib.Core.Bool.{Bool, false};
 ghost use Prim.Native.Nat.{ℕ, _*_, _<_};
 ghost use lib.ListN.{length};
-ghost use Rattle.layer.specs.inner.Needs.{layerOf, Housed};
+ghost use Rattle.layer.specs.inner.Needs.{Housed, layerIn};
 ghost use Rattle.layout.specs.State.{dimsAt, layerAt};
 ghost use Rattle.layout.specs.Slices.{view};
 ghost use Rattle.layout.specs.inner.Needs.{Standing};
-ghost use Rattle.state_check.specs.Check.{layerOk, layersOk, stateOk};
 ghost use Rattle.layout.specs.Lending.{lentIn, lentNow};
+ghost use Rattle.state_check.specs.Check.{layerOk, layersOk, stateOk};
 use crate::candidates::seats_ok;
 use crate::rows::rows_ok;
 use header::Header;
@@ -26,7 +26,7 @@ fn layer_ok(
     requires { ⌜ Housed dims (length (now cells)) (length (now norms)) (length (now counts)) len ⌝ }
     requires { ⌜ length (now entries) ≡ 4 * dims .size ⌝ }
     ensures { λ r. ⌜ ((flag : Bool) → r ≡ layerOk dims
-        (layerOf dims (now (cells .entry)) (now (norms .entry)) (now (entries .entry)) (now (counts .entry)) len flag)) ⌝ }
+        (layerIn dims cells norms entries counts len flag)) ⌝ }
 {
     if !rows_ok(cells, norms, dims.rows, dims.cols) {
         return false;

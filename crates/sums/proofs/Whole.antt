@@ -10,9 +10,9 @@ use native.Mathlib.Nat.{pow-suc}
 use lib.IntN.{ℤ, pos, negsuc, natAbs, _+ℤ_, _*ℤ_, +ℤ-assoc, +ℤ-idl, +ℤ-idr}
 use lib.Dec.{eqb}
 use lib.Ieee.{Float, binary64, add, sub, mul, ofInt, ofBits}
+use Rattle.words.proofs.Signed.{abs-add, abs-mul}
 use Rattle.float64.specs.Values.{two}
 use Rattle.float64.proofs.Ints.{add-int, term-int, step-int, one-is, nought-is}
-use Rattle.words.proofs.Signed.{abs-add, abs-mul}
 use Rattle.sums.specs.Entries.{Entry}
 use Rattle.sums.specs.Terms.{plusZero, one, gOf, factor, counted, addTerm, sumOver}
 use Rattle.sums.specs.Layers.{ruleAt, gSum}

@@ -8,6 +8,7 @@ use native.Mathlib.Numerals.{add-one}
 use lib.ListN.{length}
 use Rattle.words.proofs.Bools.{and-left, and-right}
 use Rattle.header.specs.declared.Shape.{Shape}
+use Rattle.header.specs.Header.{Headed}
 use Rattle.layer.specs.Layer.{Layer, addLayer, layerUpdate}
 use Rattle.layer.specs.inner.Needs.{Fits}
 use Rattle.layer.proofs.Steps.{add-lengths}
@@ -15,11 +16,10 @@ use Rattle.layout.specs.State.{State, dimsAt, layerAt, putLayer, overLayers, al
 use Rattle.layout.specs.Slices.{Lent, view}
 use Rattle.layout.specs.Records.{recordLength, itemAt}
 use Rattle.layout.specs.inner.Needs.{Standing}
-use Rattle.header.specs.Header.{Headed}
-use Rattle.univmon.specs.inner.Needs.{SendReady, SendsReady}
-use Rattle.univmon.specs.Updates.{readsAt, fitsAt, addsAt}
 use Rattle.layout.proofs.Lengths.{long-view}
 use Rattle.layout.proofs.States.{at-fits, all-later}
+use Rattle.univmon.specs.inner.Needs.{SendReady, SendsReady}
+use Rattle.univmon.specs.Updates.{readsAt, fitsAt, addsAt}
 
 pub record Sending (r₀ : Lent) (words : List ℕ) (w many first : ℕ) (r : Lent) (l : ℕ) : Type 0 where
   pub left : ℕ

@@ -17,7 +17,6 @@ use Rattle.header.specs.Totals.{updateTotals}
 use Rattle.header.specs.Header.{begun, beginTests, scalarsOf}
 use Rattle.header.proofs.Bottoms.{bottom-lt}
 use Rattle.layer.specs.Layer.{Layer}
-use Rattle.univmon.specs.declared.Kind.{Kind}
 use Rattle.layout.specs.State.{State, layerAt, putLayer, overLayers, withHead}
 use Rattle.layout.specs.Slices.{Lent, lent, view, flat}
 use Rattle.layout.specs.Outcomes.{judge, Left, left, leftBy}
@@ -25,6 +24,7 @@ use Rattle.layout.specs.inner.Needs.{Standing}
 use Rattle.layout.proofs.Lengths.{standing-of}
 use Rattle.layout.proofs.Flatten.{lent-is}
 use Rattle.layout.proofs.Judged.{judge-rest, judge-told, left-refused, left-done, left-by}
+use Rattle.univmon.specs.declared.Kind.{Kind}
 use Rattle.univmon.specs.Updates.{modeOf, firstSent, manySent, bottomBy, sentTests, updateTests, updated, addsAt, layersTests}
 use Rattle.univmon.specs.Calls.{updateCall, placeTests, lentUpdateCall}
 use Rattle.univmon.proofs.Touched.{sent-room}

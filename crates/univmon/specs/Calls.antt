@@ -13,10 +13,10 @@ use Rattle.header.specs.declared.Answered.{Answered}
 use Rattle.header.specs.Shape.{maxLayers, shapeRefusal}
 use Rattle.header.specs.Totals.{setWeight}
 use Rattle.header.specs.Header.{zeroHeader, withTotals, withMode, withFlags, settled, clash, headerOk}
-use Rattle.univmon.specs.declared.Kind.{Kind}
-use Rattle.univmon.specs.Updates.{updateTests, updated}
 use Rattle.layout.specs.Slices.{Lent, lent, lengthsOk, view, flat, freshLent}
 use Rattle.layout.specs.Outcomes.{Outcome, judge, Left, left, lentTests}
+use Rattle.univmon.specs.declared.Kind.{Kind}
+use Rattle.univmon.specs.Updates.{updateTests, updated}
 
 -- ---- the calls
 

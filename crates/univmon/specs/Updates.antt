@@ -8,14 +8,14 @@ use Rattle.header.specs.declared.Mode.the-variants as mode
 use Rattle.header.specs.Shape.{bottomOf}
 use Rattle.header.specs.Totals.{updateTotals}
 use Rattle.header.specs.Header.{scalarsOf, begun, beginTests}
+use Rattle.header.specs.declared.Shape.{Shape}
 use Rattle.layer.specs.Layer.{Layer, LayerUpdate, layerUpdate, addLayer, addReads, addFits}
-use Rattle.univmon.specs.declared.Kind.{Kind}
-use Rattle.univmon.specs.declared.Kind.the-variants as kind
 use Rattle.layout.specs.State.{State, shapeOf, dimsAt, overLayers, allLayers, withHead}
 use Rattle.layout.specs.Slices.{Lent, view}
 use Rattle.layout.specs.Records.{bottomWord, itemAt}
 use Rattle.layout.specs.Outcomes.{recordTests}
-use Rattle.header.specs.declared.Shape.{Shape}
+use Rattle.univmon.specs.declared.Kind.{Kind}
+use Rattle.univmon.specs.declared.Kind.the-variants as kind
 
 -- the update as layer l sees it
 abbrev pub layerUpdateAt : List ℕ → ℕ → ℕ → LayerUpdate

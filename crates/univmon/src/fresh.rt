@@ -9,8 +9,8 @@ ghost use mathlib.Core.Path.{_≡_};
 ghost use lib.ListN.{length, replicate};
 ghost use lib.IntN.{pos};
 ghost use Rattle.layout.specs.Outcomes.{left, leftAfter};
-ghost use Rattle.univmon.specs.Calls.{newCall, clearCall};
 ghost use Rattle.layout.specs.Lending.{lentIn, lentOut};
+ghost use Rattle.univmon.specs.Calls.{newCall, clearCall};
 
 fn zero_all(counters: &mut [i64], norms: &mut [u64], entries: &mut [u64], counts: &mut [i64])
     ensures { λ _. ⌜ now (counters .exit) ≡ replicate (length (now (counters .entry))) (pos 0) ⌝ }

@@ -10,12 +10,12 @@ ghost use mathlib.Core.Path.{_≡_};
 ghost use mathlib.Core.Bool.{Bool, true};
 ghost use Prim.Native.Nat.{ℕ, _+_, _<_};
 ghost use Rattle.words.specs.Tests.{number};
+ghost use Rattle.header.specs.Lending.{headIn, headNow};
 ghost use Rattle.layout.specs.State.{layerAt, allLayers};
 ghost use Rattle.layout.specs.Slices.{view};
+ghost use Rattle.layout.specs.Lending.{lentIn, lentNow};
 ghost use Rattle.univmon.specs.inner.Needs.{JudgeReady, readyAt};
 ghost use Rattle.univmon.specs.Updates.{readsAt, layersTests};
-ghost use Rattle.header.specs.Lending.{headIn, headNow};
-ghost use Rattle.layout.specs.Lending.{lentIn, lentNow};
 
 // Whether one layer is ready for the update.
 fn ready_at(

@@ -8,11 +8,11 @@ use header::AnsweredLent;
 use header::Scalars;
 ghost use mathlib.Core.Path.{_≡_};
 ghost use Prim.Native.Nat.{ℕ};
-ghost use Rattle.univmon.specs.declared.Kind.the-variants as kind;
-ghost use Rattle.layout.specs.Outcomes.{left, leftAfter};
-ghost use Rattle.univmon.specs.Calls.{lentUpdateCall};
 ghost use Rattle.header.specs.Lending.{headIn, headOut};
+ghost use Rattle.layout.specs.Outcomes.{left, leftAfter};
 ghost use Rattle.layout.specs.Lending.{lentIn, lentOut};
+ghost use Rattle.univmon.specs.declared.Kind.the-variants as kind;
+ghost use Rattle.univmon.specs.Calls.{lentUpdateCall};
 
 // An update of either kind, on any arguments.
 fn update_lent(

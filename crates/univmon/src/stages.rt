@@ -12,11 +12,11 @@ ghost use Prim.Native.Nat.{ℕ, _≤_};
 ghost use lib.IntN.{natAbs};
 ghost use Rattle.words.specs.Num.{top};
 ghost use Rattle.words.specs.Tests.{number};
-ghost use Rattle.univmon.specs.Updates.{modeOf, firstSent};
-ghost use Rattle.layout.specs.Outcomes.{left};
-ghost use Rattle.univmon.specs.inner.Needs.{JudgeReady, KeyReady, soundTests, sentBy, keySent, sentAfter};
 ghost use Rattle.header.specs.Lending.{headIn, headNow, headOut};
+ghost use Rattle.layout.specs.Outcomes.{left};
 ghost use Rattle.layout.specs.Lending.{lentIn, lentNow, lentOut};
+ghost use Rattle.univmon.specs.Updates.{modeOf, firstSent};
+ghost use Rattle.univmon.specs.inner.Needs.{JudgeReady, KeyReady, soundTests, sentBy, keySent, sentAfter};
 
 pub fn mode_of(kind: Kind) -> Mode
     ensures { λ r. ⌜ r ≡ modeOf kind ⌝ }

@@ -7,15 +7,15 @@ use layout::span_of;
 ghost use mathlib.Core.Path.{_≡_};
 ghost use mathlib.Core.Bool.{Bool};
 ghost use Prim.Native.Nat.{ℕ, _+_};
+ghost use Rattle.header.specs.Lending.{headIn, headNow, headOut};
 ghost use Rattle.layer.specs.Layer.{addLayer, layerUpdate};
 ghost use Rattle.layout.specs.State.{dimsAt, layerAt, putLayer, overLayers};
 ghost use Rattle.layout.specs.Slices.{view};
 ghost use Rattle.layout.specs.Records.{itemAt};
 ghost use Rattle.layout.specs.inner.Needs.{Standing};
+ghost use Rattle.layout.specs.Lending.{lentIn, lentNow, lentOut};
 ghost use Rattle.univmon.specs.inner.Needs.{SendReady, SendsReady};
 ghost use Rattle.univmon.specs.Updates.{addsAt};
-ghost use Rattle.header.specs.Lending.{headIn, headNow, headOut};
-ghost use Rattle.layout.specs.Lending.{lentIn, lentNow, lentOut};
 
 // Sends an update to one layer.
 fn send_one(

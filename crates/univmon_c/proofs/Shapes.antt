@@ -5,10 +5,10 @@ use mathlib.Core.List.{List, [], _∷_, _++_}
 use Prim.Native.Nat.{ℕ, zero, suc}
 use lib.IntN.{ℤ}
 use Rattle.layer.specs.Layer.{Layer}
-use Rattle.univmon.specs.declared.Kind.{Kind}
 use Rattle.layout.specs.State.{State, layerAt, putLayer, overLayers}
 use Rattle.layout.specs.Slices.{Lent, view, flat}
 use Rattle.layout.specs.Outcomes.{Outcome, judge, leftBy}
+use Rattle.univmon.specs.declared.Kind.{Kind}
 use Rattle.univmon.specs.Updates.{updateTests, updated}
 use Rattle.univmon.specs.Calls.{placeTests, lentUpdateCall}
 

@@ -9,13 +9,13 @@ use Rattle.header.specs.declared.Shape.{Shape}
 use Rattle.header.specs.declared.Header.{Header}
 use Rattle.header.specs.declared.Answered.{Answered}
 use Rattle.layout.specs.Slices.{Lent}
-use Rattle.univmon.specs.declared.Kind.{Kind}
 use Rattle.layout.specs.Outcomes.{Outcome, Left, left, leftBy}
+use Rattle.univmon.specs.declared.Kind.{Kind}
 use Rattle.univmon.specs.Calls.{lentUpdateCall}
-use Rattle.univmon_c.proofs.Shapes.{update-shape}
 use Rattle.estimates.specs.declared.Answer.{Answer}
 use Rattle.estimates.specs.declared.PanelAnswer.{PanelAnswer}
 use Rattle.estimates.specs.Calls.{refusedBy, noPanel}
+use Rattle.univmon_c.proofs.Shapes.{update-shape}
 use Rattle.univmon_c.specs.declared.CHeader.{CHeader}
 use Rattle.univmon_c.specs.Crossing.{modeNumber, headerOf, cAnswered, cAnswer, cPanel}
 use Rattle.univmon_c.specs.Calls.{CLent, cLent, lentOf, ofLent, cLeft, crossed, changeBy, mergeBy, headBy, answerBy, panelBy, checkBy}

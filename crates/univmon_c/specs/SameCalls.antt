@@ -5,9 +5,9 @@ use mathlib.Core.Bool.{true}
 use mathlib.Core.List.{List}
 use Prim.Native.Nat.{ℕ}
 use lib.IntN.{ℤ}
-use Rattle.univmon.specs.declared.Kind.{Kind}
 use Rattle.layout.specs.Slices.{Lent}
 use Rattle.layout.specs.Outcomes.{leftBy}
+use Rattle.univmon.specs.declared.Kind.{Kind}
 use Rattle.univmon.specs.Calls.{updateCall, lentUpdateCall}
 use Rattle.univmon_merge.specs.Merges.{mergeCall}
 use Rattle.univmon_c.specs.Calls.{lentOf, ofLent, crossed, changeBy, mergeBy}

@@ -22,10 +22,10 @@ use Rattle.layout.specs.declared.Span.{Span}
 use Rattle.layout.specs.State.{dimsAt}
 use Rattle.layout.specs.Slices.{Lent}
 use Rattle.layout.specs.Records.{itemAt}
-use Rattle.univmon_delta.specs.Deltas.{deltaTestsAt}
-use Rattle.univmon_delta.specs.inner.Needs.{Arrives}
 use Rattle.layout.proofs.Views.{shapeBy}
 use Rattle.layout.proofs.Handed.{Spanned, cellPart, normPart, wordPart, seatPart, housed, word-length, handed-is}
+use Rattle.univmon_delta.specs.Deltas.{deltaTestsAt}
+use Rattle.univmon_delta.specs.inner.Needs.{Arrives}
 
 -- ---- the two tests of a layer
 

@@ -9,12 +9,12 @@ use Rattle.header.specs.declared.Shape.{Shape}
 use Rattle.layer.specs.declared.Dims.{Dims}
 use Rattle.layer.specs.Layer.{Layer}
 use Rattle.layer.specs.Delta.{Delta, deltaLayer, deltaReads, deltaFits}
-use Rattle.univmon_delta.specs.declared.Fidelity.{Fidelity}
-use Rattle.univmon_delta.specs.declared.Fidelity.the-variants as fidelity
 use Rattle.layout.specs.State.{State, shapeOf, rowsAt, colsAt, dimsAt, layerAt, putLayer, withHead}
 use Rattle.layout.specs.Records.{itemAt}
 use Rattle.layout.specs.Slices.{Lent, view, flat}
 use Rattle.layout.specs.Outcomes.{Outcome, judge, recordTests}
+use Rattle.univmon_delta.specs.declared.Fidelity.{Fidelity}
+use Rattle.univmon_delta.specs.declared.Fidelity.the-variants as fidelity
 
 -- the arguments of a delta: "layer, row or column", count, and whether every insert was promoted
 pub record Arrival : Type 0 where

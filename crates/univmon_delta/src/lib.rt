@@ -18,15 +18,15 @@ ghost use Rattle.words.specs.Tests.{number};
 ghost use Rattle.heap.specs.Offer.{keptBy};
 ghost use Rattle.layer.specs.Delta.{deltaLayer};
 ghost use Rattle.layer.specs.inner.Needs.{delta};
-ghost use Rattle.univmon_delta.specs.declared.Fidelity.{Fidelity};
 ghost use Rattle.layout.specs.State.{dimsAt, layerAt, putLayer};
 ghost use Rattle.layout.specs.Slices.{view};
 ghost use Rattle.layout.specs.Records.{itemAt};
-ghost use Rattle.univmon_delta.specs.Deltas.{everyInsert, deltaTestsAt, deltaTests, deltaCall, arrival};
 ghost use Rattle.layout.specs.Outcomes.{left, leftAfter};
 ghost use Rattle.layout.specs.inner.Needs.{Standing};
-ghost use Rattle.univmon_delta.specs.inner.Needs.{Placed, Arrives};
 ghost use Rattle.layout.specs.Lending.{lentIn, lentNow, lentOut};
+ghost use Rattle.univmon_delta.specs.declared.Fidelity.{Fidelity};
+ghost use Rattle.univmon_delta.specs.Deltas.{everyInsert, deltaTestsAt, deltaTests, deltaCall, arrival};
+ghost use Rattle.univmon_delta.specs.inner.Needs.{Placed, Arrives};
 
 // How much of the stream reached a relay that is fed by deltas.
 pub enum Fidelity {

@@ -16,10 +16,10 @@ use Rattle.layer.specs.Layer.{Layer}
 use Rattle.layout.specs.State.{layerAt, overLayers, allLayers}
 use Rattle.layout.specs.Slices.{Lent, lent, view, flat}
 use Rattle.layout.specs.Outcomes.{left, leftBy, lentTests}
-use Rattle.univmon_merge.specs.Merges.{headsTests, pairTests, mergeTests, merged, mergeCall}
-use Rattle.univmon_merge.specs.inner.Pairs.{Paired, MergesReady, readsWith, fitsWith, mergesWith}
 use Rattle.layout.proofs.Judged.{left-refused, left-done}
 use Rattle.layout.proofs.Lengths.{stands-of}
+use Rattle.univmon_merge.specs.Merges.{headsTests, pairTests, mergeTests, merged, mergeCall}
+use Rattle.univmon_merge.specs.inner.Pairs.{Paired, MergesReady, readsWith, fitsWith, mergesWith}
 
 -- ---- the headers
 

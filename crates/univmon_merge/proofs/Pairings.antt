@@ -13,9 +13,9 @@ use Rattle.layer.proofs.Merges.{merge-lengths}
 use Rattle.layout.specs.State.{State, dimsAt, layerAt, putLayer, overLayers, allLayers}
 use Rattle.layout.specs.Slices.{Lent, view}
 use Rattle.layout.specs.inner.Needs.{Standing}
-use Rattle.univmon_merge.specs.inner.Pairs.{Paired, PairRead, PairsRead, MergeReady, MergesReady, readsWith, fitsWith, mergesWith}
 use Rattle.layout.proofs.States.{at-fits, all-later}
 use Rattle.layout.proofs.Lengths.{long-view}
+use Rattle.univmon_merge.specs.inner.Pairs.{Paired, PairRead, PairsRead, MergeReady, MergesReady, readsWith, fitsWith, mergesWith}
 
 -- ---- the tests
 

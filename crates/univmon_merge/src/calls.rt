@@ -5,8 +5,8 @@ use header::Answered;
 use header::Header;
 ghost use mathlib.Core.Path.{_≡_};
 ghost use Rattle.layout.specs.Outcomes.{left, leftAfter};
-ghost use Rattle.univmon_merge.specs.Merges.{mergeCall};
 ghost use Rattle.layout.specs.Lending.{lentIn, lentOut};
+ghost use Rattle.univmon_merge.specs.Merges.{mergeCall};
 
 // A second state merged into a first: 9, 10, 6, 7, 9, 11.
 pub fn merge(

@@ -8,9 +8,9 @@ ghost use mathlib.Core.Path.{_≡_};
 ghost use Rattle.words.specs.Tests.{number};
 ghost use Rattle.layout.specs.State.{layerAt, allLayers};
 ghost use Rattle.layout.specs.Slices.{view};
+ghost use Rattle.layout.specs.Lending.{lentIn, lentNow};
 ghost use Rattle.univmon_merge.specs.Merges.{headsTests, pairTests, mergeTests};
 ghost use Rattle.univmon_merge.specs.inner.Pairs.{Paired, PairRead, PairsRead, readsWith, fitsWith};
-ghost use Rattle.layout.specs.Lending.{lentIn, lentNow};
 
 // Whether what a merge reads of one layer of both states is in range.
 fn reads_at(

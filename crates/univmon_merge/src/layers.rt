@@ -11,8 +11,8 @@ ghost use lib.Dec.{leb};
 ghost use Rattle.layout.specs.State.{layerAt, putLayer, overLayers};
 ghost use Rattle.layout.specs.Slices.{view};
 ghost use Rattle.layout.specs.inner.Needs.{Standing};
-ghost use Rattle.univmon_merge.specs.inner.Pairs.{MergeReady, MergesReady, mergesWith};
 ghost use Rattle.layout.specs.Lending.{lentIn, lentNow, lentOut};
+ghost use Rattle.univmon_merge.specs.inner.Pairs.{MergeReady, MergesReady, mergesWith};
 
 // Whether no key was lost: the other layer's flag, and a seat for every distinct key.
 fn seated(flag: bool, keys: usize, size: usize) -> bool

@@ -6,11 +6,11 @@ use mathlib.Core.List.{List}
 use lib.ListN.{length, set}
 use lib.IntN.{ℤ, pos, natAbs, _+ℤ_}
 use Rattle.words.specs.Num.{top, squareCap, capped, wordSize}
+use Rattle.float64.specs.Norm.{normTop}
 use Rattle.matrix_storage.specs.Bits.{maxRows, maxCols, signed}
 use Rattle.matrix_storage.specs.inner.Shaped.{Shaped}
 use Rattle.countsketch_l2_norm.specs.Norms.{normAt, normsOf}
 use Rattle.countsketch_l2_norm.specs.Sketch.{cellOf, cellAt, cellRead, cellFits, rowsRead, rowsFit, Sketch}
-use Rattle.float64.specs.Norm.{normTop}
 
 -- the sketch of the slices
 abbrev pub sketchOf : List ℤ → List ℕ → ℕ → Sketch

@@ -5,19 +5,28 @@ use mathlib.Core.Bool.{true, false, Bool}
 use mathlib.Core.List.{List}
 use lib.ListN.{length, replicate}
 use lib.IntN.{ℤ, pos}
+use denote.Ref.{now}
 use Rattle.words.specs.Num.{top}
+use Rattle.words.specs.Lending.{SliceBoth}
 use Rattle.matrix_storage.specs.inner.Shaped.{Shaped}
+use Rattle.countsketch_l2_norm.specs.inner.Needs.{sketchOf}
 use Rattle.heap_moves.specs.declared.Item.{Item}
 use Rattle.heap_moves.specs.Cands.{mostCands}
+use Rattle.heap.specs.inner.Slices.{tableOf}
 use Rattle.layer.specs.declared.Dims.{Dims}
 use Rattle.layer.specs.Layer.{Layer, layerUpdate, addReads, addFits, noTable}
 use Rattle.layer.specs.Delta.{deltaReads, deltaFits, Delta}
-use Rattle.heap.specs.inner.Slices.{tableOf}
-use Rattle.countsketch_l2_norm.specs.inner.Needs.{sketchOf}
 
 -- the layer that stands in four slices
 abbrev pub layerOf : Dims → List ℤ → List ℕ → List ℕ → List ℤ → ℕ → Bool → Layer
 layerOf d xs ws es ns len flag = record { sketch = sketchOf xs ws (d .rows); table = tableOf es ns len; flag = flag }
+
+-- in a contract: of the slices that a function is lent, at its entry and at its exit
+abbrev pub layerIn : Dims → SliceBoth ℤ → SliceBoth ℕ → SliceBoth ℕ → SliceBoth ℤ → ℕ → Bool → Layer
+layerIn d xs ws es ns len flag = layerOf d (now (xs .entry)) (now (ws .entry)) (now (es .entry)) (now (ns .entry)) len flag
+
+abbrev pub layerOut : Dims → SliceBoth ℤ → SliceBoth ℕ → SliceBoth ℕ → SliceBoth ℤ → ℕ → Bool → Layer
+layerOut d xs ws es ns len flag = layerOf d (now (xs .exit)) (now (ws .exit)) (now (es .exit)) (now (ns .exit)) len flag
 
 -- a layer with nothing counted
 unfoldable pub noLayer : Dims → Layer

@@ -1,4 +1,4 @@
--- How long the four slices are, and where a layer stands in them.
+-- Where a layer stands in the four slices.
 use Prim.Native.Nat.{ℕ, _+_, _*_}
 use Rattle.header.specs.declared.Shape.{Shape}
 use Rattle.layout.specs.declared.Span.{Span}

@@ -11,12 +11,12 @@ use Rattle.header.specs.declared.Shape.{Shape}
 use Rattle.header.specs.declared.Header.{Header}
 use Rattle.header.specs.Header.{Headed}
 use Rattle.layer.specs.Layer.{Layer, addReads, addFits, layerUpdate}
-use Rattle.univmon.specs.declared.Kind.{Kind}
 use Rattle.layout.specs.State.{dimsAt, layerAt, allLayers, overLayers}
 use Rattle.layout.specs.Slices.{Lent, view, flat}
 use Rattle.layout.specs.Records.{recordLength, itemAt}
 use Rattle.layout.specs.inner.Needs.{Standing}
 use Rattle.layout.specs.Outcomes.{Left, leftBy, judge, sizeTests, recordTest}
+use Rattle.univmon.specs.declared.Kind.{Kind}
 use Rattle.univmon.specs.Updates.{readsAt, fitsAt, addsAt, firstSent, manySent, bottomBy, layersTests, sentTests}
 use Rattle.univmon.specs.Calls.{placeTests}
 
