@@ -15,6 +15,7 @@
 #include <unistd.h>
 
 #include "univmon.h"
+#include "mixed.h"
 
 enum { MOST = 128 << 10, ROOM = 1 << 20, HEAP = UNIVMON_MAX_HEAP_SIZE, LAYERS = UNIVMON_MAX_LAYERS, TURNS = 6 };
 
@@ -92,13 +93,6 @@ static int turn;
     (s).counters, UNIVMON_COUNTERS(shape.rows, shape.cols, LAYERS), (s).norms, UNIVMON_NORMS(shape.rows, LAYERS), \
         (s).entries, UNIVMON_ENTRIES(HEAP, LAYERS), (s).counts, UNIVMON_COUNTS(HEAP, LAYERS)
 #define RECORD record, UNIVMON_RECORD(LAYERS)
-
-static uint64_t mixed(uint64_t key, uint64_t seed) {
-    uint64_t z = key + (seed + 1) * UINT64_C(0x9E3779B97F4A7C15);
-    z = (z ^ (z >> 30)) * UINT64_C(0xBF58476D1CE4E5B9);
-    z = (z ^ (z >> 27)) * UINT64_C(0x94D049BB133111EB);
-    return z ^ (z >> 31);
-}
 
 /* The record of a key whose bottom is this layer: bits 1 to it are 1, the next is 0. */
 static void set_record(uint64_t key, uint64_t bottom) {

@@ -5,6 +5,7 @@
 #include <stdlib.h>
 
 #include "univmon.h"
+#include "../mixed.h"
 
 enum { HEAP = 1024, ROWS = 5, COLS = 2048, LAYERS = 8, UPDATES = 5000, KEYS = 2000 };
 
@@ -22,13 +23,6 @@ static size_t heap;
 #define SLICES(s) \
     (s)->counters, UNIVMON_COUNTERS(ROWS, COLS, LAYERS), (s)->norms, UNIVMON_NORMS(ROWS, LAYERS), \
         (s)->entries, UNIVMON_ENTRIES(heap, LAYERS), (s)->counts, UNIVMON_COUNTS(heap, LAYERS)
-
-static uint64_t mixed(uint64_t key, uint64_t seed) {
-    uint64_t z = key + (seed + 1) * UINT64_C(0x9E3779B97F4A7C15);
-    z = (z ^ (z >> 30)) * UINT64_C(0xBF58476D1CE4E5B9);
-    z = (z ^ (z >> 27)) * UINT64_C(0x94D049BB133111EB);
-    return z ^ (z >> 31);
-}
 
 static void must(uint64_t refusal, uint64_t expected, const char *what) {
     if (refusal != expected) {

@@ -10,6 +10,7 @@
 #include <time.h>
 
 #include "univmon.h"
+#include "../mixed.h"
 
 enum { HEAP = 1024, ROWS = 20, COLS = 32, LAYERS = 19, TURNS = 20 };
 
@@ -21,13 +22,6 @@ static int64_t counts[UNIVMON_COUNTS(HEAP, LAYERS)];
 #define ALL \
     counters, UNIVMON_COUNTERS(ROWS, COLS, LAYERS), norms, UNIVMON_NORMS(ROWS, LAYERS), \
         entries, UNIVMON_ENTRIES(HEAP, LAYERS), counts, UNIVMON_COUNTS(HEAP, LAYERS)
-
-static uint64_t mixed(uint64_t key, uint64_t seed) {
-    uint64_t z = key + (seed + 1) * UINT64_C(0x9E3779B97F4A7C15);
-    z = (z ^ (z >> 30)) * UINT64_C(0xBF58476D1CE4E5B9);
-    z = (z ^ (z >> 27)) * UINT64_C(0x94D049BB133111EB);
-    return z ^ (z >> 31);
-}
 
 static double seconds(void) {
     struct timespec t;
