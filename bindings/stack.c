@@ -151,12 +151,13 @@ static void run_update_weighted_terminal(void) {
 static void keep_step(univmon_step s) {
     refusal = s.refusal;
     one.header.weight = s.weight;
+    one.header.updates = s.updates;
     one.header.mode = s.mode;
 }
 
 #define LENT \
-    (univmon_shape){HEAP, shape.rows, shape.cols, LAYERS}, one.header.weight, one.header.mode, one.header.lens, \
-        UNIVMON_MAX_LAYERS, one.header.flags, UNIVMON_MAX_LAYERS, ALL(one)
+    (univmon_shape){HEAP, shape.rows, shape.cols, LAYERS}, one.header.weight, one.header.updates, one.header.mode, \
+        one.header.lens, UNIVMON_MAX_LAYERS, one.header.flags, UNIVMON_MAX_LAYERS, ALL(one)
 
 static void run_update_weighted_lent(void) {
     keep_step(univmon_update_weighted_lent(LENT, RECORD, weight));

@@ -29,7 +29,7 @@ def read(line):
         if max(n) >= 1 << 64:
             return refused
         flags = "".join(f" {n[3] >> i & 1}" for i in range(19))
-        return "(ok) %d %d %d %d\n" % tuple(n) + "(show (l1 %016X) (l2 %016X) (keys %016X) (flags" % tuple(n[:3]) + flags + "))\n"
+        return "(ok) %d %d %d %d\n" % tuple(n) + "(show (l1 %016X) (l2 %016X) (keys %016X) (flags" % tuple(n[:3]) + flags + ") (updates %d))\n" % n[3]
     m = ADD.fullmatch(line)
     if m:
         key, weight = int(m.group(1)), int(m.group(2))

@@ -1,6 +1,6 @@
-"""Document 01's words once more, on slices: what every call answers and leaves, refusals included.
+"""Document 01's words once more, and 02's as far as they have landed, on slices: what every call answers and leaves, refusals included.
 
-The stored results of `replay` come from here wherever the oracle cannot be asked (refusals 4, 7, 9, 11, 12, states set by hand);
+The stored results of `replay` come from here wherever the oracle cannot be asked (refusals 4, 7, 9, 11, 12, 14, the number of updates, states set by hand);
 everything else is held against the oracle, call by call (`replay.py`).
 """
 import math
@@ -8,6 +8,7 @@ import struct
 
 TOP, CAP, MASK, PRIME = 1 << 52, 1 << 63, (1 << 64) - 1, 4294967291
 UNSET, STANDARD, TERMINAL = 0, 1, 2
+HEAD_WORDS = 45  # heap, rows, cols, layers, weight, updates, mode, 19 flags, 19 lengths
 
 
 def bits(x):
@@ -53,13 +54,13 @@ class Relay:
     """a header and four slices, as they are lent"""
 
     def __init__(self):
-        self.shape, self.weight, self.mode = [0, 0, 0, 0], 0, UNSET  # heap, rows, cols, layers
+        self.shape, self.weight, self.updates, self.mode = [0, 0, 0, 0], 0, 0, UNSET  # heap, rows, cols, layers
         self.flags, self.lens = [False] * 19, [0] * 19
         self.counters, self.norms, self.entries, self.counts = [], [], [], []
 
     def copy(self):
         r = Relay()
-        r.shape, r.weight, r.mode, r.flags, r.lens = list(self.shape), self.weight, self.mode, list(self.flags), list(self.lens)
+        r.shape, r.weight, r.updates, r.mode, r.flags, r.lens = list(self.shape), self.weight, self.updates, self.mode, list(self.flags), list(self.lens)
         r.counters, r.norms, r.entries, r.counts = list(self.counters), list(self.norms), list(self.entries), list(self.counts)
         return r
 
@@ -71,7 +72,7 @@ class Relay:
 
     def sound(self):
         heap, _, _, layers = self.shape
-        if shape_refusal(*self.shape) or self.weight > TOP:
+        if shape_refusal(*self.shape) or self.weight > TOP or self.updates > TOP:
             return False
         if any(n > heap for n in self.lens[:layers]) or any(self.lens[layers:]) or any(self.flags[layers:]):
             return False
@@ -182,7 +183,7 @@ class Relay:
         fresh.shape = [heap, rows, cols, layers]
         if not n and [len(self.counters), len(self.norms), len(self.entries), len(self.counts)] != fresh.lengths():
             n = 9
-        self.shape, self.weight, self.mode = [0] * 4 if n else [heap, rows, cols, layers], 0, UNSET
+        self.shape, self.weight, self.updates, self.mode = [0] * 4 if n else [heap, rows, cols, layers], 0, 0, UNSET
         self.flags, self.lens = [not n and l < layers for l in range(19)], [0] * 19
         if not n:
             self.zero()
@@ -212,13 +213,15 @@ class Relay:
             return 6
         if self.weight + w > TOP:
             return 7
+        if self.updates + 1 > TOP:
+            return 14
         b = bottom_layer(words[1], self.shape[3])
         sent = [(l, self.places(l, self.hash(words, l))) for l in range(0 if mode == STANDARD else b, b + 1)]
         if not all(self.counts_read(l) and all(self.read(l, r, at) for r, at, _ in places) for l, places in sent):
             return 9
         if any(abs(self.counters[at] + s * w) > TOP for _, places in sent for _, at, s in places):
             return 11
-        self.mode, self.weight = mode, self.weight + w
+        self.mode, self.weight, self.updates = mode, self.weight + w, self.updates + 1
         for l, places in sent:
             for r, at, s in places:
                 self.add(l, r, at, s * w)
@@ -277,13 +280,15 @@ class Relay:
             return 6
         if self.weight + o.weight > TOP:
             return 7
+        if self.updates + o.updates > TOP:
+            return 14
         heap, rows, cols, layers = self.shape
         if any(abs(x) > TOP for x in self.counters + o.counters) or not all(r.counts_read(l) for r in (self, o) for l in range(layers)):
             return 9
         if any(abs(x + y) > TOP for x, y in zip(self.counters, o.counters)):
             return 11
         self.counters = [x + y for x, y in zip(self.counters, o.counters)]
-        self.weight, self.mode = self.weight + o.weight, self.mode or o.mode
+        self.weight, self.updates, self.mode = self.weight + o.weight, self.updates + o.updates, self.mode or o.mode
         for l in range(layers):
             for r in range(rows):
                 self.put_norm(l, r, sum(capped(x) for x in self.counters[self.at(l, r, 0):self.at(l, r, 0) + cols]))
@@ -392,8 +397,8 @@ class Relay:
     # ---- what a reader compares
 
     def words(self):
-        """the header as 44 words"""
-        return self.shape + [self.weight, self.mode] + [int(f) for f in self.flags] + self.lens
+        """the header as words"""
+        return self.shape + [self.weight, self.updates, self.mode] + [int(f) for f in self.flags] + self.lens
 
     def digest(self):
         d = 0
@@ -402,7 +407,7 @@ class Relay:
         return d
 
     def text(self):
-        """the oracle's line for this state"""
+        """the oracle's line for this state; the number of updates is not in it, since the original has none"""
         heap, rows, cols, layers = self.shape
         out = "state weight=%d mode=%d flags=%s" % (self.weight, self.mode, "".join("01"[f] for f in self.flags[:layers]))
         for l in range(layers):

@@ -84,7 +84,7 @@ class Panel:
         held_to_oracle(shape, n)
         if n:
             return f"(refused {n})"
-        self.shape, self.weight, self.made = shape, 0, self.made + 1
+        self.shape, self.weight, self.updates, self.made = shape, 0, 0, self.made + 1
         assert oracle.ask(f"new r{self.made} " + " ".join(map(str, shape))) == "ok"
         return "(ok)"
 
@@ -97,7 +97,7 @@ class Panel:
             return "(refused 5)"
         if self.weight + weight > TOP:
             return "(refused 7)"
-        self.weight += weight
+        self.weight, self.updates = self.weight + weight, self.updates + 1
         words = " ".join([bottom] + [h.decode() for h in halves])
         assert oracle.ask(f"force {key} {words}") == "ok"
         assert oracle.ask(f"std r{self.made} {key} {weight}") == "ok"
@@ -109,7 +109,7 @@ class Panel:
         l1, l2, keys = (oracle.ask(f"{what} r{self.made}") for what in ("l1", "l2", "card"))
         flags = re.search(r"flags=([01]+)", oracle.ask(f"state r{self.made}")).group(1)
         assert len(flags) == self.shape[3]
-        return f"(show (l1 {l1}) (l2 {l2}) (keys {keys}) (flags {' '.join(flags)}))"
+        return f"(show (l1 {l1}) (l2 {l2}) (keys {keys}) (flags {' '.join(flags)}) (updates {self.updates}))"
 
 
 panel, lines, answers = Panel(), [], []
@@ -127,9 +127,9 @@ def own(key, weight):
     return oracle.ask(f"panel r{panel.made} {key} {weight}").encode()
 
 
-# 01's sample, byte for byte
+# 01's sample, byte for byte, with the form that 02 adds
 put(b"(shape 2 2 4 2)", b"(add 7 5 0000000000000000 (8000000000000000 0000000000000006) (0000000000000000 0000000000000000))", b"(show)")
-assert answers == ["(ok)", "(ok)", "(show (l1 4014000000000000) (l2 4014000000000000) (keys 3FF0000000000000) (flags 1 1))"]
+assert answers == ["(ok)", "(ok)", "(show (l1 4014000000000000) (l2 4014000000000000) (keys 3FF0000000000000) (flags 1 1) (updates 1))"]
 
 Z, P = b"0000000000000000", b" (8000000000000000 0000000000000006)"
 Q = b" (" + Z + b" " + Z + b")"
@@ -197,7 +197,7 @@ stream((512, 1, 4096, 1), 60, 30, [1], 20)
 stream((1, 20, 10, 19), 60, 30, [1, 3], 10)
 stream((8, 4, 5, 4), 80, 40, [1 << 40, (1 << 45) - 1, 3037000499, 3037000500, 1], 10)
 stream((1, 1, 1, 1), 20, 3, [1, 2], 5)
-# far more bytes of answers than of lines, and than the program writes at once: shows of 19 layers, 121 bytes each, with adds between
+# far more bytes of answers than of lines, and than the program writes at once: shows of 19 layers, 133 bytes each, with adds between
 put(b"(shape 26 2 8 19)")
 for i in range(400):
     put(b"(show)" if i % 50 else own(i, 1))

@@ -6,13 +6,14 @@ and equal bottom hash in terminal mode. The sign of a zero is not compared.
 """
 import random
 
-from model import CAP, G, MASK, STANDARD, TERMINAL, TOP, Relay, bits, bottom_layer, cell, mask_bits, shape_refusal
+from model import CAP, G, HEAD_WORDS, MASK, STANDARD, TERMINAL, TOP, Relay, bits, bottom_layer, cell, mask_bits, shape_refusal
 from vectors import oracle, store
 
 rng = random.Random(6)
 EDGE = 3037000499  # the greatest number whose square stays below 2^63
 inputs, answers, script = [], [], []
 ROOM = (12288, 760, 8192, 2048)
+WEIGHT, UPDATES, MODE, FLAGS, LENS = 4, 5, 6, 7, 26  # places in the header's words
 
 
 def call(op, numbers, expected=()):
@@ -91,7 +92,7 @@ def lent(r, lengths):
     """so much of each slice is lent; what is new in it is zero"""
     slices = [r.counters, r.norms, r.entries, r.counts]
     for k, n in enumerate(lengths):
-        call(10, [0, 44 + k, n])
+        call(10, [0, HEAD_WORDS + k, n])
         for i in range(len(slices[k]), n):
             call(10, [k + 1, i, 0])
             slices[k].append(0)
@@ -107,7 +108,7 @@ def fresh(i, heap, rows, cols, layers):
     r.shape = shape
     for k, n in enumerate(r.lengths()):
         assert n <= ROOM[k], shape
-        call(10, [0, 44 + k, n])
+        call(10, [0, HEAD_WORDS + k, n])
     r.zero()
     assert r.new(*shape) == 0
     call(1, shape, left(r, 0))
@@ -200,7 +201,7 @@ def same(i, j):
     """the program holds two relays against each other"""
     a, b = use(i), shelf[j]
     call(15, [j])
-    agree = (a.shape, a.weight, a.mode, a.flags, a.counters, a.norms) == (b.shape, b.weight, b.mode, b.flags, b.counters, b.norms)
+    agree = (a.words()[:LENS], a.counters, a.norms) == (b.words()[:LENS], b.counters, b.norms)
     call(12, [], [int(agree)])
     return agree
 
@@ -229,12 +230,12 @@ def poke(i, slice, at, x):
         [r.counters, r.norms, r.entries, r.counts][slice - 1][at] = x
     elif at < 4:
         r.shape[at] = x
-    elif at < 6:
-        setattr(r, "weight" if at == 4 else "mode", x)
-    elif at < 25:
-        r.flags[at - 6] = bool(x)
+    elif at < FLAGS:
+        setattr(r, {WEIGHT: "weight", UPDATES: "updates", MODE: "mode"}[at], x)
+    elif at < LENS:
+        r.flags[at - FLAGS] = bool(x)
     else:
-        r.lens[at - 25] = x
+        r.lens[at - LENS] = x
 
 
 def poke_norm(i, at, n):
@@ -549,7 +550,7 @@ for mode in (STANDARD, TERMINAL):
 
 
 # 9 for the header: each word at its bound, and past it
-for at, good, bad in [(4, TOP, TOP + 1), (25, 3, 4), (26, 3, 4), (27, 0, 1), (43, 0, 1), (8, 0, 1), (24, 0, 1), (0, 3, 0), (3, 2, 20), (1, 2, 21), (2, 4, 5000), (0, 3, 2), (3, 2, 1), (1, 2, 1), (2, 4, 3)]:
+for at, good, bad in [(WEIGHT, TOP, TOP + 1), (UPDATES, TOP, TOP + 1), (UPDATES, TOP, MASK), (LENS, 3, 4), (LENS + 1, 3, 4), (LENS + 2, 0, 1), (LENS + 18, 0, 1), (FLAGS + 2, 0, 1), (FLAGS + 18, 0, 1), (0, 3, 0), (3, 2, 20), (1, 2, 21), (2, 4, 5000), (0, 3, 2), (3, 2, 1), (1, 2, 1), (2, 4, 3)]:
     for x in (good, bad):
         prepared()
         poke(1, 0, at, x)
@@ -582,7 +583,8 @@ for mode in (STANDARD, TERMINAL):
 # the state check: each kind of damage once, and each damage undone
 prepared()
 assert check(1)
-for slice, at, bad in [(1, 3, 1), (1, 15, TOP + 1), (2, 0, 1), (2, 7, 1), (4, 1, -1), (4, 5, 1), (3, 23, 1), (3, 20, 1), (0, 25, 2), (0, 26, 3), (0, 8, 1), (0, 27, 1), (0, 4, TOP + 1),
+for slice, at, bad in [(1, 3, 1), (1, 15, TOP + 1), (2, 0, 1), (2, 7, 1), (4, 1, -1), (4, 5, 1), (3, 23, 1), (3, 20, 1), (0, LENS, 2), (0, LENS + 1, 3), (0, FLAGS + 2, 1), (0, LENS + 2, 1),
+                       (0, WEIGHT, TOP + 1), (0, UPDATES, TOP + 1),
                        (0, 0, 2), (0, 3, 20)]:
     r = use(1)
     had = [r.words(), r.counters, r.norms, r.entries, r.counts][slice][at]
@@ -639,14 +641,49 @@ merge(5, 1)
 poke(1, 4, 0, 0)
 merge(5, 1)
 prepared()
-poke(5, 0, 4, TOP)
+poke(5, 0, WEIGHT, TOP)
 merge(5, 1)
-poke(1, 0, 4, 0)
+poke(1, 0, WEIGHT, 0)
 merge(5, 1)
-poke(5, 0, 5, TERMINAL)
+poke(5, 0, MODE, TERMINAL)
 merge(5, 1)
 poke(5, 0, 0, 2)
 merge(5, 1)
+# 14 directly after 7, at both sides of its bound; what does not count is accepted at 2^52
+for mode in (STANDARD, TERMINAL):
+    prepared(mode)
+    assert shelf[1].updates == 3
+    poke(1, 0, UPDATES, TOP - 1)
+    assert update(1, 5, 0, mode) == 0 and shelf[1].updates == TOP and check(1)
+    other = STANDARD + TERMINAL - mode
+    for w, kind, n in ((0, mode, 14), (1, mode, 14), (TOP, mode, 7), (1, other, 6), (-1, other, 5)):
+        assert update(1, 5, w, kind) == n
+    assert delta(1, 0, 0, 0, 1, 5) == 0 and mark(1, 0) == 0 and mark_all(1) == 0 and shelf[1].updates == TOP
+    assert set_weight(1, 1) == (0 if mode == STANDARD else 6) and shelf[1].updates == TOP
+    answer(1)
+    assert clear(1) == 0 and shelf[1].updates == 0
+    prepared(mode)
+    for beyond, have, n in ((1, TOP, 14), (1, TOP - 1, 9), (0, TOP, 14), (0, TOP - 1, 11)):  # 14 before 9 for what is read, and before 11
+        for l in range(2):
+            for _, at, sign in shelf[1].places(l, shelf[1].hash(RECORDS[5], l)):
+                poke(1, 1, at, sign * (TOP + beyond))
+                poke_norm(1, at // 4, 4 * CAP)
+        poke(1, 0, UPDATES, have)
+        assert update(1, 5, 1, mode) == n
+        assert merge(5, 1) == 14
+    for have, n in ((TOP - 3, 0), (TOP - 2, 14), (TOP, 14)):
+        prepared(mode)
+        poke(5, 0, UPDATES, have)
+        assert merge(5, 1) == n and shelf[5].updates == (TOP if n == 0 else have)
+        prepared(mode)
+        poke(1, 0, UPDATES, have)
+        assert merge(5, 1) == n and shelf[5].updates == (TOP if n == 0 else 3)
+    prepared(mode)
+    poke(5, 0, UPDATES, TOP)
+    poke(5, 0, WEIGHT, TOP)
+    assert merge(5, 1) == 7
+    poke(5, 0, MODE, other)
+    assert merge(5, 1) == 6
 
 
 def agree(want, have):

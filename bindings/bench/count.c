@@ -67,12 +67,13 @@ static void lent(struct state *s, int terminal) {
     for (uint64_t i = 0; i < UPDATES; i++) {
         record_of(i, record);
         univmon_step a = terminal
-            ? univmon_update_weighted_terminal_lent(shape, s->header.weight, s->header.mode, s->header.lens, UNIVMON_MAX_LAYERS, s->header.flags,
+            ? univmon_update_weighted_terminal_lent(shape, s->header.weight, s->header.updates, s->header.mode, s->header.lens, UNIVMON_MAX_LAYERS, s->header.flags,
                   UNIVMON_MAX_LAYERS, SLICES(s), record, UNIVMON_RECORD(LAYERS), weight_of(i))
-            : univmon_update_weighted_lent(shape, s->header.weight, s->header.mode, s->header.lens, UNIVMON_MAX_LAYERS, s->header.flags,
+            : univmon_update_weighted_lent(shape, s->header.weight, s->header.updates, s->header.mode, s->header.lens, UNIVMON_MAX_LAYERS, s->header.flags,
                   UNIVMON_MAX_LAYERS, SLICES(s), record, UNIVMON_RECORD(LAYERS), weight_of(i));
         must(a.refusal, 0, "a lent update");
         s->header.weight = a.weight;
+        s->header.updates = a.updates;
         s->header.mode = a.mode;
     }
 }

@@ -50,12 +50,13 @@ def run(command, path):
 
 
 def shown(line):
-    m = re.fullmatch(r"\(show \(l1 (\w+)\) \(l2 (\w+)\) \(keys (\w+)\) \(flags ([01 ]+)\)\)", line)
-    return m.group(1), m.group(2), m.group(3), m.group(4).replace(" ", "")
+    m = re.fullmatch(r"\(show \(l1 (\w+)\) \(l2 (\w+)\) \(keys (\w+)\) \(flags ([01 ]+)\) \(updates (\d+)\)\)", line)
+    return m.group(1), m.group(2), m.group(3), m.group(4).replace(" ", ""), int(m.group(5))
 
 
-def told(lines):
-    return lines[-4], lines[-3], lines[-2], re.search(r"flags=([01]+)", lines[-1]).group(1)
+def told(lines, many):
+    """the original's answers; it does not count its updates"""
+    return lines[-4], lines[-3], lines[-2], re.search(r"flags=([01]+)", lines[-1]).group(1), many
 
 
 def main():
@@ -78,7 +79,7 @@ def main():
         for _ in range(TURNS):
             a.append(run([PANEL], ours))
             b.append(run([oracle], theirs))
-            assert shown(a[-1][2][-1]) == told(b[-1][2]), (a[-1][2][-1], told(b[-1][2])[:3])
+            assert shown(a[-1][2][-1]) == told(b[-1][2], many), (a[-1][2][-1], told(b[-1][2], many)[:3])
         for name, path, turns in (("panel", ours, a), ("original", theirs, b)):
             print(f"{name}: {many} updates, {os.path.getsize(path) >> 20} MiB, wall {min(t[0] for t in turns):.2f} s, "
                   f"processor {min(t[1] for t in turns):.2f} s")

@@ -32,8 +32,9 @@
  *   10 layers, rows, cols or heap sizes differ in merge
  *   11 a counter would leave -2^52 to 2^52
  *   12 record length wrong
- * Where several apply, the order is 9 for header, lengths and numbers, then 12, 10, 5, 8, 6, 7, 9 for
- * what is read, 11; for univmon_new 1, 2, 3, 4, 9.
+ *   14 updates would pass 2^52
+ * (13 is the program panel's own.) Where several apply, the order is 9 for header, lengths and numbers,
+ * then 12, 10, 5, 8, 6, 7, 14, 9 for what is read, 11; for univmon_new 1, 2, 3, 4, 9.
  *
  * STACK. What a call takes at most, arguments and answer included, rounded up with a quarter of a KiB
  * for how the caller is compiled. Measured by bindings/stack.c in states of 19 full layers of 1,024
@@ -103,14 +104,16 @@ extern "C" {
 #define UNIVMON_G_VALUE 1
 #define UNIVMON_G_SQUARE 2
 
-/* A state beside its arrays. `weight` is the sum of the accepted weights, `lens` the number of
- * candidates of each layer, a flag true while its layer's candidates are every key sent to it. */
+/* A state beside its arrays. `weight` is the sum of the accepted weights, `updates` the number of
+ * accepted updates, both at most 2^52, `lens` the number of candidates of each layer, a flag true while
+ * its layer's candidates are every key sent to it. */
 typedef struct univmon_header {
     size_t heap_size;
     size_t rows;
     size_t cols;
     size_t layers;
     uint64_t weight;
+    uint64_t updates;
     uint64_t mode;
     size_t lens[UNIVMON_MAX_LAYERS];
     bool flags[UNIVMON_MAX_LAYERS];
@@ -130,10 +133,11 @@ typedef struct univmon_shape {
     size_t layers;
 } univmon_shape;
 
-/* A refusal and weight and mode as they were, or 0 and the new ones. */
+/* A refusal and weight, updates and mode as they were, or 0 and the new ones. */
 typedef struct univmon_step {
     uint64_t refusal;
     uint64_t weight;
+    uint64_t updates;
     uint64_t mode;
 } univmon_step;
 
@@ -190,7 +194,7 @@ univmon_answered univmon_clear(
 
 /* Counts a key with a weight: it goes to layers 0 to its bottom layer. Reads header, lengths and record,
  * and in each of these layers the key's counters, its rows' norms and the candidates. Refuses 9, 12, 5,
- * 6, 7, 9, 11. */
+ * 6, 7, 14, 9, 11. */
 univmon_answered univmon_update_weighted(
     univmon_header header,
     int64_t *counters, size_t counters_len,
@@ -212,15 +216,16 @@ univmon_answered univmon_update_weighted_terminal(
 
 /* The same two updates with the header's lengths and flags lent and the rest of it as numbers: no header
  * is copied in or out, which is most of what a call costs beside its layers. Both arrays have 19 places,
- * or the call refuses with 9; it writes them where it is done. Weight and mode come back: store them in
- * the header, refused or not. With a header h:
+ * or the call refuses with 9; it writes them where it is done. Weight, updates and mode come back: store
+ * them in the header, refused or not. With a header h:
  *   univmon_step s = univmon_update_weighted_lent(
- *       (univmon_shape){h.heap_size, h.rows, h.cols, h.layers}, h.weight, h.mode,
+ *       (univmon_shape){h.heap_size, h.rows, h.cols, h.layers}, h.weight, h.updates, h.mode,
  *       h.lens, UNIVMON_MAX_LAYERS, h.flags, UNIVMON_MAX_LAYERS, .., record, record_len, weight);
  *   h.weight = s.weight;
+ *   h.updates = s.updates;
  *   h.mode = s.mode; */
 univmon_step univmon_update_weighted_lent(
-    univmon_shape shape, uint64_t total_weight, uint64_t mode,
+    univmon_shape shape, uint64_t total_weight, uint64_t total_updates, uint64_t mode,
     size_t *lens, size_t lens_len,
     bool *flags, size_t flags_len,
     int64_t *counters, size_t counters_len,
@@ -231,7 +236,7 @@ univmon_step univmon_update_weighted_lent(
     int64_t weight);
 
 univmon_step univmon_update_weighted_terminal_lent(
-    univmon_shape shape, uint64_t total_weight, uint64_t mode,
+    univmon_shape shape, uint64_t total_weight, uint64_t total_updates, uint64_t mode,
     size_t *lens, size_t lens_len,
     bool *flags, size_t flags_len,
     int64_t *counters, size_t counters_len,
@@ -242,7 +247,7 @@ univmon_step univmon_update_weighted_terminal_lent(
     int64_t weight);
 
 /* A change of one counter that another relay saw, with the record of the key that made it. Sets an
- * unset mode to standard and leaves the weight. Reads header, lengths and record, the counter and its
+ * unset mode to standard and leaves weight and updates. Reads header, lengths and record, the counter and its
  * row's norm, and in its layer the key's counters and the candidates. Refuses 9, 12, 8, 9, 11. */
 univmon_answered univmon_apply_delta(
     univmon_header header,
@@ -255,8 +260,8 @@ univmon_answered univmon_apply_delta(
     uint64_t fidelity);
 
 /* Puts the other state's stream behind this one's: counters and norms by the sums of the counters,
- * candidates counted anew. The other state stays as it is. Reads both headers and lengths, every
- * counter and every candidate of both. Refuses 9, 10, 6, 7, 9, 11. */
+ * candidates counted anew, updates added. The other state stays as it is. Reads both headers and lengths, every
+ * counter and every candidate of both. Refuses 9, 10, 6, 7, 14, 9, 11. */
 univmon_answered univmon_merge(
     univmon_header header,
     int64_t *counters, size_t counters_len,

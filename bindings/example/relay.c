@@ -66,7 +66,7 @@ static void show(const char *name, const branch *b) {
     for (size_t l = 0; l < b->header.layers; l++) {
         putchar(b->header.flags[l] ? '1' : '0');
     }
-    putchar('\n');
+    printf(" updates %" PRIu64 "\n", b->header.updates);
 }
 
 int main(void) {

@@ -38,7 +38,8 @@ fn show(name: &str, state: &State<'_>) -> Result<(), Refused> {
         .iter()
         .map(|&flag| if flag { '1' } else { '0' })
         .collect();
-    println!("{name}: l1 {:.0} l2 {:.6} keys {:.0} flags {flags}", p.l1, p.l2, p.cardinality);
+    let updates = state.header().updates;
+    println!("{name}: l1 {:.0} l2 {:.6} keys {:.0} flags {flags} updates {updates}", p.l1, p.l2, p.cardinality);
     Ok(())
 }
 

@@ -74,6 +74,7 @@ extern "C" {
     pub fn univmon_update_weighted_lent(
         shape: Shape,
         total_weight: u64,
+        total_updates: u64,
         mode: u64,
         lens: *mut usize,
         lens_len: usize,
@@ -95,6 +96,7 @@ extern "C" {
     pub fn univmon_update_weighted_terminal_lent(
         shape: Shape,
         total_weight: u64,
+        total_updates: u64,
         mode: u64,
         lens: *mut usize,
         lens_len: usize,

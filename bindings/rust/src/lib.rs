@@ -7,8 +7,8 @@
 //! layer from 0 the high and the low half of its 128-bit hash. The caller hashes.
 //!
 //! A call that is refused answers [`Refused`] and leaves everything as it was. Where several refusals
-//! apply, the order is 9 for header and lengths, then 12, 10, 5, 8, 6, 7, 9 for what is read, 11; for a
-//! fresh state 1, 2, 3, 4, 9. Each call says which of them it can answer, in that order.
+//! apply, the order is 9 for header and lengths, then 12, 10, 5, 8, 6, 7, 14, 9 for what is read, 11; for
+//! a fresh state 1, 2, 3, 4, 9. Each call says which of them it can answer, in that order.
 //!
 //! The functions take no memory but the stack, at most 128 KiB; `univmon.h` says how much each takes.
 #![no_std]
@@ -128,6 +128,8 @@ pub struct Header {
     pub layers: usize,
     /// The sum of the accepted weights, at most 2^52.
     pub weight: u64,
+    /// The number of accepted updates, those of merged states included, at most 2^52.
+    pub updates: u64,
     /// 0 unset, 1 standard, 2 terminal: [`Mode`].
     pub mode: u64,
     /// The number of candidates of each layer, 0 past the last layer.
@@ -168,8 +170,8 @@ pub struct Answered {
     pub header: Header,
 }
 
-/// A refusal and weight and mode as they were, or 0 and the new ones: what an update on lent lengths and
-/// flags answers.
+/// A refusal and weight, updates and mode as they were, or 0 and the new ones: what an update on lent
+/// lengths and flags answers.
 #[repr(C)]
 #[derive(Clone, Copy, Debug, PartialEq, Eq)]
 pub struct Step {
@@ -177,6 +179,8 @@ pub struct Step {
     pub refusal: u64,
     /// The weight after the call.
     pub weight: u64,
+    /// The number of updates after the call.
+    pub updates: u64,
     /// The number of the mode after the call.
     pub mode: u64,
 }
@@ -389,6 +393,7 @@ impl<'a> State<'a> {
     /// what was there.
     fn put(&mut self, a: Step) -> Result<(), Refused> {
         self.header.weight = a.weight;
+        self.header.updates = a.updates;
         self.header.mode = a.mode;
         accepted(a.refusal)
     }
@@ -415,13 +420,14 @@ impl<'a> State<'a> {
 
     /// Counts a key with a weight: it goes to layers 0 to its bottom layer. Reads header, lengths and
     /// record, and in each of these layers the key's counters, its rows' norms and the candidates. Refuses
-    /// 9, 12, 5, 6, 7, 9, 11. The header's lengths and flags are lent, so that no header is copied.
+    /// 9, 12, 5, 6, 7, 14, 9, 11. The header's lengths and flags are lent, so that no header is copied.
     pub fn update_weighted(&mut self, record: &[u64], weight: i64) -> Result<(), Refused> {
         // SAFETY: each pointer and length is a slice's, and no two slices that are written overlap.
         let a = unsafe {
             ffi::univmon_update_weighted_lent(
                 self.header.shape(),
                 self.header.weight,
+                self.header.updates,
                 self.header.mode,
                 self.header.lens.as_mut_ptr(),
                 self.header.lens.len(),
@@ -444,13 +450,14 @@ impl<'a> State<'a> {
     }
 
     /// Counts a key with a weight in its bottom layer only; else as [`State::update_weighted`]. Refuses 9, 12,
-    /// 5, 6, 7, 9, 11.
+    /// 5, 6, 7, 14, 9, 11.
     pub fn update_weighted_terminal(&mut self, record: &[u64], weight: i64) -> Result<(), Refused> {
         // SAFETY: as in `update_weighted`.
         let a = unsafe {
             ffi::univmon_update_weighted_terminal_lent(
                 self.header.shape(),
                 self.header.weight,
+                self.header.updates,
                 self.header.mode,
                 self.header.lens.as_mut_ptr(),
                 self.header.lens.len(),
@@ -510,7 +517,7 @@ impl<'a> State<'a> {
 
     /// Puts the other state's stream behind this one's: counters and norms by the sums of the counters,
     /// candidates counted anew. The other state stays as it is. Reads both headers and lengths, every
-    /// counter and every candidate of both. Refuses 9, 10, 6, 7, 9, 11.
+    /// counter and every candidate of both. Refuses 9, 10, 6, 7, 14, 9, 11.
     pub fn merge(&mut self, other: &State<'_>) -> Result<(), Refused> {
         let Read(other_counters, other_norms, other_entries, other_counts) = other.read();
         // SAFETY: each pointer and length is a slice's; `self` is borrowed alone, so that the other

@@ -24,6 +24,7 @@ use crate::{Header, Refused, Shape, State};
 /// assert_eq!((shown.l1, shown.cardinality), (7.0, 2.0));
 /// assert_eq!(east.header().flags[..2], [true, true]);
 /// assert_eq!(west.header().weight, 2);
+/// assert_eq!((east.header().updates, west.header().updates), (2, 1));
 ///
 /// // states of two shapes are not merged
 /// let mut wide = Owned::new(Shape { cols: 8, ..shape })?;
@@ -72,7 +73,7 @@ impl Owned {
         answer
     }
 
-    /// Puts the other state's stream behind this one's, as [`State::merge`]. Refuses 9, 10, 6, 7, 9, 11.
+    /// Puts the other state's stream behind this one's, as [`State::merge`]. Refuses 9, 10, 6, 7, 14, 9, 11.
     pub fn merge(&mut self, other: &mut Owned) -> Result<(), Refused> {
         self.with(|one| other.with(|two| one.merge(two)))
     }

@@ -2,8 +2,8 @@
 use core::error::Error;
 use core::fmt::{self, Display, Formatter};
 
-/// The number of a refusal, 1 to 12; 13 is the program `panel`'s own. The call that it was answered by
-/// changed nothing.
+/// The number of a refusal, 1 to 12 or 14; 13 is the program `panel`'s own. The call that it was answered
+/// by changed nothing.
 ///
 /// ```
 /// use univmon::Refused;
@@ -39,6 +39,7 @@ impl Refused {
             11 => "a counter would leave -2^52 to 2^52",
             12 => "record length wrong",
             13 => "program line unreadable, or before a shape",
+            14 => "updates would pass 2^52",
             _ => "no refusal has this number",
         }
     }

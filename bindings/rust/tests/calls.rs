@@ -1,7 +1,7 @@
 //! The figures of the papers through the wrapper, in lent slices.
 use std::error::Error;
 
-use univmon::{bottom_layer_for_hash, Fidelity, Header, Mode, Refused, Shape, State, G};
+use univmon::{bottom_layer_for_hash, Fidelity, Header, Mode, Refused, Shape, State, Step, G};
 
 const SHAPE: Shape = Shape { heap_size: 2, rows: 2, cols: 4, layers: 2 };
 
@@ -20,9 +20,11 @@ fn with<R>(calls: impl FnOnce(&mut State<'_>) -> R) -> R {
 
 #[test]
 fn layout_is_the_headers() {
-    assert_eq!(std::mem::size_of::<Header>(), 6 * 8 + 19 * 8 + 24);
-    assert_eq!(std::mem::offset_of!(Header, lens), 48);
-    assert_eq!(std::mem::offset_of!(Header, flags), 200);
+    assert_eq!(std::mem::size_of::<Header>(), 7 * 8 + 19 * 8 + 24);
+    assert_eq!(std::mem::offset_of!(Header, updates), 40);
+    assert_eq!(std::mem::offset_of!(Header, lens), 56);
+    assert_eq!(std::mem::offset_of!(Header, flags), 208);
+    assert_eq!(std::mem::offset_of!(Step, updates), 16);
 }
 
 #[test]
@@ -89,6 +91,33 @@ fn refusals() {
     });
 }
 
+#[test]
+fn updates_are_counted() {
+    let (mut counters, mut norms) = ([0i64; 16], [0u64; 8]);
+    let (mut entries, mut counts) = ([0u64; 16], [0i64; 4]);
+    let fresh = State::new(SHAPE, &mut counters, &mut norms, &mut entries, &mut counts).unwrap();
+    assert_eq!(fresh.header().updates, 0);
+    let near = Header { updates: (1 << 52) - 2, ..fresh.into_header() };
+    let mut s = State::lend(near, &mut counters, &mut norms, &mut entries, &mut counts).unwrap();
+    s.update_weighted(&record(7, 0), 5).unwrap();
+    s.update_weighted(&record(7, 0), 0).unwrap();
+    assert_eq!((s.header().weight, s.header().updates), (5, 1 << 52));
+    assert_eq!(s.update_weighted(&record(7, 0), 0), Err(Refused(14)));
+    assert_eq!(s.update_weighted(&record(7, 0), 1 << 52), Err(Refused(7)));
+    s.apply_delta(&record(7, 0), 0, 0, 0, 1, Fidelity::EveryInsert).unwrap();
+    s.set_total_weight(4).unwrap();
+    s.mark_candidates_incomplete().unwrap();
+    assert_eq!(s.header().updates, 1 << 52);
+    assert!(s.check());
+    s.clear().unwrap();
+    assert_eq!(s.header().updates, 0);
+    let beyond = Header { updates: (1 << 52) + 1, ..s.into_header() };
+    let mut s = State::lend(beyond, &mut counters, &mut norms, &mut entries, &mut counts).unwrap();
+    assert_eq!(s.update_weighted(&record(7, 0), 1), Err(Refused(9)));
+    assert!(!s.check());
+    assert_eq!(s.header(), &beyond);
+}
+
 /// The numbers and words of univmon.h's table, a wrapped line joined to the one above.
 fn table_of_the_header() -> Vec<(u64, String)> {
     let mut table: Vec<(u64, String)> = Vec::new();
@@ -106,13 +135,13 @@ fn table_of_the_header() -> Vec<(u64, String)> {
 #[test]
 fn refusals_have_the_headers_words() {
     let table = table_of_the_header();
-    assert_eq!(table.iter().map(|row| row.0).collect::<Vec<_>>(), (1..=12).collect::<Vec<_>>());
+    assert_eq!(table.iter().map(|row| row.0).collect::<Vec<_>>(), (1..=12).chain([14]).collect::<Vec<_>>());
     for (n, words) in table {
         assert_eq!(Refused(n).words(), words);
         assert_eq!(Refused(n).to_string(), format!("refused {n}: {words}"));
     }
     assert_eq!(Refused(13).to_string(), "refused 13: program line unreadable, or before a shape");
-    for n in [0, 14, u64::MAX] {
+    for n in [0, 15, u64::MAX] {
         assert_eq!(Refused(n).to_string(), format!("refused {n}: no refusal has this number"));
     }
 }

@@ -75,6 +75,7 @@ fn fresh(r: &mut Random) -> Lent {
             cols: 0,
             layers: 0,
             weight: 0,
+            updates: 0,
             mode: 0,
             lens: [0; MAX_LAYERS],
             flags: [false; MAX_LAYERS],
@@ -137,7 +138,7 @@ fn damage_counts(r: &mut Random, xs: &mut Vec<i64>) {
 fn damage(r: &mut Random, s: &mut Lent) {
     let n = r.extreme();
     let l = r.below(MAX_LAYERS);
-    match r.below(13) {
+    match r.below(14) {
         0 => s.header.heap_size = n as usize,
         1 => s.header.rows = n as usize,
         2 => s.header.cols = n as usize,
@@ -150,20 +151,22 @@ fn damage(r: &mut Random, s: &mut Lent) {
         9 => damage_words(r, &mut s.norms),
         10 => damage_words(r, &mut s.entries),
         11 => damage_counts(r, &mut s.counts),
+        12 => s.header.updates = n,
         _ => s.header.mode = r.below(4) as u64,
     }
 }
 
-/// The rules that hold of whatever a call left.
-fn judge(before: &Lent, after: &mut Lent, a: Answered, kinds: &mut [u64; 16]) {
+/// The rules that hold of whatever a call left; `updates` is the number that an accepted one has.
+fn judge(before: &Lent, after: &mut Lent, a: Answered, updates: u64, kinds: &mut [u64; 16]) {
     kinds[a.refusal as usize] += 1;
-    assert!(a.refusal <= 12, "refusal {}", a.refusal);
+    assert!(a.refusal <= 12 || a.refusal == 14, "refusal {}", a.refusal);
     after.header = a.header;
     if a.refusal != 0 {
         assert_eq!(before, after, "refusal {} changed something", a.refusal);
     } else {
         let h = &after.header;
-        assert!(h.mode <= 2 && h.weight <= 1 << 52);
+        assert!(h.mode <= 2 && h.weight <= 1 << 52 && h.updates <= 1 << 52);
+        assert_eq!(h.updates, updates);
         assert!(h.lens.iter().all(|&n| n <= h.heap_size));
         assert_eq!(before.header.shape(), h.shape());
     }
@@ -192,9 +195,9 @@ fn lent_update(r: &mut Random, s: &mut Lent, terminal: bool, words: &[u64], weig
     let lent = if terminal { univmon_update_weighted_terminal_lent } else { univmon_update_weighted_lent };
     let held = if terminal { univmon_update_weighted_terminal } else { univmon_update_weighted };
     // SAFETY: as in `change`; of lengths and flags at most as many are lent as there are.
-    let Step { refusal, weight: total, mode } =
-        unsafe { lent(h.shape(), h.weight, h.mode, ns, n, fs, m, a, b, c, d, e, f, g, i, at.0, at.1, weight) };
-    let after = Header { weight: total, mode, lens, flags, ..h };
+    let Step { refusal, weight: total, updates, mode } =
+        unsafe { lent(h.shape(), h.weight, h.updates, h.mode, ns, n, fs, m, a, b, c, d, e, f, g, i, at.0, at.1, weight) };
+    let after = Header { weight: total, updates, mode, lens, flags, ..h };
     if short {
         assert_eq!((refusal, after), (9, h), "too few lengths or flags");
     } else {
@@ -208,23 +211,26 @@ fn lent_update(r: &mut Random, s: &mut Lent, terminal: bool, words: &[u64], weig
     Answered { refusal, header: after }
 }
 
-fn change(r: &mut Random, s: &mut Lent, other: &mut Lent) -> Answered {
+/// Some call, and the number of updates that it leaves if it is accepted.
+fn change(r: &mut Random, s: &mut Lent, other: &mut Lent) -> (Answered, u64) {
     let words = record(r, s.header.layers);
     let weight = if r.one_in(20) { r.extreme() as i64 } else { r.below(9) as i64 };
     let terminal = if r.one_in(10) { r.one_in(2) } else { s.header.mode == 2 };
     let h = s.header;
+    let one_more = h.updates.wrapping_add(1);
     let (a, b, c, d, e, f, g, i) = lend!(s);
     let at = (words.as_ptr(), words.len());
     // SAFETY: every pointer and length is a vector's own, and no two vectors overlap.
     unsafe {
         match r.below(24) {
-            0 => univmon_clear(h, a, b, c, d, e, f, g, i),
-            1 => univmon_set_total_weight(h, if r.one_in(2) { r.extreme() } else { 5 }),
-            2 => univmon_mark_candidates_incomplete(h),
-            3 => univmon_mark_layer_candidates_incomplete(h, r.extreme() as usize),
+            0 => (univmon_clear(h, a, b, c, d, e, f, g, i), 0),
+            1 => (univmon_set_total_weight(h, if r.one_in(2) { r.extreme() } else { 5 }), h.updates),
+            2 => (univmon_mark_candidates_incomplete(h), h.updates),
+            3 => (univmon_mark_layer_candidates_incomplete(h, r.extreme() as usize), h.updates),
             4 | 5 => {
                 let (oa, ob, oc, od, oe, of, og, oi) = lend!(other);
-                univmon_merge(h, a, b, c, d, e, f, g, i, other.header, oa, ob, oc, od, oe, of, og, oi)
+                let sum = h.updates.wrapping_add(other.header.updates);
+                (univmon_merge(h, a, b, c, d, e, f, g, i, other.header, oa, ob, oc, od, oe, of, og, oi), sum)
             }
             6..=9 => {
                 let far = r.one_in(6);
@@ -232,11 +238,11 @@ fn change(r: &mut Random, s: &mut Lent, other: &mut Lent) -> Answered {
                 let (layer, row, col) = (index(h.layers), index(h.rows), index(h.cols));
                 let count = r.extreme() as i32;
                 let fidelity = if r.one_in(10) { r.extreme() } else { r.below(2) as u64 };
-                univmon_apply_delta(h, a, b, c, d, e, f, g, i, at.0, at.1, layer, row, col, count, fidelity)
+                (univmon_apply_delta(h, a, b, c, d, e, f, g, i, at.0, at.1, layer, row, col, count, fidelity), h.updates)
             }
-            10..=13 => lent_update(r, s, terminal, &words, weight),
-            _ if terminal => univmon_update_weighted_terminal(h, a, b, c, d, e, f, g, i, at.0, at.1, weight),
-            _ => univmon_update_weighted(h, a, b, c, d, e, f, g, i, at.0, at.1, weight),
+            10..=13 => (lent_update(r, s, terminal, &words, weight), one_more),
+            _ if terminal => (univmon_update_weighted_terminal(h, a, b, c, d, e, f, g, i, at.0, at.1, weight), one_more),
+            _ => (univmon_update_weighted(h, a, b, c, d, e, f, g, i, at.0, at.1, weight), one_more),
         }
     }
 }
@@ -306,8 +312,8 @@ fn random_calls() {
         } else {
             let before = s.clone();
             let (was, others) = (sound(&mut s), sound(&mut other));
-            let a = change(&mut r, &mut s, &mut other);
-            judge(&before, &mut s, a, &mut kinds);
+            let (a, updates) = change(&mut r, &mut s, &mut other);
+            judge(&before, &mut s, a, updates, &mut kinds);
             assert!(!was || !others || sound(&mut s), "a call on states that pass the check leaves one that does not");
             passed += was as u64;
         }
@@ -324,7 +330,7 @@ fn random_calls() {
     println!("{calls} calls; answered by number: {kinds:?}; {passed} on states that pass the check");
     if calls >= 100_000 {
         assert!(passed > calls / 10 && passed < calls, "the check says always the same");
-        for refusal in [0, 5, 6, 7, 8, 9, 10, 11, 12] {
+        for refusal in [0, 5, 6, 7, 8, 9, 10, 11, 12, 14] {
             assert!(kinds[refusal] > 0, "number {refusal} never came");
         }
     }

@@ -8,7 +8,6 @@ use native.Mathlib.Omega.{arith}
 use borrow.Author.Tests.{leb-true, eqb-true, lt-ltb}
 use lib.Dec.{eqb}
 use lib.ListN.{getD}
-use Rattle.words.specs.Num.{top}
 use Rattle.words.proofs.Bools.{and-left, and-right}
 use Rattle.header.specs.Shape.{maxLayers, shapeRefusal}
 use Rattle.header.specs.Totals.{totalsOk}
@@ -16,10 +15,11 @@ use Rattle.header.specs.Header.{lengthOk, lensFrom, headerOk}
 use Rattle.header.specs.declared.Header.{Header}
 use Rattle.header.specs.inner.Accepted.{Accepted}
 use Rattle.header.proofs.Refusals.{accepted-of}
+use Rattle.header.proofs.Bounds.{Within, within-of}
 
 pub record Ranged (h : Header) : Type 0 where
   pub accepted : Accepted (h .shape)
-  pub light : h .totals .weight ≤ top
+  pub totals : Within (h .totals)
   pub lens : lensFrom (h .shape .layers) (h .shape .«heap_size») (h .lens) (h .flags) maxLayers 0 ≡ true
 
 pub ranged-of : (h : Header) → headerOk h ≡ true → Ranged h
@@ -28,7 +28,7 @@ ranged-of h e =
     let both = and-left (eqb (shapeRefusal (h .shape)) 0 && totalsOk (h .totals)) (lensFrom (h .shape .layers) (h .shape .«heap_size») (h .lens) (h .flags) maxLayers 0) e in
     record {
       accepted = accepted-of (h .shape) (eqb-true (shapeRefusal (h .shape)) 0 (and-left (eqb (shapeRefusal (h .shape)) 0) (totalsOk (h .totals)) both));
-      light = leb-true (h .totals .weight) top (and-right (eqb (shapeRefusal (h .shape)) 0) (totalsOk (h .totals)) both);
+      totals = within-of (h .totals) (and-right (eqb (shapeRefusal (h .shape)) 0) (totalsOk (h .totals)) both);
       lens = and-right (eqb (shapeRefusal (h .shape)) 0 && totalsOk (h .totals)) (lensFrom (h .shape .layers) (h .shape .«heap_size») (h .lens) (h .flags) maxLayers 0) e;
     }
 

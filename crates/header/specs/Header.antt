@@ -117,7 +117,7 @@ beginHeader h w m =
     record { refusal = beginOf (scalarsOf h) w m .refusal; header = headOf (beginOf (scalarsOf h) w m .scalars) (h .lens) (h .flags) }
 
 -- ---- "A header is in range if `new` accepts its dimensions, its weight is 0 to 2^52, each length is at most the heap size, and past the last layer
--- lengths are 0 and flags false."
+-- lengths are 0 and flags false."; its number of updates too is 0 to 2^52 (02, W1)
 
 -- of layer l
 abbrev pub lengthOk : ℕ → ℕ → ℕ → ℕ → Bool → Bool

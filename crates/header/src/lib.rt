@@ -7,6 +7,8 @@ ghost use mathlib.Core.Bool.{Bool, true, false, _&&_};
 ghost use mathlib.Core.List.{List};
 ghost use Prim.Native.Nat.{ℕ, _+_, _-_, _<_, _≤_};
 ghost use lib.ListN.{length, getD, set, replicate};
+ghost use lib.Dec.{leb};
+ghost use Rattle.words.specs.Num.{top};
 ghost use Rattle.words.specs.Tests.{number};
 ghost use Rattle.header.specs.declared.Mode.{Mode};
 ghost use Rattle.header.specs.Totals.{noTotals, updateTotals, addTotals, setWeight, totalsOk, totalsTests};
@@ -41,9 +43,11 @@ pub enum Mode {
     Terminal,
 }
 
-// What updates and merges add up, beside the layers: the weight of all that was counted.
+// What updates and merges add up, beside the layers: the weight of all that was counted, and the number
+// of updates.
 pub struct Totals {
     pub weight: u64,
+    pub updates: u64,
 }
 
 // The fields stand by falling alignment, so that no copy of a header starts at an odd byte.
@@ -364,7 +368,7 @@ impl Header {
         self.with_totals(sum).with_mode(next)
     }
 
-    // Totals and mode of an update: 5, 6 or 7 and the header as it was, or 0 and the header that the
+    // Totals and mode of an update: 5, 6, 7 or 14 and the header as it was, or 0 and the header that the
     // update begins with.
     pub fn begin_update(self, weight: i64, mode: Mode) -> Answered
         ensures { λ r. ⌜ r ≡ beginHeader self weight mode ⌝ }
@@ -389,41 +393,64 @@ impl Header {
     }
 }
 
+// The greatest weight and the greatest number of updates: 2^52.
+const MAX_TOTAL: u64 = words::TOP as u64;
+
+// Whether two numbers sum to at most 2^52. The sum is not formed: of numbers out of range it might not
+// fit 64 bits.
+fn sum_within(a: u64, b: u64) -> bool
+    ensures { λ r. ⌜ r ≡ leb (a + b) top ⌝ }
+{
+    if MAX_TOTAL < b {
+        return false;
+    }
+    a <= MAX_TOTAL - b
+}
+
 impl Totals {
     pub fn zero() -> Self
         ensures { λ r. ⌜ r ≡ noTotals ⌝ }
     {
-        Totals { weight: 0 }
+        Totals {
+            weight: 0,
+            updates: 0,
+        }
     }
 
     // What one update adds.
     pub fn of_update(weight: u64) -> Self
         ensures { λ r. ⌜ r ≡ updateTotals weight ⌝ }
     {
-        Totals { weight }
+        Totals { weight, updates: 1 }
     }
 
     pub fn with_weight(self, weight: u64) -> Self
         ensures { λ r. ⌜ r ≡ setWeight self weight ⌝ }
     {
-        Totals { weight }
+        Totals {
+            weight,
+            updates: self.updates,
+        }
     }
 
     pub fn in_range(self) -> bool
         ensures { λ r. ⌜ r ≡ totalsOk self ⌝ }
     {
-        self.weight <= words::MAX_WEIGHT
+        (self.weight <= MAX_TOTAL) & (self.updates <= MAX_TOTAL)
     }
 
-    // 7 where the sum of two totals would pass 2^52, else 0; for totals out of range too.
+    // 7 where the weights of two totals would pass 2^52, else 14 where their updates would, else 0; for
+    // totals out of range too.
     pub fn sum_refusal(self, more: Totals) -> u64
         ensures { λ r. ⌜ r ≡ number (totalsTests self more) ⌝ }
     {
-        if words::MAX_WEIGHT < more.weight {
+        let light = sum_within(self.weight, more.weight);
+        let few = sum_within(self.updates, more.updates);
+        if !light {
             return 7;
         }
-        if words::MAX_WEIGHT - more.weight < self.weight {
-            return 7;
+        if !few {
+            return 14;
         }
         0
     }
@@ -434,12 +461,13 @@ impl Totals {
     {
         Totals {
             weight: self.weight + more.weight,
+            updates: self.updates + more.updates,
         }
     }
 }
 
 impl Scalars {
-    // The number that an update's beginning is refused with, 0 for none: 5, 6, 7.
+    // The number that an update's beginning is refused with, 0 for none: 5, 6, 7, 14.
     pub fn begin_refusal(self, weight: i64, mode: Mode) -> u64
         ensures { λ r. ⌜ r ≡ number (beginTests self weight mode) ⌝ }
     {

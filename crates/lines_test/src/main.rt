@@ -19,10 +19,10 @@ ghost use mathlib.Core.Path.{_≡_};
 ghost use lib.ListN.{length, take};
 ghost use Rattle.panel_lines.specs.Split.{mostHeld, chunkHeld};
 
-// How many flags are shown, and the bytes of that answer.
+// How many flags are shown, and the bytes of that answer with a number of 20 digits.
 const FLAGS: usize = 19;
 
-const SHOWN: usize = SHOW_BARE + 2 * FLAGS;
+const SHOWN: usize = SHOW_BARE + 2 * FLAGS + 20;
 
 // Whether k bytes can still be written from a place on.
 fn room(out: &[u8], at: usize, k: usize) -> bool
@@ -84,7 +84,8 @@ fn say_shape(out: &mut [u8], heap: u64, rows: u64, cols: u64, layers: u64) -> us
     put_newline(out, e)
 }
 
-// An answer to `(show)` with three numbers as the floats' bits, and the low bits of a fourth as flags.
+// An answer to `(show)` with three numbers as the floats' bits, and a fourth whose low bits are the flags
+// as its updates.
 fn say_show(out: &mut [u8], l1: u64, l2: u64, keys: u64, bits: u64) -> usize {
     let mut flags = [false; FLAGS];
     let mut i = 0;
@@ -97,7 +98,7 @@ fn say_show(out: &mut [u8], l1: u64, l2: u64, keys: u64, bits: u64) -> usize {
     if !room(&*out, 0, SHOWN) {
         return 0;
     }
-    let n = put_show(out, l1, l2, keys, &flags);
+    let n = put_show(out, l1, l2, keys, &flags, bits);
     put_newline(out, n)
 }
 

@@ -1,5 +1,5 @@
 -- The paper's sample lines and some others, worked out from the definitions: rows of one computed check.
-use Prim.Native.Nat.{ℕ}
+use Prim.Native.Nat.{ℕ, _^_}
 use Prim.Native.String.{String}
 use mathlib.Core.Bool.{Bool, true, false, _&&_}
 use mathlib.Core.List.{List, [], _∷_, map}
@@ -14,7 +14,7 @@ use Rattle.panel_lines.specs.declared.line.Request.{Request}
 use Rattle.panel_lines.specs.declared.line.Request.the-variants.{Shape, Add, Show, Unreadable}
 use Rattle.panel_lines.specs.Line.{readShape, pairOkAt, allPairs, tailAt, halves, readAdd, readOf}
 use Rattle.panel_lines.specs.Ask.{Ask, shape, add, show, Pair, pairsText, pairWords, askText, readingOf}
-use Rattle.panel_lines.specs.Answers.{okText, refusedText, flagsText, showText}
+use Rattle.panel_lines.specs.Answers.{okText, refusedText, flagsText, updatesText, showText}
 use Rattle.panel_lines.specs.Split.{chunkLines, chunkHeld, push, wholeOf, lines, endedLines, lastLine, someLast}
 use Rattle.panel_lines.specs.inner.Steps.{linesOfChunks, runLines, runHeld}
 
@@ -83,7 +83,9 @@ rows =
     ∷ asks "(show)" show
     -- its output
     ∷ answer "(ok)" okText
-    ∷ answer "(show (l1 4014000000000000) (l2 4014000000000000) (keys 3FF0000000000000) (flags 1 1))" (showText 0x4014000000000000 0x4014000000000000 0x3FF0000000000000 (true ∷ (true ∷ [])))
+    ∷ answer "(show (l1 4014000000000000) (l2 4014000000000000) (keys 3FF0000000000000) (flags 1 1) (updates 1))" (showText 0x4014000000000000 0x4014000000000000 0x3FF0000000000000 (true ∷ (true ∷ [])) 1)
+    -- of the most updates
+    ∷ answer "(show (l1 0000000000000000) (l2 0000000000000000) (keys 0000000000000000) (flags 0) (updates 4503599627370496))" (showText 0 0 0 (false ∷ []) (2 ^ 52))
     ∷ answer "(refused 13)" (refusedText 13)
     -- "program line unreadable (..) `(ad`"
     ∷ refused "(ad"
@@ -107,5 +109,5 @@ rows =
     ∷ []
 
 pub figures : T (allRight rows)
-unfolding allRight rows readOf readShape readAdd tailAt allPairs pairOkAt halves fieldAt stopped decFrom numFrom isDigit intAt negated unsigned signedDec dec decIn hexDigits hexGlyph hexOk hexFrom isHex nibbleOf isPrefix askText pairsText pairWords readingOf refusedText showText flagsText flagDigit linesOfChunks runLines runHeld chunkLines chunkHeld push wholeOf lines endedLines lastLine someLast
+unfolding allRight rows readOf readShape readAdd tailAt allPairs pairOkAt halves fieldAt stopped decFrom numFrom isDigit intAt negated unsigned signedDec dec decIn hexDigits hexGlyph hexOk hexFrom isHex nibbleOf isPrefix askText pairsText pairWords readingOf refusedText showText updatesText flagsText flagDigit linesOfChunks runLines runHeld chunkLines chunkHeld push wholeOf lines endedLines lastLine someLast
 figures = tt

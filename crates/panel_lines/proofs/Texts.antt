@@ -9,8 +9,8 @@ use native.Mathlib.Omega.{arith}
 use native.Mathlib.Numerals.{add-one}
 use Rattle.text.specs.Hex.{hexDigits}
 use Rattle.text.specs.Words.{bytesOf, flagDigit}
-use Rattle.text.proofs.Puts.{joined, hex-length}
-use Rattle.panel_lines.specs.Answers.{flagsText, showText}
+use Rattle.text.proofs.Puts.{sets-append, joined, hex-length}
+use Rattle.panel_lines.specs.Answers.{flagsText, updatesText, showText}
 
 pub flags-step : (o : List ℕ) (fs : List Bool) (a i : ℕ) → i < length fs
     → sets o (a + 2 * i) (flagsText (drop i fs)) ≡ sets (set (set o (a + 2 * i) 32) (a + 2 * i + 1) (flagDigit (getD fs i false))) (a + 2 * (i + 1)) (flagsText (drop (i + 1) fs))
@@ -35,20 +35,21 @@ field-length i n w = omega (arith, length-append w (hexDigits 16 n), hex-length 
 regroup : (w h x i y j z f e : List ℕ) → (((((w ++ h) ++ (x ++ i)) ++ (y ++ j)) ++ z) ++ f) ++ e ≡ w ++ (h ++ (x ++ (i ++ (y ++ (j ++ (z ++ (f ++ e)))))))
 regroup w h x i y j z f e = simp append-assoc
 
--- three texts, one after another
-pub three-put : (l o p q : List ℕ) (i j k : ℕ) (w x y z : List ℕ) → w ++ (x ++ y) ≡ z
-    → o ≡ sets l 0 w → i ≡ 0 + length w
+-- three texts, one after another, from place a on
+pub three-put : (l o p q : List ℕ) (a i j k : ℕ) (w x y z : List ℕ) → w ++ (x ++ y) ≡ z
+    → o ≡ sets l a w → i ≡ a + length w
     → p ≡ sets o i x → j ≡ i + length x
     → q ≡ sets p j y → k ≡ j + length y
-    → (k ≡ length z) × (q ≡ sets l 0 z)
-three-put l o p q i j k w x y z e eo ei ep ej eq ek =
-    let a1 = joined l l o 0 i [] w (refl, refl) eo ei in
-    let a2 = joined l o p i j w x a1 ep ej in
-    let a3 = joined l p q j k (w ++ x) y a2 eq ek in
-    let r = append-assoc w x y ∙ e in
-    (a3 .1 ∙ ap length r, a3 .0 ∙ ap (sets l 0) r)
+    → (k ≡ a + length z) × (q ≡ sets l a z)
+three-put l o p q a i j k w x y z e eo ei ep ej eq ek =
+    let two : p ≡ sets l a (w ++ x) = ep ∙ rw (eo, ei) (sets-append l a w x) in
+    let at : j ≡ a + length (w ++ x) = omega (arith, ei, ej, length-append w x) in
+    let r = append-assoc w x y ∙ e in (
+      omega (arith, ek, at, length-append (w ++ x) y, ap length r),
+      eq ∙ rw (two, at) (sets-append l a (w ++ x) y) ∙ ap (sets l a) r,
+    )
 
--- three items, a word, the flags, a word
+-- three items, a word, the flags, a text
 pub show-put : (l o p q r s t : List ℕ) (h i j k m n : ℕ) (u v w x y : List ℕ) (a b c : ℕ) (fs : List Bool) (z : List ℕ)
     → u ++ (hexDigits 16 a ++ (v ++ (hexDigits 16 b ++ (w ++ (hexDigits 16 c ++ (x ++ (flagsText fs ++ y))))))) ≡ z
     → o ≡ sets l 0 (u ++ hexDigits 16 a) → h ≡ 0 + length u + 16
@@ -71,7 +72,7 @@ show-put l o p q r s t h i j k m n u v w x y a b c fs z e eo eh ep ei eq ej er e
     let g = regroup u (hexDigits 16 a) v (hexDigits 16 b) w (hexDigits 16 c) x (flagsText fs) y ∙ e in
     (a6 .1 ∙ ap length g, a6 .0 ∙ ap (sets l 0) g)
 
-pub show-is : (a b c : ℕ) (fs : List Bool)
-    → bytesOf "(show (l1 " ++ (hexDigits 16 a ++ (bytesOf ") (l2 " ++ (hexDigits 16 b ++ (bytesOf ") (keys " ++ (hexDigits 16 c ++ (bytesOf ") (flags" ++ (flagsText fs ++ bytesOf "))"))))))) ≡ showText a b c fs
+pub show-is : (a b c : ℕ) (fs : List Bool) (n : ℕ)
+    → bytesOf "(show (l1 " ++ (hexDigits 16 a ++ (bytesOf ") (l2 " ++ (hexDigits 16 b ++ (bytesOf ") (keys " ++ (hexDigits 16 c ++ (bytesOf ") (flags" ++ (flagsText fs ++ updatesText n))))))) ≡ showText a b c fs n
 unfolding showText
-show-is a b c fs = refl
+show-is a b c fs n = refl

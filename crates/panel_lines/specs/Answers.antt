@@ -18,15 +18,19 @@ unfoldable pub flagsText : List Bool → List ℕ
 flagsText [] = []
 flagsText (f ∷ fs) = 32 ∷ (flagDigit f ∷ flagsText fs)
 
--- how many bytes the answer to `show` has with n flags
-abbrev pub showBytes : ℕ → ℕ
-showBytes n = 82 + 2 * n
+-- how many bytes the answer to `show` has with n flags and a number of d digits
+abbrev pub showBytes : ℕ → ℕ → ℕ
+showBytes n d = 93 + 2 * n + d
+
+-- "The show line gains (updates U), decimal, as its last form.": from the bracket behind the flags to the end
+unfoldable pub updatesText : ℕ → List ℕ
+updatesText n = bytesOf ") (updates " ++ (dec n ++ bytesOf "))")
 
 -- "Show gives L1, L2 and cardinality as f64 bits, then each layer's flag"
-unfoldable pub showText : ℕ → ℕ → ℕ → List Bool → List ℕ
-showText l1 l2 keys flags =
+unfoldable pub showText : ℕ → ℕ → ℕ → List Bool → ℕ → List ℕ
+showText l1 l2 keys flags updates =
     bytesOf "(show (l1 " ++ (hexDigits 16 l1
     ++ (bytesOf ") (l2 " ++ (hexDigits 16 l2
     ++ (bytesOf ") (keys " ++ (hexDigits 16 keys
     ++ (bytesOf ") (flags" ++ (flagsText flags
-    ++ bytesOf "))")))))))
+    ++ updatesText updates)))))))

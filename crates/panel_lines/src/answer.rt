@@ -8,11 +8,12 @@ ghost use mathlib.Core.List.{_++_};
 ghost use Prim.Native.Nat.{ℕ, _+_, _*_, _≤_};
 ghost use lib.ListN.{length};
 ghost use lib.Seq.{sets};
+ghost use Rattle.text.specs.Decimals.{dec};
 ghost use Rattle.text.specs.Hex.{hexDigits};
-ghost use Rattle.panel_lines.specs.Answers.{okText, refusedText, flagsText, showBytes, showText};
+ghost use Rattle.panel_lines.specs.Answers.{okText, refusedText, flagsText, showBytes, updatesText, showText};
 
-// The bytes of `(show ..)` without its flags; a flag has two.
-pub const SHOW_BARE: usize = 82;
+// The bytes of `(show ..)` without its flags, which have two each, and the digits of its updates.
+pub const SHOW_BARE: usize = 93;
 
 // `(ok)`
 pub fn put_ok(out: &mut [u8]) -> usize
@@ -62,17 +63,30 @@ fn put_field(out: &mut [u8], at: usize, word: &[u8], n: u64) -> usize
     put_hex(out, a, n)
 }
 
-// `(show (l1 H) (l2 H) (keys H) (flags F ..))`: three floats as their bits, and a flag for each layer.
-pub fn put_show(out: &mut [u8], l1: u64, l2: u64, keys: u64, flags: &[bool]) -> usize
-    requires { ⌜ showBytes (length (now flags)) ≤ length (now out) ⌝ }
-    ensures { λ r. ⌜ r ≡ length (showText l1 l2 keys (now (flags .entry))) ⌝ }
-    ensures { λ _. ⌜ now (out .exit) ≡ sets (now (out .entry)) 0 (showText l1 l2 keys (now (flags .entry))) ⌝ }
-    ensures { λ r. ⌜ r ≡ showBytes (length (now (flags .entry))) ⌝ }
+// `) (updates U))`: the end of `(show ..)`, from the bracket behind the flags on.
+fn put_updates(out: &mut [u8], at: usize, n: u64) -> usize
+    requires { ⌜ at + 13 + length (dec n) ≤ length (now out) ⌝ }
+    ensures { λ r. ⌜ r ≡ at + length (updatesText n) ⌝ }
+    ensures { λ _. ⌜ now (out .exit) ≡ sets (now (out .entry)) at (updatesText n) ⌝ }
+    ensures { λ r. ⌜ r ≡ at + 13 + length (dec n) ⌝ }
+{
+    let a = put_word(out, at, b") (updates ");
+    let b = put_decimal(out, a, n);
+    put_word(out, b, b"))")
+}
+
+// `(show (l1 H) (l2 H) (keys H) (flags F ..) (updates U))`: three floats as their bits, a flag for each
+// layer, a decimal.
+pub fn put_show(out: &mut [u8], l1: u64, l2: u64, keys: u64, flags: &[bool], updates: u64) -> usize
+    requires { ⌜ showBytes (length (now flags)) (length (dec updates)) ≤ length (now out) ⌝ }
+    ensures { λ r. ⌜ r ≡ length (showText l1 l2 keys (now (flags .entry)) updates) ⌝ }
+    ensures { λ _. ⌜ now (out .exit) ≡ sets (now (out .entry)) 0 (showText l1 l2 keys (now (flags .entry)) updates) ⌝ }
+    ensures { λ r. ⌜ r ≡ showBytes (length (now (flags .entry))) (length (dec updates)) ⌝ }
 {
     let a = put_field(out, 0, b"(show (l1 ", l1);
     let b = put_field(out, a, b") (l2 ", l2);
     let c = put_field(out, b, b") (keys ", keys);
     let d = put_word(out, c, b") (flags");
     let e = put_flags(out, d, flags);
-    put_word(out, e, b"))")
+    put_updates(out, e, updates)
 }

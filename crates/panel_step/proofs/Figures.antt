@@ -1,4 +1,4 @@
--- The paper's sample, byte for byte, and lines before a shape, worked out from the definitions.
+-- The paper's sample, byte for byte with the form that 02 adds, and lines before a shape, worked out from the definitions.
 use Prim.Native.String.{String}
 use mathlib.Core.Bool.{Bool}
 use mathlib.Core.List.{List, [], _∷_, map}
@@ -36,7 +36,7 @@ use Rattle.text.specs.Decimals.{decIn, dec, isDigit, numFrom, decFrom, stopped,
 use Rattle.text.specs.Hex.{hexGlyph, hexDigits, isHex, nibbleOf, hexOk, hexFrom}
 use Rattle.text.specs.Signs.{negated, unsigned, intAt}
 use Rattle.text.specs.Words.{bytesOf, isPrefix, flagDigit}
-use Rattle.panel_lines.specs.Answers.{refusedText, flagsText, showText}
+use Rattle.panel_lines.specs.Answers.{refusedText, flagsText, updatesText, showText}
 use Rattle.panel_lines.specs.Line.{readShape, pairOkAt, allPairs, tailAt, halves, readAdd, readOf}
 use Rattle.panel_lines.proofs.Figures.{same}
 use Rattle.panel_step.specs.Panel.{roomy, panelRefusal, shapeCall, addCall, panelText, showLine, replyText, answerTo, answerLine, answersOf}
@@ -58,6 +58,6 @@ pub sample : T (answered
     ("(shape 2 2 4 2)"
     ∷ ("(add 7 5 0000000000000000 (8000000000000000 0000000000000006) (0000000000000000 0000000000000000))"
     ∷ ("(show)" ∷ [])))
-    "(ok)\n(ok)\n(show (l1 4014000000000000) (l2 4014000000000000) (keys 3FF0000000000000) (flags 1 1))\n")
-unfolding answered empty same answersOf answerLine answerTo shapeCall addCall panelText showLine replyText roomy panelRefusal shapeRefusal showText flagsText flagDigit hexDigits hexGlyph readOf readShape readAdd tailAt allPairs pairOkAt halves fieldAt stopped decFrom numFrom isDigit intAt unsigned hexOk hexFrom isHex nibbleOf isPrefix inRange capped allIn normRead rootAt rootBits root log2In log2 maskBits hashOf column insertBy sortBy middleF median estimates estimateOf cellsInRange l2Squared l2Of normsInRange sumBelow normsOf addCell addRows rowsRead rowsFit candsOf find seat offer beginOf lensFrom headerOk bottomFrom bottomOf addSketch addLayer addReads addFits updateCall lengthsOk view flat freshLent cellOff normOff candOff layerAt putLayer overLayers allLayers updateTests updated gSum standardSum gOf counted addTerm sumOver l1Call l2Call sumCall panelCall l2OfState ownAt gSumOf itemsRead layerReads items toBits ofInt ofBits add sub mul div rowsAt colsAt freshHeader signed wordsOf entriesOf up middle le factor
+    "(ok)\n(ok)\n(show (l1 4014000000000000) (l2 4014000000000000) (keys 3FF0000000000000) (flags 1 1) (updates 1))\n")
+unfolding answered empty same answersOf answerLine answerTo shapeCall addCall panelText showLine replyText roomy panelRefusal shapeRefusal showText updatesText dec decIn flagsText flagDigit hexDigits hexGlyph readOf readShape readAdd tailAt allPairs pairOkAt halves fieldAt stopped decFrom numFrom isDigit intAt unsigned hexOk hexFrom isHex nibbleOf isPrefix inRange capped allIn normRead rootAt rootBits root log2In log2 maskBits hashOf column insertBy sortBy middleF median estimates estimateOf cellsInRange l2Squared l2Of normsInRange sumBelow normsOf addCell addRows rowsRead rowsFit candsOf find seat offer beginOf lensFrom headerOk bottomFrom bottomOf addSketch addLayer addReads addFits updateCall lengthsOk view flat freshLent cellOff normOff candOff layerAt putLayer overLayers allLayers updateTests updated gSum standardSum gOf counted addTerm sumOver l1Call l2Call sumCall panelCall l2OfState ownAt gSumOf itemsRead layerReads items toBits ofInt ofBits add sub mul div rowsAt colsAt freshHeader signed wordsOf entriesOf up middle le factor
 sample = tt

@@ -1,7 +1,8 @@
 -- Answers as they are put into a slice. Assumes nothing.
 use Prim.Native.Nat.{ℕ, suc, _+_, _≤_, _<_}
+use native.Mathlib.Omega.{arith}
 use mathlib.Core.Path.{_≡_, refl, sym, ap, _∙_}
-use mathlib.Core.Bool.{Bool}
+use mathlib.Core.Bool.{Bool, true, false}
 use mathlib.Core.List.{List, [], _∷_, _++_, map}
 use borrow.Author.Tests.{eq-eqb, ne-eqb, le-ltb, lt-ltb}
 use lib.ListN.{length, take}
@@ -10,18 +11,22 @@ use lib.IntN.{ℤ}
 use lib.Ieee.{binary64, toBits}
 use Rattle.header.specs.declared.Shape.{Shape}
 use Rattle.header.specs.declared.Header.{Header}
+use Rattle.header.specs.Header.{headerOk}
+use Rattle.header.proofs.Ranges.{ranged-of}
 use Rattle.layout.specs.Slices.{Lent, extentOf}
 use Rattle.layout.specs.Outcomes.{Left, left}
 use Rattle.layout.specs.declared.Extent.{Extent}
 use Rattle.estimates.specs.declared.PanelAnswer.{PanelAnswer}
-use Rattle.estimates.specs.Calls.{panelCall}
+use Rattle.estimates.specs.Calls.{l1Call, panelCall}
+use Rattle.text.specs.Decimals.{dec}
+use Rattle.text.proofs.DecTexts.{dec-digits}
 use Rattle.text.proofs.Puts.{joined}
 use Rattle.panel_lines.specs.declared.line.Request.{Request}
 use Rattle.panel_lines.specs.declared.line.Request.the-variants as ask
 use Rattle.panel_lines.specs.Line.{readOf}
 use Rattle.panel_lines.specs.Answers.{okText, refusedText, showText}
 use Rattle.panel_step.proofs.Fronts.{partsIn}
-use Rattle.panel_step.specs.Panel.{refusalIn, shapeCall, addCall, panelText, showLine, Reply, reply, replyText, replied, answerTo, answerLine, Found, found, put, longest, answerWithin}
+use Rattle.panel_step.specs.Panel.{refusalIn, shapeCall, addCall, panelText, showLine, Reply, reply, replyText, replied, answerTo, answerLine, Found, found, put, updatesDigits, longest, answerWithin}
 
 -- a text and a newline behind it
 pub ended : (l o p : List ℕ) (i j : ℕ) (a : List ℕ) → o ≡ sets l 0 a → i ≡ length a → p ≡ sets o i (10 ∷ []) → j ≡ i + 1 → (j ≡ length (a ++ (10 ∷ []))) × (p ≡ sets l 0 (a ++ (10 ∷ [])))
@@ -49,9 +54,18 @@ unfolding panelText
 panel-refused h a k = rw (ne-eqb (a .refusal) 0 k)
 
 pub panel-shown : (h : Header) (a : PanelAnswer) → a .refusal ≡ 0
-    → showText (toBits binary64 (a .l1)) (toBits binary64 (a .l2)) (toBits binary64 (a .cardinality)) (take (h .shape .layers) (h .flags)) ≡ panelText h a
+    → showText (toBits binary64 (a .l1)) (toBits binary64 (a .l2)) (toBits binary64 (a .cardinality)) (take (h .shape .layers) (h .flags)) (h .totals .updates) ≡ panelText h a
 unfolding panelText
 panel-shown h a e = rw (eq-eqb (a .refusal) 0 e)
+
+-- what is shown has a header in range, so that its updates have no more digits than 2^52
+pub digits-few : (r : Lent) → panelCall r .refusal ≡ 0 → length (dec (r .head .totals .updates)) ≤ updatesDigits
+unfolding panelCall l1Call
+digits-few r e = dec-digits 15 (r .head .totals .updates) (omega (arith, ranged-of (r .head) (go (headerOk (r .head)) refl e) .totals .few))
+  where
+    go : (b : Bool) → headerOk (r .head) ≡ b → panelCall r .refusal ≡ 0 → headerOk (r .head) ≡ true
+    go true q z = q
+    go false q z = absurd (omega (arith, rw q at z))
 
 pub nothing-shown : (r : Lent) → (refusalIn r (r .head .shape) ≡ 0 → ⊥) → refusedText 13 ≡ showLine r
 unfolding showLine

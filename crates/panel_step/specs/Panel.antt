@@ -86,12 +86,12 @@ backBy r (Outcome.yes t) = Outcome.yes (putBack (extentOf (r .head .shape)) r t)
 unfoldable pub addCall : Lent → List ℕ → ℤ → Left
 addCall r words w = cond (started r) (leftBy r (backBy r (updateCall kind.Standard (inUse r) words w))) (left 13 r)
 
--- ---- "Show gives L1, L2 and cardinality as f64 bits, then each layer's flag from layer 0, 1 for complete."
+-- ---- "Show gives L1, L2 and cardinality as f64 bits, then each layer's flag from layer 0, 1 for complete.", then "(updates U), decimal"
 
 unfoldable pub panelText : Header → PanelAnswer → List ℕ
 panelText h a =
     cond (eqb (a .refusal) 0)
-    (showText (toBits binary64 (a .l1)) (toBits binary64 (a .l2)) (toBits binary64 (a .cardinality)) (take (h .shape .layers) (h .flags)))
+    (showText (toBits binary64 (a .l1)) (toBits binary64 (a .l2)) (toBits binary64 (a .cardinality)) (take (h .shape .layers) (h .flags)) (h .totals .updates))
     (refusedText (a .refusal))
 
 unfoldable pub showLine : Lent → List ℕ
@@ -151,9 +151,13 @@ put a o = found (a .lends) (length (a .text)) (sets o 0 (a .text))
 abbrev pub behind : ℕ → Reply → List ℕ → Found
 behind at a o = found (a .lends) (at + length (a .text)) (sets o at (a .text))
 
--- `(show ..)` of the most layers, and a newline
+-- the digits of 2^52
+abbrev pub updatesDigits : ℕ
+updatesDigits = 16
+
+-- `(show ..)` of the most layers and updates, and a newline
 abbrev pub longest : ℕ
-longest = showBytes maxLayers + 1
+longest = showBytes maxLayers updatesDigits + 1
 
 -- nothing is done where the longest answer has no room
 unfoldable pub answerWithin : ℕ → Lent → List ℕ → Reply

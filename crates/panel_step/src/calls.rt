@@ -16,7 +16,7 @@ ghost use Rattle.layout.specs.Lending.{lentIn, lentOut};
 ghost use Rattle.univmon.specs.Calls.{answered};
 ghost use Rattle.estimates.specs.Calls.{panelCall};
 ghost use Rattle.panel_lines.specs.Answers.{showBytes};
-ghost use Rattle.panel_step.specs.Panel.{shapeCall, addCall, showLine, panelText};
+ghost use Rattle.panel_step.specs.Panel.{shapeCall, addCall, showLine, panelText, updatesDigits};
 
 // 13 before a shape.
 const NO_SHAPE: u64 = 13;
@@ -118,11 +118,11 @@ fn show_parts(
     out: &mut [u8],
 ) -> usize
     requires { ⌜ header .shape .layers ≤ maxLayers ⌝ }
-    requires { ⌜ showBytes maxLayers ≤ length (now out) ⌝ }
+    requires { ⌜ showBytes maxLayers updatesDigits ≤ length (now out) ⌝ }
     ensures { λ r. ⌜ r ≡ length (panelText header (panelCall (lentIn header counters norms entries counts))) ⌝ }
     ensures { λ _. ⌜ now (out .exit)
         ≡ sets (now (out .entry)) 0 (panelText header (panelCall (lentIn header counters norms entries counts))) ⌝ }
-    ensures { λ r. ⌜ r ≤ showBytes maxLayers ⌝ }
+    ensures { λ r. ⌜ r ≤ showBytes maxLayers updatesDigits ⌝ }
 {
     let a = estimates::panel_answer(header, counters, norms, entries, counts);
     if a.refusal != 0 {
@@ -133,10 +133,10 @@ fn show_parts(
     let keys = float64::to_bits(a.cardinality);
     let flags = header.flags;
     let layers = header.shape.layers;
-    put_show(out, l1, l2, keys, &flags[..layers])
+    put_show(out, l1, l2, keys, &flags[..layers], header.totals.updates)
 }
 
-// Writes the three answers and the flags.
+// Writes the three answers, the flags and the number of updates.
 pub fn show(
     header: Header,
     counters: &[i64],
@@ -145,10 +145,10 @@ pub fn show(
     counts: &[i64],
     out: &mut [u8],
 ) -> usize
-    requires { ⌜ showBytes maxLayers ≤ length (now out) ⌝ }
+    requires { ⌜ showBytes maxLayers updatesDigits ≤ length (now out) ⌝ }
     ensures { λ r. ⌜ r ≡ length (showLine (lentIn header counters norms entries counts)) ⌝ }
     ensures { λ _. ⌜ now (out .exit) ≡ sets (now (out .entry)) 0 (showLine (lentIn header counters norms entries counts)) ⌝ }
-    ensures { λ r. ⌜ r ≤ showBytes maxLayers ⌝ }
+    ensures { λ r. ⌜ r ≤ showBytes maxLayers updatesDigits ⌝ }
 {
     let shape = header.shape;
     if panel_refusal(

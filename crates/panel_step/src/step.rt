@@ -20,8 +20,11 @@ ghost use lib.Seq.{sets};
 ghost use Rattle.layout.specs.Lending.{lentIn, lentOut};
 ghost use Rattle.panel_step.specs.Panel.{shapeCall, addCall, showLine, replyText, replied, reply, found, put, longest, answerWithin};
 
-// The longest answer, with its newline: `(show ..)` of the most layers.
-pub const LONGEST: usize = SHOW_BARE + 2 * Shape::MAX_LAYERS + 1;
+// The decimal digits of 2^52, the greatest number of updates.
+const UPDATES_DIGITS: usize = 16;
+
+// The longest answer, with its newline: `(show ..)` of the most layers and updates.
+pub const LONGEST: usize = SHOW_BARE + 2 * Shape::MAX_LAYERS + UPDATES_DIGITS + 1;
 
 const UNREADABLE: u64 = 13;
 

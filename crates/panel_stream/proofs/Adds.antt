@@ -31,10 +31,11 @@ clear-mode b m a e = ap (λ (z : Mode). clash z mode.Standard) e ∙ no-clash b 
 pub not-six : (sh : Shape) (b : Book) (words : List ℕ) (w : ℤ) → Standards b → feedNumber sh b kind.Standard words w ≡ 6 → ⊥
 unfolding feedNumber
 not-six sh b words w a e =
-    go (eqb (length words) (recordLength (sh .layers))) (nonNeg w) (leb (weightOf b + natAbs w) top) (rw (clear-mode b (bookMode b) a refl) at e)
+    go (eqb (length words) (recordLength (sh .layers))) (nonNeg w) (leb (weightOf b + natAbs w) top) (leb (length b + 1) top) (rw (clear-mode b (bookMode b) a refl) at e)
   where
-    go : (x y z : Bool) → _≡_ {A = ℕ} (cond (not x) 12 (cond (not y) 5 (cond false 6 (cond (not z) 7 0)))) 6 → ⊥
-    go false y z q = omega arith
-    go true false z q = omega arith
-    go true true false q = omega arith
-    go true true true q = omega arith
+    go : (x y z u : Bool) → _≡_ {A = ℕ} (cond (not x) 12 (cond (not y) 5 (cond false 6 (cond (not z) 7 (cond (not u) 14 0))))) 6 → ⊥
+    go false y z u q = omega arith
+    go true false z u q = omega arith
+    go true true false u q = omega arith
+    go true true true false q = omega arith
+    go true true true true q = omega arith

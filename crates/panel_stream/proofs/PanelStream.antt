@@ -1,10 +1,10 @@
 -- The claim about the program and its lines, proved: the statement stands in specs/PanelStream.antt. Assumes nothing.
 use mathlib.Core.Path.{_≡_, refl, sym, ap, _∙_, subst}
-use Prim.Native.Nat.{ℕ}
+use Prim.Native.Nat.{ℕ, suc}
 use native.Mathlib.Omega.{arith}
 use mathlib.Core.Bool.{Bool, true, false, cond}
 use mathlib.Core.List.{List, [], _∷_, _++_}
-use lib.ListN.{length}
+use lib.ListN.{length, length-append}
 use lib.IntN.{ℤ}
 use lib.Dec.{eqb}
 use borrow.Author.Tests.{eqb-true, ne-eqb}
@@ -22,19 +22,21 @@ use Rattle.univmon.specs.Calls.{updateCall}
 use Rattle.shared_streams.specs.Books.{Update}
 use Rattle.shared_streams.specs.Relays.{updateBy}
 use Rattle.shared_streams.specs.Ledger.{feedNumber, Answers}
+use Rattle.shared_streams.specs.SharedStreams.{Claimed}
 use Rattle.shared_streams.proofs.BookLaws.{OfMode}
 use Rattle.shared_streams.proofs.Calls.{LentBy, lent-lengths, lent-fed, lent-fresh}
 use Rattle.shared_streams.proofs.Acceptance.{feed-answers}
 use Rattle.shared_streams.proofs.Claims.{claimed}
+use Rattle.text.specs.Words.{isPrefix}
 use Rattle.panel_lines.specs.declared.line.Request.{Request}
 use Rattle.panel_lines.specs.declared.line.Request.the-variants as ask
 use Rattle.panel_lines.specs.Line.{readOf}
-use Rattle.panel_lines.specs.Answers.{refusedText}
+use Rattle.panel_lines.specs.Answers.{okText, refusedText}
 use Rattle.panel_lines.specs.Split.{lines, wholeOf}
-use Rattle.panel_step.specs.Panel.{inUse, putBack, panelRefusal, paperRefusal, refusalIn, shapeCall, started, backBy, addCall, panelText, showLine, Reply, answerTo, answerLine, answersOf, runOf}
+use Rattle.panel_step.specs.Panel.{inUse, putBack, panelRefusal, paperRefusal, refusalIn, shapeCall, started, backBy, addCall, panelText, showLine, Reply, replyText, answerTo, answerLine, answersOf, runOf}
 use Rattle.panel_step.proofs.Rooms.{fit-of, own-refusal}
 use Rattle.panel_step.proofs.Runs.{run-whole}
-use Rattle.panel_stream.specs.PanelStream.{Log, shapeBy, blank, addNumber, logShaped, logAdded, logAfter, logOf, relayIn, Shown, NextLine, Theorem, Own, Corollary}
+use Rattle.panel_stream.specs.PanelStream.{Log, shapeBy, blank, addNumber, logShaped, logAdded, logAfter, logOf, isOk, fedAfter, timesFed, relayIn, Shown, NextLine, Theorem, Own, Corollary}
 use Rattle.panel_stream.proofs.Backs.{Just, just, back-in, back-room}
 use Rattle.panel_stream.proofs.Adds.{Standards, not-six}
 use Rattle.panel_stream.proofs.Shows.{panel-is, panel-keys, panel-flags}
@@ -190,26 +192,70 @@ unfolding answersOf answerLine logOf
 lines-kept f [] r g k = k
 lines-kept f (l ∷ ls) r g k = lines-kept f ls (answerLine r l .lends) (logAfter f g (readOf l .request) (readOf l .words)) (to-kept f r g (readOf l .request) (readOf l .words) k)
 
+-- ---- how often the relay was fed
+
+-- `(ok)` stands for 0 alone
+ok-said : (n : ℕ) → isOk (replyText n ++ (10 ∷ [])) ≡ eqb n 0
+unfolding replyText refusedText isPrefix
+ok-said n = go (eqb n 0)
+  where
+    go : (b : Bool) → isOk (cond b okText (refusedText n) ++ (10 ∷ [])) ≡ b
+    go true = refl
+    go false = refl
+
+to-fed : (f : Shape → ℕ) (r : Lent) (g : Log) (q : Request) (words : List ℕ) (n : ℕ) → Kept f r g → n ≡ length (g .book)
+    → fedAfter n q (answerTo r q words .text) ≡ length (logAfter f g q words .book)
+unfolding answerTo logShaped logAdded
+to-fed f r g (ask.Shape heap rows cols layers) words n k e =
+    ap (λ (b : Bool). cond b 0 n) (ok-said (shapeCall r sh .refusal) ∙ ap (λ (m : ℕ). eqb m 0) (next-shape f r g k sh)) ∙ go (eqb (f sh) 0)
+  where
+    sh : Shape
+    sh = shapeBy heap rows cols layers
+
+    go : (b : Bool) → cond b 0 n ≡ length (cond b (record { started = true; shape = sh; book = [] }) g .book)
+    go true = refl
+    go false = e
+to-fed f r g (ask.Add w m) words n k e =
+    ap (λ (b : Bool). cond b (suc n) n) (ok-said (addCall r words w .refusal) ∙ ap (λ (i : ℕ). eqb i 0) (next-add f r g k words w)) ∙ go (eqb (addNumber g words w) 0)
+  where
+    go : (b : Bool) → cond b (suc n) n ≡ length (cond b (more f r g k words w) g .book)
+    go true = omega (arith, e, length-append (g .book) (updateBy kind.Standard words w ∷ []))
+    go false = e
+to-fed f r g ask.Show words n k e = e
+to-fed f r g ask.Unreadable words n k e = e
+
+lines-fed : (f : Shape → ℕ) (ls : List (List ℕ)) (r : Lent) (g : Log) (n : ℕ) → Kept f r g → n ≡ length (g .book) → timesFed r n ls ≡ length (logOf f g ls .book)
+unfolding timesFed answerLine logOf
+lines-fed f [] r g n k e = e
+lines-fed f (l ∷ ls) r g n k e =
+    let q : Request = readOf l .request in
+    let words : List ℕ = readOf l .words in
+    lines-fed f ls (answerTo r q words .lends) (logAfter f g q words) (fedAfter n q (answerTo r q words .text)) (to-kept f r g q words k) (to-fed f r g q words n k e)
+
 -- ---- what the next line is answered with
 
-module _ (f : Shape → ℕ) (r : Lent) (g : Log) (k : Kept f r g) where
+module _ (f : Shape → ℕ) (r : Lent) (g : Log) (n : ℕ) (k : Kept f r g) (times : n ≡ length (g .book)) where
   early : g .started ≡ false → showLine r ≡ refusedText 13
   unfolding showLine
   early e = rw (k .begun ∙ e) refl
 
-  shown : g .started ≡ true → Shown r (g .shape) (g .book)
+  shown : g .started ≡ true → Shown r (g .shape) (g .book) n
   unfolding showLine panelText
   shown e =
       record {
-        claimed = claimed (g .shape) (x .good) (relayIn r (g .book)) (x .by);
-        line = rw (k .begun ∙ e, panel-is (g .shape) (x .good) (g .book) (inUse r) (x .by) (x .kinds), panel-flags (g .shape) (x .good) (g .book) (inUse r) (x .by) (x .kinds)) refl;
+        claimed = claim;
+        line = rw (k .begun ∙ e, panel-is (g .shape) (x .good) (g .book) (inUse r) (x .by) (x .kinds), panel-flags (g .shape) (x .good) (g .book) (inUse r) (x .by) (x .kinds), claim .holds .updates, times) refl;
+        updates = times;
         keys = panel-keys (g .shape) (x .good) (g .book) (inUse r) (x .by) (x .kinds);
       }
     where
       x : Fed r g
       x = k .fed e
 
-  next-line : NextLine f r g
+      claim : Claimed (g .shape) (relayIn r (g .book))
+      claim = claimed (g .shape) (x .good) (relayIn r (g .book)) (x .by)
+
+  next-line : NextLine f r g n
   next-line = record { shape = next-shape f r g k; add = next-add f r g k; alike = add-alike f r g k; early = early; show = shown }
 
 -- ---- the theorem
@@ -219,7 +265,9 @@ unfolding panelRefusal shapeRefusal
 not-yet r e = record { room = λ sh. refl; begun = ap (λ (h : Header). eqb (refusalIn r (h .shape)) 0) e; fed = λ z. absurd (never z) }
 
 pub panel-stream : Theorem
-panel-stream r e ls = next-line (refusalIn r) (answersOf r ls .lends) (logOf (refusalIn r) blank ls) (lines-kept (refusalIn r) ls r blank (not-yet r e))
+panel-stream r e ls =
+    next-line (refusalIn r) (answersOf r ls .lends) (logOf (refusalIn r) blank ls) (timesFed r 0 ls) (lines-kept (refusalIn r) ls r blank (not-yet r e))
+    (lines-fed (refusalIn r) ls r blank 0 (not-yet r e) refl)
 
 -- the program's own slices add nothing to the paper's words
 own-is : (r : Lent) → Own r → refusalIn r ≡ paperRefusal
@@ -227,5 +275,5 @@ own-is r o = λ i sh. ((λ j. panelRefusal sh (o .counters j) (o .norms j) (o .e
 
 pub of-any-input : Corollary
 of-any-input r o cs =
-    subst (λ (f : Shape → ℕ). NextLine f (runOf r [] cs .lends) (logOf f blank (lines (wholeOf cs)))) (own-is r o)
-    (subst (λ (a : Reply). NextLine (refusalIn r) (a .lends) (logOf (refusalIn r) blank (lines (wholeOf cs)))) (sym (run-whole r cs)) (panel-stream r (o .head) (lines (wholeOf cs))))
+    subst (λ (f : Shape → ℕ). NextLine f (runOf r [] cs .lends) (logOf f blank (lines (wholeOf cs))) (timesFed r 0 (lines (wholeOf cs)))) (own-is r o)
+    (subst (λ (a : Reply). NextLine (refusalIn r) (a .lends) (logOf (refusalIn r) blank (lines (wholeOf cs))) (timesFed r 0 (lines (wholeOf cs)))) (sym (run-whole r cs)) (panel-stream r (o .head) (lines (wholeOf cs))))

@@ -74,7 +74,7 @@ module _ (s : State) (b : Book) (v : shapeRefusal (s .head .shape) ≡ 0) (r : R
       let d : Dims = dimsAt (s .head .shape) 0 in
       let y : Layer = layerAt s 0 in
       and-right (countsRead (y .table) && itemsRead d (y .sketch .cells) (items (y .table))) (norm.normsInRange (d .cols) (y .sketch .norms))
-      (sum-reads d (wide (s .head .shape) a 0) (a .seats) true (sent (s .head .shape .layers) 0 b) y (omega (arith, sent-weights (s .head .shape .layers) 0 b, r .light)) (r .layers 0 (a .some)))
+      (sum-reads d (wide (s .head .shape) a 0) (a .seats) true (sent (s .head .shape .layers) 0 b) y (omega (arith, sent-weights (s .head .shape .layers) 0 b, r .within .light)) (r .layers 0 (a .some)))
 
   -- layer 0's norms are the book's
   norms-are : layerAt s 0 .sketch .norms ≡ valuesFrom (normBy (s .head .shape) b 0) (rowsAt (s .head .shape) 0) 0

@@ -1,4 +1,4 @@
-// Headers as words: the shape's four, weight, mode, a flag for each layer, a length for each layer.
+// Headers as words: the shape's four, weight, updates, mode, a flag for each layer, a length for each layer.
 use crate::shelf::get;
 use header::Header;
 use header::Mode;
@@ -8,7 +8,9 @@ ghost use Prim.Native.Nat.{_<_};
 
 const WEIGHT: usize = 4;
 
-const MODE: usize = WEIGHT + 1;
+const UPDATES: usize = WEIGHT + 1;
+
+const MODE: usize = UPDATES + 1;
 
 const FLAGS: usize = MODE + 1;
 
@@ -54,6 +56,7 @@ pub fn words_of(h: Header) -> [u64; HEAD_WORDS] {
     words[2] = h.shape.cols as u64;
     words[3] = h.shape.layers as u64;
     words[WEIGHT] = h.totals.weight;
+    words[UPDATES] = h.totals.updates;
     words[MODE] = number_of(mode);
     let mut l = 0;
     while l < Shape::MAX_LAYERS {
@@ -84,6 +87,7 @@ pub fn header_of(xs: &[u64], at: usize) -> Header {
         shape,
         totals: Totals {
             weight: get(xs, at, WEIGHT),
+            updates: get(xs, at, UPDATES),
         },
         lens,
         flags,

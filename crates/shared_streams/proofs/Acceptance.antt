@@ -1,21 +1,22 @@
 -- What a call on relays that are as their books say is answered with: the number that the books say. Assumes nothing.
 use mathlib.Core.Path.{_≡_, refl, ap, ap₂, _∙_, sym, subst}
-use Prim.Native.Nat.{ℕ, _+_}
+use Prim.Native.Nat.{ℕ}
 use mathlib.Core.Bool.{Bool, true, false, not}
 use mathlib.Core.List.{List, [], _∷_, _++_}
 use lib.ListN.{length}
 use lib.IntN.{ℤ, pos, negsuc}
-use lib.Dec.{eqb, leb}
-use borrow.Author.Tests.{eqb-true, eqb-false, leb-true, not-false}
-use Rattle.words.specs.Num.{top}
+use lib.Dec.{eqb}
+use borrow.Author.Tests.{eqb-true, eqb-false}
 use Rattle.words.specs.Tests.{number, numbered}
 use Rattle.words.proofs.Bools.{never}
 use Rattle.words.proofs.Tests.{Off, off-number, number-rest, number-alone}
 use Rattle.header.specs.declared.Shape.{Shape}
 use Rattle.header.specs.declared.Mode.{Mode}
+use Rattle.header.specs.declared.Totals.{Totals}
 use Rattle.header.specs.Shape.{shapeRefusal, sameShape}
-use Rattle.header.specs.Totals.{totalsTests}
+use Rattle.header.specs.Totals.{updateTotals, totalsTests}
 use Rattle.header.specs.Header.{scalarsOf, clash, beginTests}
+use Rattle.header.proofs.Bounds.{sum-within}
 use Rattle.layout.specs.Records.{recordLength}
 use Rattle.layout.specs.Slices.{Lent, view, flat}
 use Rattle.layout.specs.Outcomes.{Outcome, judge, lentTests}
@@ -58,13 +59,13 @@ feed-answers sh v b r x k words w =
     front = (not (eqb (length words) (recordLength (r .head .shape .layers))), 12) ∷ beginTests (scalarsOf (r .head)) w (modeOf k)
 
     sent : (z : ℤ) → Off ((not (eqb (length words) (recordLength (r .head .shape .layers))), 12) ∷ beginTests (scalarsOf (r .head)) z (modeOf k)) → Off (sentTests k (view r) words z)
-    sent (pos m) o = update-sent sh v k b r words m x (leb-true (r .head .totals .weight + m) top (not-false (leb (r .head .totals .weight + m) top) (o .1 .1 .1 .0)))
+    sent (pos m) o = update-sent sh v k b r words m x (sum-within (r .head .totals) (updateTotals m) (o .1 .1 .1) .light)
     sent (negsuc m) o = absurd (never (sym (o .1 .0)))
 
     by-book : number ((not (eqb (length words) (recordLength (r .head .shape .layers))), 12) ∷ beginTests (scalarsOf (r .head)) w (modeOf k)) ≡ number (feedTests sh b k words w)
     by-book =
         ap (λ (z : Shape). number ((not (eqb (length words) (recordLength (z .layers))), 12) ∷ beginTests (record { shape = z; totals = r .head .totals; mode = r .head .mode }) w (modeOf k))) (by .shape)
-        ∙ ap₂ (λ (m : Mode) (n : ℕ). number ((not (eqb (length words) (recordLength (sh .layers))), 12) ∷ beginTests (record { shape = sh; totals = record { weight = n }; mode = m }) w (modeOf k))) (by .mode) (by .weight)
+        ∙ ap₂ (λ (m : Mode) (t : Totals). number ((not (eqb (length words) (recordLength (sh .layers))), 12) ∷ beginTests (record { shape = sh; totals = t; mode = m }) w (modeOf k))) (by .mode) (by .totals)
 
 -- ---- a merge
 
@@ -90,9 +91,9 @@ join-answers sh v a b r t x y =
         (p .0, (p .1 .0, (q .0, (q .1 .0, (ap not (shapes-same sh a b r t x y), tt)))))
 
     paired : Off ((clash (r .head .mode) (t .head .mode), 6) ∷ totalsTests (r .head .totals) (t .head .totals)) → Off (pairTests (r .head .shape .layers) (view r) (view t))
-    paired o = merge-paired sh v a b r t x y (leb-true (r .head .totals .weight + t .head .totals .weight) top (not-false (leb (r .head .totals .weight + t .head .totals .weight) top) (o .1 .0)))
+    paired o = merge-paired sh v a b r t x y (sum-within (r .head .totals) (t .head .totals) (o .1) .light)
 
     by-books : number ((clash (r .head .mode) (t .head .mode), 6) ∷ totalsTests (r .head .totals) (t .head .totals)) ≡ number (joinTests a b)
     by-books =
         ap₂ (λ (m n : Mode). number ((clash m n, 6) ∷ totalsTests (r .head .totals) (t .head .totals))) (by .mode) (to .mode)
-        ∙ ap₂ (λ (m n : ℕ). number ((clash (bookMode a) (bookMode b), 6) ∷ totalsTests (record { weight = m }) (record { weight = n }))) (by .weight) (to .weight)
+        ∙ ap₂ (λ (m n : Totals). number ((clash (bookMode a) (bookMode b), 6) ∷ totalsTests m n)) (by .totals) (to .totals)

@@ -18,6 +18,7 @@ use Rattle.header.specs.declared.Mode.the-variants as mode
 use Rattle.header.specs.Shape.{maxLayers, shapeRefusal, bottomOf}
 use Rattle.header.specs.inner.Accepted.{Accepted}
 use Rattle.header.proofs.Refusals.{accepted-of}
+use Rattle.header.proofs.Bounds.{Within}
 use Rattle.header.specs.Header.{Headed}
 use Rattle.layout.specs.State.{State}
 use Rattle.layout.specs.Slices.{Lent, view, flat, freshLent}
@@ -39,10 +40,10 @@ use Rattle.shared_streams.specs.Books.{Book, bookKeys, keysSent, times, 
 use Rattle.shared_streams.specs.Relays.{Relay, takes}
 use Rattle.shared_streams.specs.SharedStreams.{Formed, SameValues, Alone, Claimed}
 use Rattle.shared_streams.proofs.Keys.{distinct-same}
-use Rattle.shared_streams.proofs.BookLaws.{Fitting, no-weight, OfMode}
+use Rattle.shared_streams.proofs.BookLaws.{Fitting, totals-append, OfMode}
 use Rattle.shared_streams.proofs.Relays.{RelayBy}
 use Rattle.shared_streams.proofs.Refusals.{ranged-by, sums-read}
-use Rattle.shared_streams.proofs.Reorders.{reordered-all, reordered-weight}
+use Rattle.shared_streams.proofs.Reorders.{reordered-all, reordered-totals}
 use Rattle.shared_streams.proofs.Values.{holds-by}
 use Rattle.shared_streams.proofs.Same.{holds-reordered, same-values}
 use Rattle.shared_streams.proofs.Calls.{LentBy, lent-view, lent-off, lent-fresh}
@@ -158,7 +159,7 @@ module _ (sh : Shape) (v : shapeRefusal sh ≡ 0) (r : Relay) (x : LentBy sh (r 
       took : (t : Lent) × (takes (freshLent sh) b ≡ Outcome.yes t) × LentBy sh b t
       took =
           takes-all sh v (bookMode (r .book)) b [] (freshLent sh) (lent-fresh sh v) tt (reordered-all (OfMode (bookMode (r .book))) o (x .by .kinds)) (reordered-all (Fitting sh) o (x .by .words))
-          (omega (arith, x .by .light, reordered-weight o, no-weight))
+          (subst Within (reordered-totals o ∙ totals-append [] b) (x .by .within))
 
   pub claimed : Claimed sh r
   unfolding flat
@@ -177,7 +178,8 @@ module _ (sh : Shape) (v : shapeRefusal sh ≡ 0) (r : Relay) (x : LentBy sh (r 
               exact = int-value (pos (distinct (bookKeys (r .book)))) (omega (arith, few, accepted-of sh v .small));
             };
         kinds = λ e f m n. same-kind (e .kind) (f .kind) (all-at (OfMode (bookMode (r .book))) (r .book) (by .kinds) e m ∙ sym (all-at (OfMode (bookMode (r .book))) (r .book) (by .kinds) f n));
-        light = by .light;
+        light = by .within .light;
+        few = by .within .few;
       }
     where
       by : RelayBy sh (r .book) (view (r .lends))

@@ -71,16 +71,16 @@ twoRecords = feed 2 (feedOf kind.Standard recordA (pos 1)) ∷ feed 2 (feedOf ki
 abbrev twoHashes : List Call
 twoHashes = feed 2 (feedOf kind.Standard (7 ∷ 2 ∷ high ∷ 6 ∷ 0 ∷ 0 ∷ []) (pos 1)) ∷ feed 2 (feedOf kind.Standard (7 ∷ 2 ∷ 3 ∷ 1 ∷ 9 ∷ 4 ∷ []) (pos 1)) ∷ []
 
--- of relay 2 of three: its updates, their weight and distinct keys, all accepted updates, and the cardinality as it is answered
+-- of relay 2 of three: its updates by the book and by the header, their weight and distinct keys, all accepted updates, and the cardinality as it is answered
 abbrev said : List Call → List ℕ
 said cs =
     let r : Relay = relayAt shape (run shape (start shape 3) cs) 2 in
-    length (r .book) ∷ weightOf (r .book) ∷ distinct (bookKeys (r .book)) ∷ length (accepted shape (start shape 3) cs) ∷ cardinalityCall (r .lends) .refusal
+    length (r .book) ∷ r .lends .head .totals .updates ∷ weightOf (r .book) ∷ distinct (bookKeys (r .book)) ∷ length (accepted shape (start shape 3) cs) ∷ cardinalityCall (r .lends) .refusal
     ∷ toBits binary64 (cardinalityCall (r .lends) .value) ∷ []
 
 pub examples : map said (standards ∷ terminals ∷ twoRecords ∷ twoHashes ∷ [])
-    ≡ (3 ∷ 8 ∷ 2 ∷ 3 ∷ 0 ∷ 0x4000000000000000 ∷ []) ∷ (3 ∷ 0 ∷ 2 ∷ 3 ∷ 0 ∷ 0x4000000000000000 ∷ []) ∷ (2 ∷ 2 ∷ 1 ∷ 2 ∷ 0 ∷ 0x4008000000000000 ∷ [])
-    ∷ (2 ∷ 2 ∷ 1 ∷ 2 ∷ 0 ∷ 0x3FF0000000000000 ∷ []) ∷ []
+    ≡ (3 ∷ 3 ∷ 8 ∷ 2 ∷ 3 ∷ 0 ∷ 0x4000000000000000 ∷ []) ∷ (3 ∷ 3 ∷ 0 ∷ 2 ∷ 3 ∷ 0 ∷ 0x4000000000000000 ∷ []) ∷ (2 ∷ 2 ∷ 2 ∷ 1 ∷ 2 ∷ 0 ∷ 0x4008000000000000 ∷ [])
+    ∷ (2 ∷ 2 ∷ 2 ∷ 1 ∷ 2 ∷ 0 ∷ 0x3FF0000000000000 ∷ []) ∷ []
 unfolding ofInt ofBits toBits add sub mul div le inRange capped allIn log2In log2 maskBits hashOf column signed insertBy sortBy middleF median middle estimates estimateF estimateOf cellsInRange sums sumBelow squaresFrom rowNorms normsOf wordsOf addCell addRows rowsRead rowsFit up down updateAt leftOr lower candsOf entriesOf find rescore replaceRoot displace seat offer freshHeader lensFrom headerOk shapeRefusal bottomFrom bottomOf addSketch addLayer addReads addFits hasKey firsts items offerAll mergeLayer mergeReads mergeFits updateCall lengthsOk view flat freshLent rowsAt colsAt cellOff normOff candOff layerAt putLayer overLayers allLayers updateTests updated mergeTests merged mergeCall called feeds.run gSum standardSum gOf factor counted addTerm sumOver sumCall ownAt gSumOf itemsRead layerReads weightOf distinct feeds.accepted normRead root l2Squared l2Of normsInRange heavyThreshold gatherOne gatherEntries ahead rankIn ranked gathered flagged complete squares terminalSum
 examples = refl
 

@@ -9,27 +9,24 @@ use lib.IntN.{ℤ}
 use lib.Dec.{eqb}
 use Rattle.words.specs.Tests.{number}
 use Rattle.header.specs.declared.Shape.{Shape}
-use Rattle.header.specs.declared.Totals.{Totals}
 use Rattle.header.specs.declared.Scalars.{Scalars}
 use Rattle.header.specs.Totals.{totalsTests}
 use Rattle.header.specs.Header.{clash, beginTests}
 use Rattle.layout.specs.Outcomes.{Outcome, recordTest}
 use Rattle.univmon.specs.declared.Kind.{Kind}
 use Rattle.univmon.specs.Updates.{modeOf}
-use Rattle.shared_streams.specs.Books.{Update, Book, weightOf, bookMode}
+use Rattle.shared_streams.specs.Books.{Update, Book, totalsOf, bookMode}
 use Rattle.shared_streams.specs.Feeds.{feed, join, names}
 use Rattle.shared_streams.specs.Relays.{Feed, updating, Relay, Call}
 
 -- ---- what a call is answered with, by books and arguments: the number of its refusal, 0 where "no refusal of these papers applies"
 
 -- what a header with that book holds beside its layers
-abbrev pub totalsOf : Book → Totals
-totalsOf b = record { weight = weightOf b }
-
 abbrev pub scalarsBy : Shape → Book → Scalars
 scalarsBy sh b = record { shape = sh; totals = totalsOf b; mode = bookMode b }
 
--- an update: 12 "record length wrong", then 5 "negative weight", 6 "mode mixed in update", 7 "weight would pass 2^52", as a header judges them
+-- an update: 12 "record length wrong", then 5 "negative weight", 6 "mode mixed in update", 7 "weight would pass 2^52", 14 "updates would pass 2^52", as a header
+-- judges them
 abbrev pub feedTests : Shape → Book → Kind → List ℕ → ℤ → List (Bool × ℕ)
 feedTests sh b k words w = recordTest sh (length words) ∷ beginTests (scalarsBy sh b) w (modeOf k)
 
@@ -39,7 +36,7 @@ feedNumber sh b k words w = number (feedTests sh b k words w)
 abbrev pub answeredWith : Shape → Book → Feed → ℕ
 answeredWith sh b f = feedNumber sh b (f .kind) (f .words) (f .weight)
 
--- a merge of a second relay into a first, both of one shape: 6 "mode mixed in .. merge" and 7
+-- a merge of a second relay into a first, both of one shape: 6 "mode mixed in .. merge", 7 and 14
 abbrev pub joinTests : Book → Book → List (Bool × ℕ)
 joinTests a b = (clash (bookMode a) (bookMode b), 6) ∷ totalsTests (totalsOf a) (totalsOf b)
 

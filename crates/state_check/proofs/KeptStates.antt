@@ -7,7 +7,7 @@ use mathlib.Core.List.{List}
 use lib.ListN.{replicate, length-replicate}
 use lib.IntN.{ℤ, pos, natAbs}
 use borrow.Author.Tests.{leb-false, not-false}
-use Rattle.words.specs.Num.{top, inRange, allIn}
+use Rattle.words.specs.Num.{inRange, allIn}
 use Rattle.words.proofs.Tests.{Off}
 use Rattle.words.proofs.Lists.{getD-all}
 use Rattle.countsketch_l2_norm.proofs.Bounds.{kept-none}
@@ -18,6 +18,7 @@ use Rattle.header.specs.Totals.{updateTotals, addTotals}
 use Rattle.header.specs.Header.{freshHeader, joined, settled}
 use Rattle.header.specs.inner.Accepted.{Accepted}
 use Rattle.header.proofs.Bottoms.{bottom-lt}
+use Rattle.header.proofs.Bounds.{Within}
 use Rattle.header.proofs.Refusals.{accepted-of}
 use Rattle.header.proofs.Shapes.{same-of}
 use Rattle.layer.specs.declared.Dims.{Dims}
@@ -46,11 +47,11 @@ each p s k l m h q e = passed-at (λ n i. allLayers p n i s) (λ i. p i (layerAt
 
 -- ---- an update
 
-pub update-state : (k : Kind) (s : State) (words : List ℕ) (w : ℤ) → WholeState s → s .head .totals .weight + natAbs w ≤ top → Off (sentTests k s words w) → WholeState (updated k s words w)
+pub update-state : (k : Kind) (s : State) (words : List ℕ) (w : ℤ) → WholeState s → Within (addTotals (s .head .totals) (updateTotals (natAbs w))) → Off (sentTests k s words w) → WholeState (updated k s words w)
 unfolding updated layerAt
-update-state k s words w g light o =
+update-state k s words w g within o =
     over-whole (addsAt (s .head .shape) words (natAbs w)) M F
-    _ (head-whole s (addTotals (s .head .totals) (updateTotals (natAbs w))) (joined (s .head .mode) (modeOf k)) g light) room
+    _ (head-whole s (addTotals (s .head .totals) (updateTotals (natAbs w))) (joined (s .head .mode) (modeOf k)) g within) room
     (λ m p q x. add-whole (dimsAt (s .head .shape) m) (layerUpdateAt words (natAbs w) m) (layerAt s m) (shaped-at (s .head .shape) a m .some) (a .seats) x
     (each (fitsAt (s .head .shape) words (natAbs w)) s M F m p q fits))
   where
@@ -76,7 +77,7 @@ pub delta-state : (s : State) (words : List ℕ) (a : Arrival) → WholeState s 
 unfolding arrived layerAt
 delta-state s words a g c o =
     put-whole _ (a .layer) (deltaLayer (dimsAt (s .head .shape) (a .layer)) (deltaBy a words) (layerAt s (a .layer)))
-    (head-whole s (s .head .totals) (settled (s .head .mode)) g (g .light)) inside
+    (head-whole s (s .head .totals) (settled (s .head .mode)) g (g .totals)) inside
     (delta-whole (dimsAt (s .head .shape) (a .layer)) (deltaBy a words) (layerAt s (a .layer)) (leb-false (rowsAt (s .head .shape) (a .layer)) (a .row) (c .1 .0))
     (leb-false (colsAt (s .head .shape) (a .layer)) (a .col) (c .1 .1 .0)) (state-accepted s g .seats) (g .layers (a .layer) inside)
     (not-false (deltaFits (dimsAt (s .head .shape) (a .layer)) (deltaBy a words) (layerAt s (a .layer))) (o .1 .0)))
@@ -86,12 +87,12 @@ delta-state s words a g c o =
 
 -- ---- a merge
 
-pub merge-state : (s q : State) → WholeState s → WholeState q → sameShape (s .head .shape) (q .head .shape) ≡ true → s .head .totals .weight + q .head .totals .weight ≤ top
+pub merge-state : (s q : State) → WholeState s → WholeState q → sameShape (s .head .shape) (q .head .shape) ≡ true → Within (addTotals (s .head .totals) (q .head .totals))
     → Off (pairTests (s .head .shape .layers) s q) → WholeState (merged s q)
 unfolding merged layerAt
-merge-state s q g h z light o =
+merge-state s q g h z within o =
     over-whole (λ l y. mergeLayer (dimsAt (s .head .shape) l) y (layerAt q l)) (s .head .shape .layers) 0
-    _ (head-whole s (addTotals (s .head .totals) (q .head .totals)) (joined (s .head .mode) (q .head .mode)) g light) (omega arith)
+    _ (head-whole s (addTotals (s .head .totals) (q .head .totals)) (joined (s .head .mode) (q .head .mode)) g within) (omega arith)
     (λ m i j x. merge-whole (dimsAt (s .head .shape) m) (layerAt s m) (layerAt q m) (state-accepted s g .seats) x (other m (omega arith))
     (each (λ l y. mergeFits y (layerAt q l)) s (s .head .shape .layers) 0 m i j fits))
   where
@@ -128,7 +129,7 @@ new-whole sh v =
     record {
       sized = new-sized sh a;
       shape = v;
-      light = omega arith;
+      totals = record { light = omega arith; few = omega arith };
       pastLens = new-past-lens sh;
       pastFlags = new-past-flags sh;
       layers = λ l h. subst (Whole (dimsAt sh l)) (sym (new-layer sh a l h)) (none-whole (dimsAt sh l));

@@ -8,7 +8,6 @@ use mathlib.Core.List.{List}
 use lib.ListN.{length, getD}
 use lib.Dec.{eqb}
 use borrow.Author.Tests.{eq-eqb, eqb-true, lt-ltb, le-ltb, le-leb, not-true}
-use Rattle.words.specs.Num.{top}
 use Rattle.words.proofs.Bools.{and-left, and-right, both}
 use Rattle.countsketch_l2_norm.proofs.Norms.{length-norms}
 use Rattle.heap_moves.proofs.Views.{length-cands}
@@ -21,6 +20,7 @@ use Rattle.header.specs.Totals.{totalsOk}
 use Rattle.header.specs.Header as head
 use Rattle.header.specs.Header.{headerOk, lensFrom, withMode, withTotals, withFlags}
 use Rattle.header.specs.inner.Accepted.{Accepted}
+use Rattle.header.proofs.Bounds.{Within, within-ok}
 use Rattle.header.proofs.Ranges.{ranged-of}
 use Rattle.header.proofs.Refusals.{accepted-of}
 use Rattle.header.proofs.Steps.{lens-step, lens-none}
@@ -72,7 +72,7 @@ module _ (r : Lent) (e : stateOk r ≡ true) where
 pub record WholeState (s : State) : Type 0 where
   pub sized : Sized s
   pub shape : shapeRefusal (s .head .shape) ≡ 0
-  pub light : s .head .totals .weight ≤ top
+  pub totals : Within (s .head .totals)
   pub pastLens : (l : ℕ) → s .head .shape .layers ≤ l → getD (s .head .lens) l 0 ≡ 0
   pub pastFlags : (l : ℕ) → s .head .shape .layers ≤ l → getD (s .head .flags) l false ≡ false
   pub layers : (l : ℕ) → l < s .head .shape .layers → Whole (dimsAt (s .head .shape) l) (layerAt s l)
@@ -112,7 +112,7 @@ state-whole r a e =
     record {
       sized = record { counters = z .sizes .cells; norms = length-norms (r .norms) _; cands = length-cands (r .entries) (r .counts) ∙ z .sizes .counts; flags = a .flags; lens = a .lens; few = z .accepted .few };
       shape = shape-good (r .head) a (ok-head r e);
-      light = ranged-of (r .head) (ok-head r e) .light;
+      totals = ranged-of (r .head) (ok-head r e) .totals;
       pastLens = past-lens (r .head) a (ok-head r e);
       pastFlags = past-flags (r .head) a (ok-head r e);
       layers = whole-at r e;
@@ -127,7 +127,7 @@ module _ (s : State) (w : WholeState s) where
   head-pass : headerOk (s .head) ≡ true
   unfolding headerOk layerAt
   head-pass =
-      both (both (eq-eqb (shapeRefusal (s .head .shape)) 0 (w .shape)) (le-leb (s .head .totals .weight) top (w .light)))
+      both (both (eq-eqb (shapeRefusal (s .head .shape)) 0 (w .shape)) (within-ok (s .head .totals) (w .totals)))
       (passed-all (lensFrom (s .head .shape .layers) (s .head .shape .«heap_size») (s .head .lens) (s .head .flags))
       (λ l. head.lengthOk l (s .head .shape .layers) (s .head .shape .«heap_size») (getD (s .head .lens) l 0) (getD (s .head .flags) l false))
       (lens-step (s .head .shape .layers) (s .head .shape .«heap_size») (s .head .lens) (s .head .flags)) (lens-none (s .head .shape .layers) (s .head .shape .«heap_size») (s .head .lens) (s .head .flags)) maxLayers 0
@@ -161,7 +161,7 @@ over-whole f k l s w room g =
     record {
       sized = o .sized;
       shape = ap shapeRefusal (o .shape) ∙ w .shape;
-      light = subst (λ (z : Totals). z .weight ≤ top) (sym (o .totals)) (w .light);
+      totals = subst Within (sym (o .totals)) (w .totals);
       pastLens = λ m h. o .pastLens m (here m h) ∙ w .pastLens m (here m h);
       pastFlags = λ m h. o .pastFlags m (here m h) ∙ w .pastFlags m (here m h);
       layers = subst (λ (sh : Shape). (m : ℕ) → m < sh .layers → Whole (dimsAt sh m) (layerAt t m)) (sym (o .shape)) (λ m h. at m h (decLt m l) (decLt m (l + k)));
@@ -193,13 +193,13 @@ put-whole s l y w h n =
 
 -- ---- other totals and another mode, other flags
 
-pub head-whole : (s : State) (t : Totals) (m : Mode) → WholeState s → t .weight ≤ top → WholeState (withHead s (withMode (withTotals (s .head) t) m))
+pub head-whole : (s : State) (t : Totals) (m : Mode) → WholeState s → Within t → WholeState (withHead s (withMode (withTotals (s .head) t) m))
 unfolding layerAt
 head-whole s t m w h =
     record {
       sized = record { counters = w .sized .counters; norms = w .sized .norms; cands = w .sized .cands; flags = w .sized .flags; lens = w .sized .lens; few = w .sized .few };
       shape = w .shape;
-      light = h;
+      totals = h;
       pastLens = w .pastLens;
       pastFlags = w .pastFlags;
       layers = w .layers;
@@ -211,7 +211,7 @@ flags-whole s fs w h p =
     record {
       sized = record { counters = w .sized .counters; norms = w .sized .norms; cands = w .sized .cands; flags = h; lens = w .sized .lens; few = w .sized .few };
       shape = w .shape;
-      light = w .light;
+      totals = w .totals;
       pastLens = w .pastLens;
       pastFlags = p;
       layers = λ l k. let y = w .layers l k in

@@ -47,6 +47,22 @@ pub dec-length : (n : ℕ) → length (dec n) ≤ 20
 unfolding dec
 dec-length n = decIn-length 20 n
 
+-- a number below 10 ^ (k + 1) has at most k + 1 digits
+decIn-digits : (f k n : ℕ) → n < 10 ^ suc k → length (decIn f n) ≤ suc k
+unfolding decIn
+decIn-digits zero k n h = omega arith
+decIn-digits (suc f) k n h = go (decIn-digits f) k h (ltb n 10) refl
+  where
+    go : ((j m : ℕ) → m < 10 ^ suc j → length (decIn f m) ≤ suc j) → (j : ℕ) → n < 10 ^ suc j → (t : Bool) → ltb n 10 ≡ t
+        → length (cond t ((48 + n) ∷ []) (decIn f (n / 10) ++ ((48 + n % 10) ∷ []))) ≤ suc j
+    go ih j l true e = omega arith
+    go ih zero l false e = absurd (omega (arith, ltb-false n 10 e))
+    go ih (suc j) l false e = simp length-append (omega (arith, ih j (n / 10) (omega arith)))
+
+pub dec-digits : (k n : ℕ) → n < 10 ^ suc k → length (dec n) ≤ suc k
+unfolding dec
+dec-digits k n h = decIn-digits 20 k n h
+
 pub dec-grows : (n : ℕ) → 10 ≤ n → n < 10 ^ 20 → length (dec n) ≡ length (dec (n / 10)) + 1
 dec-grows n h k = rw (dec-step n h k) (length-append (dec (n / 10)) ((48 + n % 10) ∷ []))
 

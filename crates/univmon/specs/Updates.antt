@@ -62,6 +62,6 @@ layersTests sh words w many first s = (not (allLayers (readsAt sh words w) many 
 abbrev pub sentTests : Kind → State → List ℕ → ℤ → List (Bool × ℕ)
 sentTests k s words w = layersTests (shapeOf s) words (natAbs w) (manySent k (bottomBy s words)) (firstSent k (bottomBy s words)) s
 
--- "Other calls: 9 for lengths and headers, 12, 10, 5, 8, 6, 7, 9 for what is read, 11.": here 9, 12; 5, 6, 7; 9, 11
+-- "Other calls: 9 for lengths and headers, 12, 10, 5, 8, 6, 7, 9 for what is read, 11.": here 9, 12; 5, 6, 7, and 14 "directly after 7"; 9, 11
 unfoldable pub updateTests : Kind → Lent → List ℕ → ℤ → List (Bool × ℕ)
 updateTests k r words w = recordTests r words ++ (beginTests (scalarsOf (r .head)) w (modeOf k) ++ sentTests k (view r) words w)

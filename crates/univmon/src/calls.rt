@@ -13,7 +13,7 @@ ghost use Rattle.layout.specs.Lending.{lentIn, lentOut};
 ghost use Rattle.univmon.specs.declared.Kind.the-variants as kind;
 ghost use Rattle.univmon.specs.Calls.{updateCall};
 
-// An update of either kind, on any arguments: 9, 12, 5, 6, 7, 9, 11. The lent lengths and flags
+// An update of either kind, on any arguments: 9, 12, 5, 6, 7, 14, 9, 11. The lent lengths and flags
 // are put back after a refusal too: a refused update has not changed them, so no second copy is kept.
 fn update_held(
     kind: Kind,

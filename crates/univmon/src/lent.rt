@@ -1,6 +1,6 @@
 // The updates on a header whose lengths and flags are lent beside the slices, 19 places each, so that no
-// header of 224 bytes is copied in and out. Shape, weight and mode go by value, as `Scalars`; lengths
-// and flags are stored in place.
+// header is copied in and out. Shape, totals and mode go by value, as `Scalars`; lengths and flags are
+// stored in place.
 use crate::Kind;
 use crate::stages::mode_of;
 use crate::stages::update;

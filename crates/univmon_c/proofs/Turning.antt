@@ -17,7 +17,7 @@ use Rattle.estimates.specs.declared.PanelAnswer.{PanelAnswer}
 use Rattle.estimates.specs.Calls.{refusedBy, noPanel}
 use Rattle.univmon_c.proofs.Shapes.{update-shape}
 use Rattle.univmon_c.specs.declared.CHeader.{CHeader}
-use Rattle.univmon_c.specs.Crossing.{modeNumber, headerOf, cAnswered, cAnswer, cPanel}
+use Rattle.univmon_c.specs.Crossing.{headerOf, cHeader, cAnswered, cAnswer, cPanel}
 use Rattle.univmon_c.specs.Calls.{CLent, cLent, lentOf, ofLent, cLeft, crossed, changeBy, mergeBy, headBy, answerBy, panelBy, checkBy}
 
 -- ---- calls that change a state
@@ -35,37 +35,16 @@ pub changed : (ok : Bool) (f : Lent → Outcome) (r : CLent) → r .head .mode �
 unfolding changeBy
 changed ok f r h k n t e = ap crossed e ∙ simp (le-leb _ _ h, k)
 
--- what C has after an update on lent lengths and flags: its own shape, and all else from t
-abbrev pub shaped : CLent → Lent → CLent
-shaped r t =
-    cLent (record {
-      «heap_size» = r .head .«heap_size»;
-      rows = r .head .rows;
-      cols = r .head .cols;
-      layers = r .head .layers;
-      weight = t .head .totals .weight;
-      mode = modeNumber (t .head .mode);
-      lens = t .head .lens;
-      flags = t .head .flags;
-    }) (t .counters) (t .norms) (t .entries) (t .counts)
+-- what C has after an update on lent lengths and flags: a shape, and all else from t
+abbrev pub withShape : Shape → Lent → CLent
+withShape sh t =
+    cLent (cHeader (record { shape = sh; totals = t .head .totals; mode = t .head .mode; flags = t .head .flags; lens = t .head .lens })) (t .counters) (t .norms) (t .entries) (t .counts)
 
+-- the shape is C's own
 pub stepped : (k : Kind) (words : List ℕ) (w : ℤ) (r : CLent) → r .head .mode ≤ 2 → (n : ℕ) (t : Lent)
-    → left n t ≡ leftBy (lentOf r) (lentUpdateCall k (lentOf r) words w) → cLeft n (shaped r t) ≡ changeBy true (λ s. lentUpdateCall k s words w) r
-stepped k words w r h n t e = ap (λ (sh : Shape). cLeft n (at sh)) (sym same) ∙ changed true (λ s. lentUpdateCall k s words w) r h refl n t e
+    → left n t ≡ leftBy (lentOf r) (lentUpdateCall k (lentOf r) words w) → cLeft n (withShape (lentOf r .head .shape) t) ≡ changeBy true (λ s. lentUpdateCall k s words w) r
+stepped k words w r h n t e = ap (λ (sh : Shape). cLeft n (withShape sh t)) (sym same) ∙ changed true (λ s. lentUpdateCall k s words w) r h refl n t e
   where
-    at : Shape → CLent
-    at sh =
-        cLent (record {
-          «heap_size» = sh .«heap_size»;
-          rows = sh .rows;
-          cols = sh .cols;
-          layers = sh .layers;
-          weight = t .head .totals .weight;
-          mode = modeNumber (t .head .mode);
-          lens = t .head .lens;
-          flags = t .head .flags;
-        }) (t .counters) (t .norms) (t .entries) (t .counts)
-
     same : t .head .shape ≡ lentOf r .head .shape
     same = ap (λ (l : Left). l .lends .head .shape) e ∙ update-shape k (lentOf r) words w
 

@@ -58,7 +58,7 @@ abbrev pub headerOf : CHeader → Header
 headerOf h =
     record {
       shape = record { «heap_size» = h .«heap_size»; rows = h .rows; cols = h .cols; layers = h .layers };
-      totals = record { weight = h .weight };
+      totals = record { weight = h .weight; updates = h .updates };
       mode = modeBy (h .mode);
       flags = h .flags;
       lens = h .lens;
@@ -72,22 +72,28 @@ cHeader h =
       cols = h .shape .cols;
       layers = h .shape .layers;
       weight = h .totals .weight;
+      updates = h .totals .updates;
       mode = modeNumber (h .mode);
       lens = h .lens;
       flags = h .flags;
     }
 
--- C's header from shape, weight, mode, and the lengths and flags that are lent; then what the library takes by value of it: all but lengths and flags
-abbrev pub cHead : CShape → ℕ → ℕ → List ℕ → List Bool → CHeader
-cHead s w m ns fs = record { «heap_size» = s .«heap_size»; rows = s .rows; cols = s .cols; layers = s .layers; weight = w; mode = m; lens = ns; flags = fs }
+-- C's header from shape, weight, updates, mode, and the lengths and flags that are lent; then what the library takes by value of it: all but lengths and flags
+abbrev pub cHead : CShape → ℕ → ℕ → ℕ → List ℕ → List Bool → CHeader
+cHead s w u m ns fs = record { «heap_size» = s .«heap_size»; rows = s .rows; cols = s .cols; layers = s .layers; weight = w; updates = u; mode = m; lens = ns; flags = fs }
 
-abbrev pub cScalars : CShape → ℕ → ℕ → Scalars
-cScalars s w m = record { shape = record { «heap_size» = s .«heap_size»; rows = s .rows; cols = s .cols; layers = s .layers }; totals = record { weight = w }; mode = modeBy m }
+abbrev pub cScalars : CShape → ℕ → ℕ → ℕ → Scalars
+cScalars s w u m =
+    record {
+      shape = record { «heap_size» = s .«heap_size»; rows = s .rows; cols = s .cols; layers = s .layers };
+      totals = record { weight = w; updates = u };
+      mode = modeBy m;
+    }
 
 -- ---- answers
 
 abbrev pub cStep : AnsweredLent → CStep
-cStep b = record { refusal = b .refusal; weight = b .scalars .totals .weight; mode = modeNumber (b .scalars .mode) }
+cStep b = record { refusal = b .refusal; weight = b .scalars .totals .weight; updates = b .scalars .totals .updates; mode = modeNumber (b .scalars .mode) }
 
 abbrev pub cAnswered : Answered → CAnswered
 cAnswered a = record { refusal = a .refusal; header = cHeader (a .header) }

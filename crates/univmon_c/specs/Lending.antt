@@ -17,8 +17,8 @@ abbrev pub cLentOut : CHeader → SliceBoth ℤ → SliceBoth ℕ → SliceBoth 
 cLentOut h xs ws es ns = cLent h (now (xs .exit)) (now (ws .exit)) (now (es .exit)) (now (ns .exit))
 
 -- a header whose lengths and flags are lent
-abbrev pub cHeadIn : CShape → ℕ → ℕ → SliceBoth ℕ → SliceBoth Bool → CHeader
-cHeadIn s w m lens flags = cHead s w m (now (lens .entry)) (now (flags .entry))
+abbrev pub cHeadIn : CShape → ℕ → ℕ → ℕ → SliceBoth ℕ → SliceBoth Bool → CHeader
+cHeadIn s w u m lens flags = cHead s w u m (now (lens .entry)) (now (flags .entry))
 
-abbrev pub cHeadOut : CShape → ℕ → ℕ → SliceBoth ℕ → SliceBoth Bool → CHeader
-cHeadOut s w m lens flags = cHead s w m (now (lens .exit)) (now (flags .exit))
+abbrev pub cHeadOut : CShape → ℕ → ℕ → ℕ → SliceBoth ℕ → SliceBoth Bool → CHeader
+cHeadOut s w u m lens flags = cHead s w u m (now (lens .exit)) (now (flags .exit))

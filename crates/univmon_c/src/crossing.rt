@@ -101,7 +101,10 @@ pub fn header_of(h: CHeader) -> Header
     let lens = h.lens;
     Header {
         shape,
-        totals: Totals { weight: h.weight },
+        totals: Totals {
+            weight: h.weight,
+            updates: h.updates,
+        },
         mode,
         flags,
         lens,
@@ -121,6 +124,7 @@ fn c_header(h: Header) -> CHeader
         cols: h.shape.cols,
         layers: h.shape.layers,
         weight: h.totals.weight,
+        updates: h.totals.updates,
         mode,
         lens,
         flags,
@@ -128,8 +132,8 @@ fn c_header(h: Header) -> CHeader
 }
 
 // A header without its lengths and flags: shape, totals and mode.
-pub fn scalars_of(s: CShape, weight: u64, mode: u64) -> Scalars
-    ensures { λ r. ⌜ r ≡ cScalars s weight mode ⌝ }
+pub fn scalars_of(s: CShape, weight: u64, updates: u64, mode: u64) -> Scalars
+    ensures { λ r. ⌜ r ≡ cScalars s weight updates mode ⌝ }
 {
     let shape = Shape {
         heap_size: s.heap_size,
@@ -140,7 +144,7 @@ pub fn scalars_of(s: CShape, weight: u64, mode: u64) -> Scalars
     let m = mode_of(mode);
     Scalars {
         shape,
-        totals: Totals { weight },
+        totals: Totals { weight, updates },
         mode: m,
     }
 }
@@ -156,6 +160,7 @@ pub fn c_step(b: AnsweredLent) -> CStep
     CStep {
         refusal: b.refusal,
         weight: scalars.totals.weight,
+        updates: scalars.totals.updates,
         mode,
     }
 }

@@ -1,5 +1,5 @@
-// The updates on a header whose lengths and flags are lent: C hands over its own arrays, and weight and
-// mode come back as numbers.
+// The updates on a header whose lengths and flags are lent: C hands over its own arrays, and weight,
+// updates and mode come back as numbers.
 use crate::CShape;
 use crate::CStep;
 use crate::crossing::LAST_MODE;
@@ -18,6 +18,7 @@ ghost use Rattle.univmon_c.specs.Lending.{cHeadIn, cHeadOut, cLentIn, cL
 pub extern "C" fn univmon_update_weighted_lent(
     shape: CShape,
     total_weight: u64,
+    total_updates: u64,
     mode: u64,
     lens: &mut [usize],
     flags: &mut [bool],
@@ -28,17 +29,18 @@ pub extern "C" fn univmon_update_weighted_lent(
     record: &[u64],
     weight: i64,
 ) -> CStep
-    ensures { λ r. ⌜ cLeft (r .refusal) (cLentOut (cHeadOut shape (r .weight) (r .mode) lens flags) counters norms entries counts)
-        ≡ changeBy true (λ s. lentUpdateCall kind.Standard s (now («record» .entry)) weight) (cLentIn (cHeadIn shape «total_weight» mode lens flags) counters norms entries counts) ⌝ }
+    ensures { λ r. ⌜ cLeft (r .refusal) (cLentOut (cHeadOut shape (r .weight) (r .updates) (r .mode) lens flags) counters norms entries counts)
+        ≡ changeBy true (λ s. lentUpdateCall kind.Standard s (now («record» .entry)) weight) (cLentIn (cHeadIn shape «total_weight» «total_updates» mode lens flags) counters norms entries counts) ⌝ }
 {
     if LAST_MODE < mode {
         return CStep {
             refusal: 9,
             weight: total_weight,
+            updates: total_updates,
             mode,
         };
     }
-    let scalars = scalars_of(shape, total_weight, mode);
+    let scalars = scalars_of(shape, total_weight, total_updates, mode);
     c_step(univmon::update_weighted_lent(
         scalars,
         lens,
@@ -57,6 +59,7 @@ pub extern "C" fn univmon_update_weighted_lent(
 pub extern "C" fn univmon_update_weighted_terminal_lent(
     shape: CShape,
     total_weight: u64,
+    total_updates: u64,
     mode: u64,
     lens: &mut [usize],
     flags: &mut [bool],
@@ -67,17 +70,18 @@ pub extern "C" fn univmon_update_weighted_terminal_lent(
     record: &[u64],
     weight: i64,
 ) -> CStep
-    ensures { λ r. ⌜ cLeft (r .refusal) (cLentOut (cHeadOut shape (r .weight) (r .mode) lens flags) counters norms entries counts)
-        ≡ changeBy true (λ s. lentUpdateCall kind.Terminal s (now («record» .entry)) weight) (cLentIn (cHeadIn shape «total_weight» mode lens flags) counters norms entries counts) ⌝ }
+    ensures { λ r. ⌜ cLeft (r .refusal) (cLentOut (cHeadOut shape (r .weight) (r .updates) (r .mode) lens flags) counters norms entries counts)
+        ≡ changeBy true (λ s. lentUpdateCall kind.Terminal s (now («record» .entry)) weight) (cLentIn (cHeadIn shape «total_weight» «total_updates» mode lens flags) counters norms entries counts) ⌝ }
 {
     if LAST_MODE < mode {
         return CStep {
             refusal: 9,
             weight: total_weight,
+            updates: total_updates,
             mode,
         };
     }
-    let scalars = scalars_of(shape, total_weight, mode);
+    let scalars = scalars_of(shape, total_weight, total_updates, mode);
     c_step(univmon::update_weighted_terminal_lent(
         scalars,
         lens,

@@ -16,6 +16,7 @@ pub struct CHeader {
     pub cols: usize,
     pub layers: usize,
     pub weight: u64,
+    pub updates: u64,
     pub mode: u64,
     pub lens: [usize; Shape::MAX_LAYERS],
     pub flags: [bool; Shape::MAX_LAYERS],
@@ -60,10 +61,11 @@ pub struct CShape {
     pub layers: usize,
 }
 
-// A refusal and weight and mode as they were, or 0 and the new ones.
+// A refusal and weight, updates and mode as they were, or 0 and the new ones.
 #[repr(C)]
 pub struct CStep {
     pub refusal: u64,
     pub weight: u64,
+    pub updates: u64,
     pub mode: u64,
 }

@@ -16,6 +16,7 @@ ghost use mathlib.Core.Bool.{Bool, true, _&&_};
 ghost use Prim.Native.Nat.{ℕ, _<_};
 ghost use Rattle.words.specs.Tests.{number};
 ghost use Rattle.heap.specs.Offer.{keptBy};
+ghost use Rattle.header.specs.Header.{withMode, settled};
 ghost use Rattle.layer.specs.Delta.{deltaLayer};
 ghost use Rattle.layer.specs.inner.Needs.{delta};
 ghost use Rattle.layout.specs.State.{dimsAt, layerAt, putLayer};
@@ -193,6 +194,14 @@ fn delta_refusal(
     )
 }
 
+// The header that a delta begins with: an unset mode becomes standard, and nothing is added up.
+fn begin_delta(h: Header) -> Header
+    ensures { λ r. ⌜ r ≡ withMode h (settled (h .mode)) ⌝ }
+{
+    let mode = h.mode;
+    h.with_mode(header::join(mode, Mode::Standard))
+}
+
 // A delta on one counter of one layer, and the offer of its key there: 9, 12, 8, 9, 11.
 pub fn apply_delta(
     header: Header,
@@ -226,13 +235,12 @@ pub fn apply_delta(
     if refusal != 0 {
         return Answered { refusal, header };
     }
-    let mode = header.mode;
-    let settled = header.with_mode(header::join(mode, Mode::Standard));
+    let begun = begin_delta(header);
     let every = every_insert(fidelity);
     Answered {
         refusal: 0,
         header: deliver(
-            settled,
+            begun,
             counters,
             norms,
             entries,

@@ -24,7 +24,7 @@ abbrev pub pairTests : ℕ → State → State → List (Bool × ℕ)
 pairTests layers s t =
     (not (allLayers (λ l y. mergeReads y (layerAt t l)) layers 0 s), 9) ∷ (not (allLayers (λ l y. mergeFits y (layerAt t l)) layers 0 s), 11) ∷ []
 
--- "Other calls: 9 for lengths and headers, 12, 10, 5, 8, 6, 7, 9 for what is read, 11.": here 9; 10, 6, 7; 9, 11
+-- "Other calls: 9 for lengths and headers, 12, 10, 5, 8, 6, 7, 9 for what is read, 11.": here 9; 10, 6, 7, and 14 "directly after 7"; 9, 11
 unfoldable pub mergeTests : Lent → Lent → List (Bool × ℕ)
 mergeTests r t = lentTests r ++ (lentTests t ++ (headsTests (r .head) (t .head) ++ pairTests (r .head .shape .layers) (view r) (view t)))
 

@@ -8,7 +8,7 @@ ghost use Rattle.layout.specs.Outcomes.{left, leftAfter};
 ghost use Rattle.layout.specs.Lending.{lentIn, lentOut};
 ghost use Rattle.univmon_merge.specs.Merges.{mergeCall};
 
-// A second state merged into a first: 9, 10, 6, 7, 9, 11.
+// A second state merged into a first: 9, 10, 6, 7, 14, 9, 11.
 pub fn merge(
     header: Header,
     counters: &mut [i64],

@@ -152,7 +152,7 @@ fn all_fit(
 
 // ---- the number that a merge is refused with
 
-// 10, 6 or 7 by the two headers, 0 for none.
+// 10, 6, 7 or 14 by the two headers, 0 for none.
 fn heads_refusal(h: Header, other: Header) -> u64
     ensures { λ r. ⌜ r ≡ number (headsTests h other) ⌝ }
 {

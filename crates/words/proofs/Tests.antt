@@ -56,6 +56,11 @@ pub off-rest : (ts us : List (Bool × ℕ)) → Off (ts ++ us) → Off us
 off-rest [] us h = h
 off-rest (t ∷ ts) us h = off-rest ts us (h .1)
 
+-- and back
+pub off-both : (ts us : List (Bool × ℕ)) → Off ts → Off us → Off (ts ++ us)
+off-both [] us h k = k
+off-both (t ∷ ts) us h k = (h .0, off-both ts us (h .1) k)
+
 -- us adds nothing to ts, if no test of us holds where none of ts does
 pub number-alone : (ts us : List (Bool × ℕ)) → numbered ts ≡ true → (Off ts → Off us) → number (ts ++ us) ≡ number ts
 number-alone ts us n f = go (eqb (number ts) 0) refl

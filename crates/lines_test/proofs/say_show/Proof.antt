@@ -7,6 +7,7 @@ use native.Mathlib.Omega.{arith}
 use borrow.Author.Needs.{needs}
 use borrow.Author.Tests.{not-false, leb-true}
 use denote.Ref.{now}
+use Rattle.text.proofs.DecTexts.{dec-length}
 use Rattle.panel_lines.specs.Answers.{showBytes}
 use Rattle.lines_test.proofs.say_show.Statement.{statement}
 use Rattle.lines_test.proofs.say_show.Tie as tie
@@ -20,7 +21,7 @@ abbrev μ-loop : tie.MeasureT-loop
 loop-holds : tie.Need-loop-holds Inv-loop μ-loop
 loop-holds c = (refl, omega arith)
 
-fits : (c : tie.Else1 Inv-loop μ-loop) → 0 + showBytes 19 ≤ length (now (c .before .before .before .before .before .before .args .out))
+fits : (c : tie.Else1 Inv-loop μ-loop) → 0 + showBytes 19 20 ≤ length (now (c .before .before .before .before .before .before .args .out))
 fits c = leb-true _ _ (sym (c .before .room .ensures) ∙ not-false _ (c .if1 .left))
 
 array-write-flags : tie.Need-array-write-flags Inv-loop μ-loop
@@ -48,7 +49,7 @@ slice-aggregate-put-show : tie.Need-slice-aggregate-put-show Inv-loop μ-loop
 slice-aggregate-put-show c = search needs
 
 put-show-requires : tie.Need-put-show-requires Inv-loop μ-loop
-put-show-requires c κs = omega (arith, fits (c .before .before), c .before .before .before .before .before .before .loop .inv .0)
+put-show-requires c κs = omega (arith, fits (c .before .before), c .before .before .before .before .before .before .loop .inv .0, dec-length (c .before .before .before .before .before .before .before .before .args .bits))
 
 put-newline-requires : tie.Need-put-newline-requires Inv-loop μ-loop
 put-newline-requires c κs = search needs

@@ -7,7 +7,7 @@ use denote.Ref.{now}
 use mir.Syntax.{w64, w32}
 use mir.Val.{toZ, ofZ}
 use mir.Facts.{toZ-ofZ, sfits-widen}
-use Rattle.header.specs.Header.{withMode, settled}
+use Rattle.header.specs.Header.{settled}
 use Rattle.layout.specs.Slices.{lent, view, Lent}
 use Rattle.layout.specs.Outcomes.{left}
 use Rattle.words.specs.Tests.{number}
@@ -53,11 +53,8 @@ number-is c = rw (count-is (c .before .before .before .before .before .before .b
 returns : tie.Need-returns
 returns c = call-refused (lent-of (c .before .before .before .before .before .before .before .before .before)) (now (c .before .before .before .before .before .before .before .before .before .args .«record»)) (delta-of (c .before .before .before .before .before .before .before .before .before)) (c .before .delta-refusal .result) (number-is (c .before)) (c .if1 .taken)
 
-join-requires : tie.Need-join-requires
-join-requires c κs = search needs
-
-with-mode-requires : tie.Need-with-mode-requires
-with-mode-requires c κs = search needs
+begin-delta-requires : tie.Need-begin-delta-requires
+begin-delta-requires c κs = search needs
 
 every-insert-requires : tie.Need-every-insert-requires
 every-insert-requires c κs = search needs
@@ -66,12 +63,8 @@ every-insert-requires c κs = search needs
 none : (c : tie.Else1) → number (deltaTests (lent-of (c .before .before .before .before .before .before .before .before .before)) (now (c .before .before .before .before .before .before .before .before .before .args .«record»)) (delta-of (c .before .before .before .before .before .before .before .before .before))) ≡ 0
 none c = sym (number-is (c .before)) ∙ c .if1 .left
 
--- the header with its mode settled
-header-set : (c : tie.After-with-mode) → c .with-mode .result ≡ withMode (c .before .before .before .before .before .before .before .before .before .before .before .args .header) (settled (c .before .before .before .before .before .before .before .before .before .before .before .args .header .mode))
-header-set c = rw (c .before .join .ensures) at (c .with-mode .ensures)
-
 deliver-requires : tie.Need-deliver-requires
-deliver-requires c κs = rw (header-set (c .before .before .before .before .before), count-is (c .before .before .before .before .before .before .before .before .before .before .before .before .before .before .before .before)) (arrives-of (lent-of (c .before .before .before .before .before .before .before .before .before .before .before .before .before .before .before .before)) (now (c .before .before .before .before .before .before .before .before .before .before .before .before .before .before .before .before .args .«record»)) (delta-of (c .before .before .before .before .before .before .before .before .before .before .before .before .before .before .before .before)) (settled (c .before .before .before .before .before .before .before .before .before .before .before .before .before .before .before .before .args .header .mode)) (none (c .before .before .before .before .before .before .before)))
+deliver-requires c κs = rw (c .before .before .before .before .before .begin-delta .ensures, count-is (c .before .before .before .before .before .before .before .before .before .before .before .before .before .before .before)) (arrives-of (lent-of (c .before .before .before .before .before .before .before .before .before .before .before .before .before .before .before)) (now (c .before .before .before .before .before .before .before .before .before .before .before .before .before .before .before .args .«record»)) (delta-of (c .before .before .before .before .before .before .before .before .before .before .before .before .before .before .before)) (settled (c .before .before .before .before .before .before .before .before .before .before .before .before .before .before .before .args .header .mode)) (none (c .before .before .before .before .before .before)))
 
 same-length-5 : tie.Need-same-length-5
 same-length-5 c = search needs
@@ -87,14 +80,14 @@ same-length-8 c = search needs
 
 -- the state as it was left
 view-now : (c : tie.After-deliver) → let l = c .deliver .last in
-    view (lent (c .deliver .result) (l .1 .0) (l .1 .1 .0) (l .1 .1 .1 .0) (l .1 .1 .1 .1 .0)) ≡ arrived (view (lent-of (c .before .before .before .before .before .before .before .before .before .before .before .before .before .before .before .before .before))) (now (c .before .before .before .before .before .before .before .before .before .before .before .before .before .before .before .before .before .args .«record»)) (delta-of (c .before .before .before .before .before .before .before .before .before .before .before .before .before .before .before .before .before))
+    view (lent (c .deliver .result) (l .1 .0) (l .1 .1 .0) (l .1 .1 .1 .0) (l .1 .1 .1 .1 .0)) ≡ arrived (view (lent-of (c .before .before .before .before .before .before .before .before .before .before .before .before .before .before .before .before))) (now (c .before .before .before .before .before .before .before .before .before .before .before .before .before .before .before .before .args .«record»)) (delta-of (c .before .before .before .before .before .before .before .before .before .before .before .before .before .before .before .before))
 view-now c =
-    rw (header-set (c .before .before .before .before .before .before), c .before .before .before .before .before .every-insert .ensures, count-is (c .before .before .before .before .before .before .before .before .before .before .before .before .before .before .before .before .before)) at (c .deliver .ensures .0) ∙ arrived-is (lent-of (c .before .before .before .before .before .before .before .before .before .before .before .before .before .before .before .before .before)) (now (c .before .before .before .before .before .before .before .before .before .before .before .before .before .before .before .before .before .args .«record»)) (delta-of (c .before .before .before .before .before .before .before .before .before .before .before .before .before .before .before .before .before))
+    rw (c .before .before .before .before .before .before .begin-delta .ensures, c .before .before .before .before .before .every-insert .ensures, count-is (c .before .before .before .before .before .before .before .before .before .before .before .before .before .before .before .before)) at (c .deliver .ensures .0) ∙ arrived-is (lent-of (c .before .before .before .before .before .before .before .before .before .before .before .before .before .before .before .before)) (now (c .before .before .before .before .before .before .before .before .before .before .before .before .before .before .before .before .args .«record»)) (delta-of (c .before .before .before .before .before .before .before .before .before .before .before .before .before .before .before .before))
 
 returns-2 : tie.Need-returns-2
 returns-2 c =
-    ap (left 0) (lent-is _ (arrived (view (lent-of (c .before .before .before .before .before .before .before .before .before .before .before .before .before .before .before .before .before .before .before .before .before .before .before))) (now (c .before .before .before .before .before .before .before .before .before .before .before .before .before .before .before .before .before .before .before .before .before .before .before .args .«record»)) (delta-of (c .before .before .before .before .before .before .before .before .before .before .before .before .before .before .before .before .before .before .before .before .before .before .before))) (c .before .before .before .before .before .before .deliver .ensures .1) (λ k. c .before .before .before .slice-known3 .given k .fits) (view-now (c .before .before .before .before .before .before)))
-    ∙ call-done (lent-of (c .before .before .before .before .before .before .before .before .before .before .before .before .before .before .before .before .before .before .before .before .before .before .before)) (now (c .before .before .before .before .before .before .before .before .before .before .before .before .before .before .before .before .before .before .before .before .before .before .before .args .«record»)) (delta-of (c .before .before .before .before .before .before .before .before .before .before .before .before .before .before .before .before .before .before .before .before .before .before .before)) (none (c .before .before .before .before .before .before .before .before .before .before .before .before .before .before))
+    ap (left 0) (lent-is _ (arrived (view (lent-of (c .before .before .before .before .before .before .before .before .before .before .before .before .before .before .before .before .before .before .before .before .before .before))) (now (c .before .before .before .before .before .before .before .before .before .before .before .before .before .before .before .before .before .before .before .before .before .before .args .«record»)) (delta-of (c .before .before .before .before .before .before .before .before .before .before .before .before .before .before .before .before .before .before .before .before .before .before))) (c .before .before .before .before .before .before .deliver .ensures .1) (λ k. c .before .before .before .slice-known3 .given k .fits) (view-now (c .before .before .before .before .before .before)))
+    ∙ call-done (lent-of (c .before .before .before .before .before .before .before .before .before .before .before .before .before .before .before .before .before .before .before .before .before .before)) (now (c .before .before .before .before .before .before .before .before .before .before .before .before .before .before .before .before .before .before .before .before .before .before .args .«record»)) (delta-of (c .before .before .before .before .before .before .before .before .before .before .before .before .before .before .before .before .before .before .before .before .before .before)) (none (c .before .before .before .before .before .before .before .before .before .before .before .before .before))
 
 pub apply-delta-spec : {M : Type 1} → statement M
-apply-delta-spec = tie.close (tie.spec cast-n delta-refusal-requires same-length same-length-2 same-length-3 same-length-4 returns join-requires with-mode-requires every-insert-requires deliver-requires same-length-5 same-length-6 same-length-7 same-length-8 returns-2)
+apply-delta-spec = tie.close (tie.spec cast-n delta-refusal-requires same-length same-length-2 same-length-3 same-length-4 returns begin-delta-requires every-insert-requires deliver-requires same-length-5 same-length-6 same-length-7 same-length-8 returns-2)

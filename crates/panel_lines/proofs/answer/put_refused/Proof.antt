@@ -12,6 +12,7 @@ use Rattle.text.proofs.DecTexts.{dec-length}
 use Rattle.panel_lines.specs.Answers.{refusedText}
 use Rattle.panel_lines.proofs.Cases.{refused}
 use Rattle.panel_lines.proofs.Texts.{three-put}
+use native.Mathlib.Nat.{zero-add}
 use Rattle.panel_lines.proofs.answer.put_refused.Statement.{statement}
 use Rattle.panel_lines.proofs.answer.put_refused.Tie as tie
 
@@ -40,8 +41,8 @@ same-length c = search needs
 returns : tie.Need-returns
 unfolding refusedText
 returns c =
-    let r = three-put (now (c .before .before .before .before .before .before .before .before .before .before .before .before .before .before .before .args .out)) _ _ _ _ _ _ (bytesOf "(refused ") (dec (c .before .before .before .before .before .before .before .before .before .before .before .before .before .before .before .args .n)) (bytesOf ")") (refusedText (c .before .before .before .before .before .before .before .before .before .before .before .before .before .before .before .args .n)) refl (c .before .before .before .before .before .before .before .before .before .before .before .put-word .ensures .1) (c .before .before .before .before .before .before .before .before .before .before .before .put-word .ensures .0) (c .before .before .before .before .before .before .before .put-decimal .ensures .1) (c .before .before .before .before .before .before .before .put-decimal .ensures .0) (c .before .before .put-word2 .ensures .1) (c .before .before .put-word2 .ensures .0) in
-    (r .0, (r .1, omega (arith, dec-length (c .before .before .before .before .before .before .before .before .before .before .before .before .before .before .before .args .n), c .before .before .before .before .before .before .before .before .before .before .before .put-word .ensures .0, c .before .before .before .before .before .before .before .put-decimal .ensures .0, c .before .before .put-word2 .ensures .0)))
+    let r = three-put (now (c .before .before .before .before .before .before .before .before .before .before .before .before .before .before .before .args .out)) _ _ _ 0 _ _ _ (bytesOf "(refused ") (dec (c .before .before .before .before .before .before .before .before .before .before .before .before .before .before .before .args .n)) (bytesOf ")") (refusedText (c .before .before .before .before .before .before .before .before .before .before .before .before .before .before .before .args .n)) refl (c .before .before .before .before .before .before .before .before .before .before .before .put-word .ensures .1) (c .before .before .before .before .before .before .before .before .before .before .before .put-word .ensures .0) (c .before .before .before .before .before .before .before .put-decimal .ensures .1) (c .before .before .before .before .before .before .before .put-decimal .ensures .0) (c .before .before .put-word2 .ensures .1) (c .before .before .put-word2 .ensures .0) in
+    (r .0 ∙ zero-add (length (refusedText (c .before .before .before .before .before .before .before .before .before .before .before .before .before .before .before .args .n))), (r .1, omega (arith, dec-length (c .before .before .before .before .before .before .before .before .before .before .before .before .before .before .before .args .n), c .before .before .before .before .before .before .before .before .before .before .before .put-word .ensures .0, c .before .before .before .before .before .before .before .put-decimal .ensures .0, c .before .before .put-word2 .ensures .0)))
 
 pub put-refused-spec : {M : Type 1} → statement M
 put-refused-spec = tie.close (tie.spec slice-aggregate-put-word put-word-requires put-decimal-requires slice-aggregate-put-word-2 put-word-requires-2 same-length returns)

@@ -1,5 +1,6 @@
 -- `panel_step::calls::show_parts` meets its contract.
 -- Written by tools/places.py from answers.txt; assumes nothing.
+use Prim.Native.Nat.{_≤_}
 use mathlib.Core.Path.{_≡_, sym, ap, _∙_}
 use lib.ListN.{length, take}
 use lib.Seq.{sets, length-take-le}
@@ -9,8 +10,10 @@ use denote.Ref.{now}
 use Rattle.header.specs.Shape.{maxLayers}
 use Rattle.layout.specs.Slices.{Lent, lent}
 use Rattle.layout.specs.Outcomes.{left}
-use Rattle.panel_step.specs.Panel.{panelText}
-use Rattle.panel_step.proofs.Replies.{panel-refused, panel-shown, as-many}
+use Rattle.estimates.specs.declared.PanelAnswer.{PanelAnswer}
+use Rattle.text.specs.Decimals.{dec}
+use Rattle.panel_step.specs.Panel.{panelText, updatesDigits}
+use Rattle.panel_step.proofs.Replies.{panel-refused, panel-shown, digits-few, as-many}
 use Rattle.panel_step.proofs.calls.show_parts.Statement.{statement}
 use Rattle.panel_step.proofs.calls.show_parts.Tie as tie
 
@@ -56,8 +59,12 @@ array-share-prefix-flags c = omega (arith, many (c .before .before .before .befo
 slice-aggregate-put-show : tie.Need-slice-aggregate-put-show
 slice-aggregate-put-show c = sym (shown (c .before .before .before .before .before .before .before .before .before .before .before .before))
 
+-- the digits of the updates
+digits : (c : tie.Else1) → length (dec (c .before .before .before .before .before .before .args .header .totals .updates)) ≤ updatesDigits
+digits c = digits-few (here (c .before .before .before .before .before .before)) (ap (λ (a : PanelAnswer). a .refusal) (sym (c .before .before .panel-answer .ensures)) ∙ c .if1 .left)
+
 put-show-requires : tie.Need-put-show-requires
-put-show-requires c κs = omega (arith, shown (c .before .before .before .before .before .before .before .before .before .before .before .before), c .before .before .before .before .before .before .before .before .before .before .before .before .pre)
+put-show-requires c κs = omega (arith, shown (c .before .before .before .before .before .before .before .before .before .before .before .before), c .before .before .before .before .before .before .before .before .before .before .before .before .pre, digits (c .before .before .before .before .before .before))
 
 same-length-2 : tie.Need-same-length-2
 same-length-2 c = search needs
@@ -69,7 +76,7 @@ returns-2 c =
     let q = c .before .before .put-show .ensures in
     let b = rw (c .before .before .before .before .before .before .before .before .to-bits .ensures, c .before .before .before .before .before .before .before .to-bits2 .ensures, c .before .before .before .before .before .before .to-bits3 .ensures) at q in
     let t = panel-shown h (a .result) (c .before .before .before .before .before .before .before .before .before .if1 .left) ∙ ap (panelText h) (a .ensures) in
-    (b .0 ∙ ap length t, (b .1 .0 ∙ ap (sets (now (c .before .before .before .before .before .before .before .before .before .before .before .before .before .before .before .args .out)) 0) t, omega (arith, q .1 .1, shown (c .before .before .before .before .before .before .before .before .before .before .before .before .before .before .before), c .before .before .before .before .before .before .before .before .before .before .before .before .before .before .before .pre .0)))
+    (b .0 ∙ ap length t, (b .1 .0 ∙ ap (sets (now (c .before .before .before .before .before .before .before .before .before .before .before .before .before .before .before .args .out)) 0) t, omega (arith, q .1 .1, shown (c .before .before .before .before .before .before .before .before .before .before .before .before .before .before .before), c .before .before .before .before .before .before .before .before .before .before .before .before .before .before .before .pre .0, digits (c .before .before .before .before .before .before .before .before .before))))
 
 pub show-parts-spec : {M : Type 1} → statement M
 show-parts-spec = tie.close (tie.spec panel-answer-requires put-refused-requires same-length returns to-bits-requires to-bits-requires-2 to-bits-requires-3 array-share-prefix-flags slice-aggregate-put-show put-show-requires same-length-2 returns-2)

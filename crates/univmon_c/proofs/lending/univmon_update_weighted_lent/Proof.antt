@@ -16,7 +16,7 @@ use Rattle.univmon_c.proofs.lending.univmon_update_weighted_lent.Tie as
 
 -- what C lends
 abbrev here : tie.Start → CLent
-here c = cLent (cHead (c .args .shape) (c .args .total-weight) (c .args .mode) (now (c .args .lens)) (now (c .args .flags))) (now (c .args .counters)) (now (c .args .norms)) (now (c .args .entries)) (now (c .args .counts))
+here c = cLent (cHead (c .args .shape) (c .args .total-weight) (c .args .total-updates) (c .args .mode) (now (c .args .lens)) (now (c .args .flags))) (now (c .args .counters)) (now (c .args .norms)) (now (c .args .entries)) (now (c .args .counts))
 
 returns : tie.Need-returns
 returns c = change-no-mode true (λ s. lentUpdateCall kind.Standard s (now (c .before .before .before .before .before .before .args .«record»)) (c .before .before .before .before .before .before .args .weight)) (here (c .before .before .before .before .before .before)) (omega (arith, c .if1 .taken))
