@@ -8,9 +8,8 @@ use Rattle.text.specs.Words.{bytesOf, isPrefix}
 use Rattle.heap_moves.specs.Cands.{Cand}
 use Rattle.state_forms.specs.Formats.{Got, got, bad, thenRead}
 use Rattle.state_forms.specs.Grammar.{keyFormat, keysR}
-use Rattle.state_lines.specs.inner.Places.{forget}
+use Rattle.state_lines.specs.inner.Places.{forget, howMany}
 use Rattle.state_forms.proofs.Exactness.{never-got, got-left}
-use Rattle.state_lines.specs.inner.Places.{howMany}
 
 abbrev pub same : List Cand → List Cand
 same cs = cs

@@ -1,4 +1,5 @@
 pub mod Spots
+pub mod Known
 pub mod Walks
 pub mod Readings
 pub mod RowWalk

@@ -5,7 +5,7 @@ use mathlib.Core.List.{List, [], _∷_, _++_, append-assoc}
 use mathlib.Core.Logic.{_⊎_, inl, inr, ⊎-elim}
 use Prim.Native.Nat.{ℕ, zero, suc, _+_, _-_, _*_, _≤_, _<_}
 use native.Mathlib.Omega.{arith}
-use native.Mathlib.Nat.{add-mul, mul-le-mul, le-trans}
+use native.Mathlib.Nat.{add-mul, mul-le-mul}
 use lib.Dec.{eqb, leb, ltb}
 use lib.IntN.{ℤ, pos}
 use lib.ListN.{length, replicate, length-replicate, length-append}
@@ -15,11 +15,10 @@ use Rattle.text.specs.Words.{bytesOf, isPrefix}
 use Rattle.state_forms.specs.Formats.{Got, got, bad, thenRead, wordR, numR}
 use Rattle.state_forms.specs.Sparse.{sparseR}
 use Rattle.state_forms.specs.Grammar.{lineEnd, cellListing, rowFormat, rowListing, joinRows}
-use Rattle.state_lines.specs.inner.Places.{forget}
-use Rattle.state_forms.proofs.Exactness.{never-got, got-left}
+use Rattle.state_lines.specs.inner.Places.{mostSide, forget, rowHeadR}
 use Rattle.state_forms.proofs.Rows.{cells-lawful}
 use Rattle.state_forms.proofs.Sparseness.{sparse-sound}
-use Rattle.state_lines.specs.inner.Places.{rowHeadR}
+use Rattle.state_lines.proofs.Known.{known-bad}
 use Rattle.state_lines.proofs.Walks.{StopsBad, Unread, unread-start, unread-none, unread-bad, unread-out, unread-on}
 
 -- ---- rows joined
@@ -145,21 +144,7 @@ module _ {l cols rows : ℕ} {whole : Got (List (List ℤ))} {l₀ : List ℤ} {
       rows-out n l′ = ⊎-elim (λ b. unread-bad (rowListing l cols) joinRows (g .left) h e b l′) (λ x. unread-out (rowListing l cols) joinRows (g .left) h k (x .0) (x .1 .0) e (x .1 .1) n l′) (row-number l cols s k t q)
 
       pub rows-cells : bad ≡ forget (sparseR cellListing (suc cols) 0 cols t) → (l′ : List ℤ) → StopsBad joinRows whole l₀ 0 l′
-      unfolding forget
-      rows-cells n l′ = go (sparseR cellListing (suc cols) 0 cols t) refl n
-        where
-          go : (x : Got (List ℤ)) → sparseR cellListing (suc cols) 0 cols t ≡ x → bad ≡ forget x → StopsBad joinRows whole l₀ 0 l′
-          go bad m n = unread-bad (rowListing l cols) joinRows (g .left) h e (row-cells l cols s k t q m) l′
-          go (got xs u) m n = absurd (never-got n)
-
-      -- the counters that were read there
-      pub found : (u : List ℕ) → got tt u ≡ forget (sparseR cellListing (suc cols) 0 cols t) → (xs : List ℤ) × (sparseR cellListing (suc cols) 0 cols t ≡ got xs u)
-      unfolding forget
-      found u n = go (sparseR cellListing (suc cols) 0 cols t) n
-        where
-          go : (x : Got (List ℤ)) → got tt u ≡ forget x → (xs : List ℤ) × (x ≡ got xs u)
-          go bad n = absurd (never-got (sym n))
-          go (got xs w) n = (xs, ap (got xs) (sym (got-left n)))
+      rows-cells n l′ = unread-bad (rowListing l cols) joinRows (g .left) h e (row-cells l cols s k t q (known-bad (sparseR cellListing (suc cols) 0 cols t) n)) l′
 
       module _ (xs : List ℤ) (u : List ℕ) (c : sparseR cellListing (suc cols) 0 cols t ≡ got xs u) where
         pub rows-line : wordR lineEnd u ≡ bad → (l′ : List ℤ) → StopsBad joinRows whole l₀ 0 l′
@@ -193,5 +178,5 @@ module _ {l cols rows : ℕ} {whole : Got (List (List ℤ))} {l₀ : List ℤ} {
             place = omega (arith, mul-on k cols, ap length joined, length-append zeros xs, zeros-long, long, mul-le k r cols lo)
 
 -- products of a shape's numbers are small
-pub mul-small : (a b : ℕ) → a ≤ 1048576 → b ≤ 1048576 → a * b ≤ 1099511627776
-mul-small a b h k = le-trans (mul-le-mul h k) (omega arith)
+pub mul-small : (a b : ℕ) → a ≤ mostSide → b ≤ mostSide → a * b ≤ mostSide * mostSide
+mul-small a b h k = mul-le-mul h k

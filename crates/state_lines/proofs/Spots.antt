@@ -9,7 +9,7 @@ use lib.Seq.{drop-drop}
 use native.Mathlib.Omega.{arith}
 use Rattle.text.specs.declared.decimals.Num.the-variants as N
 use Rattle.text.specs.declared.signed.Int.the-variants as I
-use Rattle.text.specs.Words.{isPrefix}
+use Rattle.text.specs.Words.{isPrefix, bytesOf}
 use Rattle.text.specs.Decimals.{dec, isDigit, fieldAt}
 use Rattle.text.specs.Signs.{signedDec, intAt}
 use Rattle.text.proofs.Spots.{word-is}
@@ -17,7 +17,6 @@ use Rattle.text.proofs.DecReads.{field-reads}
 use Rattle.text.proofs.DecSound.{field-sound}
 use Rattle.text.proofs.IntReads.{int-reads, int-sound}
 use Rattle.words.specs.Num.{inRange}
-use Rattle.text.specs.Words.{bytesOf}
 use Rattle.state_forms.specs.Formats.{Got, got, bad, thenRead, wordR, numR, intR}
 use Rattle.state_forms.specs.Grammar.{isZero, cellFormat}
 use Rattle.state_forms.proofs.Rows.{space-stops, bracket-stops}

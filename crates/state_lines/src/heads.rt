@@ -64,6 +64,9 @@ fn line_at(s: &[u8], at: usize, word: &[u8], most: u64) -> Num
     Num::At(n, p + 1)
 }
 
+// The greatest weight and the greatest number of updates: 2^52.
+const MAX_TOTAL: u64 = words::TOP as u64;
+
 // Weight, updates and mode, and the place past their lines.
 pub enum HeadLines {
     At(u64, u64, u64, usize),
@@ -74,11 +77,11 @@ pub enum HeadLines {
 pub fn head_at(s: &[u8], at: usize) -> HeadLines
     ensures { λ r. ⌜ headSpot (now (s .entry)) r ≡ headFormat .read (drop at (now (s .entry))) ⌝ }
 {
-    let a = line_at(s, at, b"(weight ", 4503599627370496);
+    let a = line_at(s, at, b"(weight ", MAX_TOTAL);
     let Num::At(weight, p) = a else {
         return HeadLines::Bad;
     };
-    let b = line_at(s, p, b"(updates ", 4503599627370496);
+    let b = line_at(s, p, b"(updates ", MAX_TOTAL);
     let Num::At(updates, q) = b else {
         return HeadLines::Bad;
     };

@@ -14,7 +14,7 @@ ghost use lib.Seq.{sets};
 ghost use Rattle.state_forms.specs.Formats.{got};
 ghost use Rattle.state_forms.specs.Sparse.{sparseR};
 ghost use Rattle.state_forms.specs.Grammar.{rowListing, joinRows};
-ghost use Rattle.state_lines.specs.inner.Places.{spot, numSpot, forget, rowHeadR};
+ghost use Rattle.state_lines.specs.inner.Places.{mostSide, spot, numSpot, forget, rowHeadR};
 
 // `(row L R` at a place: the row's number, and the place of the space behind it.
 pub fn row_head(s: &[u8], at: usize, l: usize) -> Num
@@ -39,7 +39,7 @@ pub fn row_head(s: &[u8], at: usize, l: usize) -> Num
 
 // `(row L R ..)` for each row that is not all zeros, by rising number.
 pub fn read_rows(s: &[u8], at: usize, l: usize, rows: usize, cols: usize, cells: &mut [i64]) -> Next
-    requires { ⌜ (rows ≤ 1048576) × (cols ≤ 1048576) ⌝ }
+    requires { ⌜ (rows ≤ mostSide) × (cols ≤ mostSide) ⌝ }
     ensures { λ r. ⌜ spot (now (s .entry)) r ≡ forget (sparseR (rowListing l cols) (suc rows) 0 rows (drop at (now (s .entry)))) ⌝ }
     ensures { λ r. ⌜ ((xs : List (List ℤ)) (t : List ℕ) → sparseR (rowListing l cols) (suc rows) 0 rows (drop at (now (s .entry))) ≡ got xs t
         → now (cells .exit) ≡ sets (now (cells .entry)) 0 (joinRows xs)) ⌝ }

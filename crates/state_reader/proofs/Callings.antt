@@ -19,8 +19,7 @@ use Rattle.layout.specs.State.{State, dimsAt, rowsAt, colsAt, overLayers, newSt
 use Rattle.layout.specs.Slices.{Lent, lent, lengthsOk, view, flat}
 use Rattle.layout.specs.inner.Needs.{Standing}
 use Rattle.layout.proofs.Flatten.{lent-is}
-use Rattle.layout.proofs.Lengths.{sizes-of}
-use Rattle.layout.proofs.Lengths.{long-view}
+use Rattle.layout.proofs.Lengths.{sizes-of, long-view}
 use Rattle.layout.proofs.Replaced.{Sized, Over, over}
 use Rattle.state_check.proofs.KeptStates.{new-whole}
 use Rattle.state_forms.specs.Formats.{Got, got, bad, thenRead}
@@ -29,6 +28,7 @@ use Rattle.state_forms.specs.Whole.{First, Others, wholly, othersR}
 use Rattle.state_lines.specs.inner.Places.{forget}
 use Rattle.state_forms.proofs.Exactness.{goes-on}
 use Rattle.state_forms.proofs.Lines.{pages-exact}
+use Rattle.state_lines.proofs.Known.{known, known-bad}
 use Rattle.state_lines.proofs.LineChain.{stays-bad}
 use Rattle.state_text.specs.Pages.{frameOf, shapeFrom, dimsOf, noPage, layerFrom, headFrom, stateFrom}
 use Rattle.layout.specs.Outcomes.{left}
@@ -37,7 +37,6 @@ use Rattle.state_text.proofs.PageLaws.{page-whole}
 use Rattle.state_text.proofs.Alike.{alike}
 use Rattle.state_text.proofs.Built.{pages-at}
 use Rattle.state_text.proofs.Restored.{small}
-use Rattle.state_reader.proofs.PageSteps.{known, known-bad}
 use Rattle.state_reader.proofs.Keepings.{each}
 
 -- ---- the other lines

@@ -6,8 +6,8 @@ use native.Mathlib.Numerals.{add-one}
 use Rattle.state_forms.specs.Formats.{got, bad, thenRead}
 use Rattle.state_forms.specs.Grammar.{Page, Frame, pageFormat, pagesR}
 use Rattle.state_lines.specs.inner.Places.{forget}
+use Rattle.state_lines.proofs.Known.{known, known-bad}
 use Rattle.state_lines.proofs.Walks.{forget-then}
-use Rattle.state_reader.proofs.PageSteps.{known, known-bad}
 
 module _ (k : Frame) (l n m : ℕ) (z : n ≡ suc m) (s : List ℕ) where
   bad-is : pageFormat k l .read s ≡ bad → pagesR k l n s ≡ bad

@@ -24,32 +24,9 @@ use Rattle.state_forms.specs.Grammar.{Page, rowListing, joinRows, keysR, flagFo
 use Rattle.state_lines.specs.inner.Places.{forget}
 use Rattle.state_forms.proofs.Exactness.{never-got, got-value, got-left}
 use Rattle.state_forms.proofs.Lines.{keys-exact, page-exact}
-use Rattle.state_lines.specs.inner.Places.{howMany}
 use Rattle.state_text.specs.Pages.{tableFrom, layerFrom, frameOf}
 use Rattle.state_text.proofs.PageLaws.{page-whole}
 use Rattle.state_reader.specs.inner.Paged.{paged}
-
--- ---- what an answer tells of a reading
-
-pub known : {A : Type 0} (g : Got A) (u : List ℕ) → got tt u ≡ forget g → (a : A) × (g ≡ got a u)
-unfolding forget
-known (got a t) u e = (a, ap (got a) (sym (got-left e)))
-known bad u e = absurd (never-got (sym e))
-
-pub known-bad : {A : Type 0} (g : Got A) → bad ≡ forget g → g ≡ bad
-unfolding forget
-known-bad (got a t) e = absurd (never-got e)
-known-bad bad e = refl
-
-pub known-keys : {A : Type 0} (g : Got (List A)) (n : ℕ) (u : List ℕ) → got n u ≡ howMany g → (xs : List A) × ((g ≡ got xs u) × (n ≡ length xs))
-unfolding howMany
-known-keys (got xs t) n u e = (xs, (ap (got xs) (sym (got-left e)), got-value e))
-known-keys bad n u e = absurd (never-got (sym e))
-
-pub known-keys-bad : {A : Type 0} (g : Got (List A)) → bad ≡ howMany g → g ≡ bad
-unfolding howMany
-known-keys-bad (got xs t) e = absurd (never-got e)
-known-keys-bad bad e = refl
 
 -- ---- a layer
 
@@ -91,8 +68,8 @@ forget-paged bad = refl
 
 -- ---- candidates with zeros behind them
 
-pub zeros-are : (size : ℕ) (es₀ es : List ℕ) (ns₀ ns : List ℤ) → es ≡ replicate (length es₀) 0 → ns ≡ replicate (length ns₀) (pos 0) → length es₀ ≡ 4 * size → length ns₀ ≡ size → candsOf es ns ≡ replicate size noCand
-zeros-are size es₀ es ns₀ ns p q a b = rw (p, q, a, b) (zero-cands size)
+pub cands-zero : (size : ℕ) (es₀ es : List ℕ) (ns₀ ns : List ℤ) → es ≡ replicate (length es₀) 0 → ns ≡ replicate (length ns₀) (pos 0) → length es₀ ≡ 4 * size → length ns₀ ≡ size → candsOf es ns ≡ replicate size noCand
+cands-zero size es₀ es ns₀ ns p q a b = rw (p, q, a, b) (zero-cands size)
 
 drop-replicate : {A : Type 0} (n m : ℕ) (x : A) → drop n (replicate m x) ≡ replicate (m - n) x
 drop-replicate zero m x = let z : m - 0 ≡ m = omega arith in rw z

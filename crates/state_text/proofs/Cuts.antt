@@ -18,8 +18,7 @@ use Rattle.heap_moves.specs.Cands.{Cand, noCand}
 use Rattle.heap_moves.specs.inner.Order.{Rest}
 use Rattle.heap.specs.Offer.{Table}
 use Rattle.heap.specs.inner.Sound.{Sound}
-use Rattle.state_forms.specs.Grammar.{RowIn}
-use Rattle.state_forms.specs.Grammar.{rowsOf, joinRows}
+use Rattle.state_forms.specs.Grammar.{RowIn, rowsOf, joinRows}
 use Rattle.state_text.specs.Pages.{tableFrom}
 
 -- ---- tests over lists

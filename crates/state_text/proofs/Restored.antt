@@ -2,13 +2,14 @@
 use mathlib.Core.Path.{_≡_, refl, sym, ap, subst, _∙_}
 use mathlib.Core.Bool.{Bool, true, false, cond, not}
 use mathlib.Core.List.{List}
-use Prim.Native.Nat.{ℕ, _+_, _*_, _<_}
+use Prim.Native.Nat.{ℕ, _+_, _*_, _≤_, _<_}
 use native.Mathlib.Omega.{arith}
 use native.Mathlib.Decide.{decLt}
-use lib.ListN.{length, getD}
-use lib.Dec.{eqb}
+use lib.ListN.{length, getD, take, drop}
+use lib.Seq.{sets, sets-eq, take-append-seam}
+use lib.Dec.{eqb, ltb}
 use lib.IntN.{ℤ}
-use borrow.Author.Tests.{eq-eqb, eqb-true, le-leb}
+use borrow.Author.Tests.{eq-eqb, eqb-true, le-leb, le-ltb, ltb-false}
 use Rattle.words.specs.Num.{top, wordSize}
 use Rattle.words.proofs.Bools.{never}
 use Rattle.words.proofs.Parts.{part-at}
@@ -26,6 +27,7 @@ use Rattle.layout.specs.State.{candOff, rowsAt, colsAt, layerAt}
 use Rattle.layout.specs.Slices.{Lent, lengthsOk, view, flat}
 use Rattle.layout.specs.Outcomes.{Left, left}
 use Rattle.layout.proofs.Flatten.{flat-view, view-flat}
+use Rattle.state_check.specs.Check.{stateOk}
 use Rattle.state_check.proofs.Whole.{past}
 use Rattle.state_check.proofs.WholeStates.{WholeState, state-whole, state-pass, ok-lengths, ok-standing}
 use Rattle.state_forms.specs.Formats.{Got, got, bad}
@@ -34,8 +36,8 @@ use Rattle.state_forms.specs.Whole.{First, Others, othersR}
 use Rattle.state_forms.proofs.Exactness.{got-value}
 use Rattle.state_forms.proofs.Docs.{first-back, others-back, doc-only}
 use Rattle.state_text.specs.Pages.{pageOf, layerFrom, frameOf, firstOf, shapeFrom, dimsOf, othersOf, textOf, stateFrom}
-use Rattle.state_text.specs.Calls.{unread, afterOthers, afterFirst, readCall}
-use Rattle.state_text.specs.Restored.{Checked, SameLengths, RestoredExactly, WrittenFor, OnlyWritten, TextsDiffer}
+use Rattle.state_text.specs.Calls.{copied, notCopied, writeCall, unread, afterOthers, afterFirst, readCall}
+use Rattle.state_text.specs.Restored.{Checked, SameLengths, RestoredExactly, WrittenFor, OnlyWritten, TextsDiffer, CarriedHome, WrittenAgain}
 use Rattle.state_text.proofs.PageLaws.{WordsOf, page-back, page-in}
 use Rattle.state_text.proofs.Alike.{alike}
 use Rattle.state_text.proofs.Built.{page-at, pages-long, pages-in, built-whole, built-shape, built-totals, built-mode, built-layer, built-text}
@@ -172,3 +174,38 @@ texts-differ r q b c e =
     let s : r .head .shape ≡ q .head .shape = ap shapeFrom f in
     let l : SameLengths r q = subst (λ (sh : Shape). lengthsOk sh (length (q .counters)) (length (q .norms)) (length (q .entries)) (length (q .counts)) ≡ true) (sym s) (ok-lengths q (c .passing .ok)) in
     ap (λ (a : Left). a .lends) (sym (restored r b q l) ∙ ap (λ (t : List ℕ). readCall t q) e ∙ restored q c q (ok-lengths q (c .passing .ok)))
+
+-- ---- the two calls, one after the other
+
+module _ (r : Lent) (out : List ℕ) (ok : stateOk r ≡ true) where
+  abbrev t : List ℕ
+  t = textOf (view r)
+
+  -- a state that passes the check, and room for its text
+  room-writes : length t ≤ length out → writeCall r out ≡ copied (record { refusal = 0; bytes = length t }) (sets out 0 t)
+  unfolding writeCall
+  room-writes h = rw (ok, le-ltb (length out) (length t) h)
+
+  -- the writer answers 0 only where there is room
+  zero-room : writeCall r out .answer .refusal ≡ 0 → length t ≤ length out
+  unfolding writeCall
+  zero-room e = go (ltb (length out) (length t)) refl (rw ok at e)
+    where
+      go : (b : Bool) → ltb (length out) (length t) ≡ b → (cond b (notCopied 16 out) (copied (record { refusal = 0; bytes = length t }) (sets out 0 t))) .answer .refusal ≡ 0 → length t ≤ length out
+      go true p e = absurd (omega (arith, e))
+      go false p e = ltb-false (length out) (length t) p
+
+  pub text-left : writeCall r out .answer .refusal ≡ 0 → take (writeCall r out .answer .bytes) (writeCall r out .out) ≡ t
+  text-left e =
+      let h = zero-room e in
+      let z : 0 + length t ≤ length out = omega arith in
+      rw (room-writes h, sets-eq t out 0 z) (take-append-seam t (drop (0 + length t) out))
+
+pub carried-home : CarriedHome
+carried-home r q out b l e = ap (λ (t : List ℕ). readCall t q) (text-left r out (b .passing .ok) e) ∙ restored r b q l
+
+pub written-again : WrittenAgain
+written-again t q out e h =
+    let w = only-written t q e in
+    subst (λ (s : List ℕ). writeCall (readCall t q .lends) out ≡ copied (record { refusal = 0; bytes = length s }) (sets out 0 s)) (w .text)
+    (room-writes (readCall t q .lends) out (w .passing .ok) (subst (λ (s : List ℕ). length s ≤ length out) (sym (w .text)) h))

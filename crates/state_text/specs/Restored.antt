@@ -2,14 +2,15 @@
 use mathlib.Core.Path.{_≡_}
 use mathlib.Core.Bool.{true}
 use mathlib.Core.List.{List}
-use Prim.Native.Nat.{ℕ, _<_}
-use lib.ListN.{length, getD}
+use Prim.Native.Nat.{ℕ, _≤_, _<_}
+use lib.ListN.{length, getD, take}
+use lib.Seq.{sets}
 use Rattle.words.specs.Num.{wordSize}
 use Rattle.layout.specs.Slices.{Lent, lengthsOk, view}
 use Rattle.layout.specs.Outcomes.{left}
 use Rattle.state_check.specs.Reached.{Passing}
 use Rattle.state_text.specs.Pages.{textOf}
-use Rattle.state_text.specs.Calls.{readCall}
+use Rattle.state_text.specs.Calls.{copied, writeCall, readCall}
 
 -- norms and entries are words: so it is for all that the code holds; the lists of the definitions hold any numbers
 pub record Words (r : Lent) : Type 0 where
@@ -41,3 +42,15 @@ OnlyWritten = (t : List ℕ) (q : Lent) → readCall t q .refusal ≡ 0 → Writ
 -- two different checked states have different texts
 abbrev pub TextsDiffer : Type 0
 TextsDiffer = (r q : Lent) → Checked r → Checked q → textOf (view r) ≡ textOf (view q) → r ≡ q
+
+-- ---- the same of the two calls, one after the other
+
+-- "States carried home as text": what the writer left in its space, as many bytes as it answered, is read at home as the state that was written
+abbrev pub CarriedHome : Type 0
+CarriedHome = (r q : Lent) (out : List ℕ) → Checked r → SameLengths r q → writeCall r out .answer .refusal ≡ 0
+    → readCall (take (writeCall r out .answer .bytes) (writeCall r out .out)) q ≡ left 0 r
+
+-- and what was read is written again, into a space that has room for it, to the same bytes
+abbrev pub WrittenAgain : Type 0
+WrittenAgain = (t : List ℕ) (q : Lent) (out : List ℕ) → readCall t q .refusal ≡ 0 → length t ≤ length out
+    → writeCall (readCall t q .lends) out ≡ copied (record { refusal = 0; bytes = length t }) (sets out 0 t)

@@ -137,7 +137,7 @@ pub struct Written {
     pub bytes: usize,
 }
 
-// 9 for a state that fails the check, 16 for a space that is too short; else the text at its start. LaidText
+// 9 for a state that fails the check, 16 for a space that is too short; else the text at its start. Laid
 // into nothing first, the text is measured.
 pub fn write_state(
     header: Header,

@@ -27,6 +27,10 @@ use Rattle.state_lines.specs.declared.keys.KeyLine.the-variants as K
 use Rattle.state_lines.specs.declared.keys.KeyLines.{KeyLines}
 use Rattle.state_lines.specs.declared.keys.KeyLines.the-variants as KS
 
+-- rows and columns are at most so many wherever lines are read: 2^20, so that no place of a counter comes near the end of the numbers
+abbrev pub mostSide : ℕ
+mostSide = 1048576
+
 -- ---- what a function answers, as what a format reads
 
 abbrev pub spot : List ℕ → Next → Got (Unit {0})

@@ -8,13 +8,14 @@ use Rattle.heap_moves.specs.Cands.{mostCands}
 use Rattle.layer.specs.declared.Dims.{Dims}
 use Rattle.state_forms.specs.Formats.{Got, got, bad}
 use Rattle.state_forms.specs.Grammar.{Page}
+use Rattle.state_lines.specs.inner.Places.{mostSide}
 use Rattle.state_reader.specs.declared.page.PageLines.{PageLines}
 use Rattle.state_reader.specs.declared.page.PageLines.the-variants as P
 
 -- no number of a layer's shape is so large that a place leaves the numbers
 pub record Small (d : Dims) : Type 0 where
-  pub rows : d .rows ≤ 1048576
-  pub cols : d .cols ≤ 1048576
+  pub rows : d .rows ≤ mostSide
+  pub cols : d .cols ≤ mostSide
   pub size : d .size ≤ mostCands
 
 -- nw entry words and nc counts are a layer's

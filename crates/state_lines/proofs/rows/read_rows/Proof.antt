@@ -12,13 +12,13 @@ use borrow.Author.Needs.{needs}
 use borrow.Author.Tests.{le-ltb, le-leb, lt-leb, not-true, not-false}
 use denote.Ref.{now}
 use Rattle.text.specs.Words.{bytesOf, isPrefix}
+use Rattle.state_forms.specs.Grammar.{lineEnd, cellListing, rowListing}
+use Rattle.state_lines.proofs.Spots.{word-room, word-here, word-off}
 use Rattle.state_forms.specs.Formats.{got}
 use Rattle.state_forms.specs.Sparse.{sparseR}
-use Rattle.state_forms.specs.Grammar.{lineEnd, cellListing, rowListing}
-use Rattle.state_lines.specs.inner.Places.{spot}
-use Rattle.state_lines.proofs.Spots.{word-here, word-off, word-room}
-use Rattle.state_lines.specs.inner.Places.{numSpot, rowHeadR}
-use Rattle.state_lines.proofs.RowWalk.{RowsLeft, rows-start, rows-end, rows-form, rows-out, rows-cells, found, rows-line, rows-on, mul-le, mul-small}
+use Rattle.state_lines.specs.inner.Places.{spot, numSpot, rowHeadR}
+use Rattle.state_lines.proofs.Known.{known}
+use Rattle.state_lines.proofs.RowWalk.{RowsLeft, rows-start, rows-end, rows-form, rows-out, rows-cells, rows-line, rows-on, mul-le, mul-small}
 use Rattle.state_lines.proofs.rows.read_rows.Statement.{statement}
 use Rattle.state_lines.proofs.rows.read_rows.Tie as tie
 
@@ -56,7 +56,7 @@ head c = sym (c .before .before .row-head .ensures) ∙ ap (numSpot (now (c .bef
 
 -- its counters
 cells-of : (c : tie.After-y Inv-loop μ-loop) → (xs : List ℤ) × (sparseR cellListing (suc (c .before .before .before .before .before .before .before .before .before .before .before .before .before .before .before .before .before .before .before .before .args .cols)) 0 (c .before .before .before .before .before .before .before .before .before .before .before .before .before .before .before .before .before .before .before .before .args .cols) (drop (c .before .before .before .before .before .before .before .before .before .before .before .x .given .0 .1 .0) (now (c .before .before .before .before .before .before .before .before .before .before .before .before .before .before .before .before .before .before .before .before .args .s))) ≡ got xs (drop (c .y .given .0 .0) (now (c .before .before .before .before .before .before .before .before .before .before .before .before .before .before .before .before .before .before .before .before .args .s))))
-cells-of c = found (c .before .before .before .before .before .before .before .before .before .before .before .before .before .before .before .before .before .before .loop .inv .1) (c .before .before .before .before .before .before .before .before .before .before .before .before .before .before .before .before .before .before .loop .inv .0) (more (c .before .before .before .before .before .before .before .before .before .before .before .before .before .before)) (c .before .before .before .before .before .before .before .before .before .before .before .x .given .0 .0) (drop (c .before .before .before .before .before .before .before .before .before .before .before .x .given .0 .1 .0) (now (c .before .before .before .before .before .before .before .before .before .before .before .before .before .before .before .before .before .before .before .before .args .s))) (head (c .before .before .before .before .before .before .before .before .before .before .before)) (drop (c .y .given .0 .0) (now (c .before .before .before .before .before .before .before .before .before .before .before .before .before .before .before .before .before .before .before .before .args .s))) (sym (ap (spot (now (c .before .before .before .before .before .before .before .before .before .before .before .before .before .before .before .before .before .before .before .before .args .s))) (c .y .given .1)) ∙ c .before .before .before .read-cells .ensures .0)
+cells-of c = known (sparseR cellListing (suc (c .before .before .before .before .before .before .before .before .before .before .before .before .before .before .before .before .before .before .before .before .args .cols)) 0 (c .before .before .before .before .before .before .before .before .before .before .before .before .before .before .before .before .before .before .before .before .args .cols) (drop (c .before .before .before .before .before .before .before .before .before .before .before .x .given .0 .1 .0) (now (c .before .before .before .before .before .before .before .before .before .before .before .before .before .before .before .before .before .before .before .before .args .s)))) (drop (c .y .given .0 .0) (now (c .before .before .before .before .before .before .before .before .before .before .before .before .before .before .before .before .before .before .before .before .args .s))) (sym (ap (spot (now (c .before .before .before .before .before .before .before .before .before .before .before .before .before .before .before .before .before .before .before .before .args .s))) (c .y .given .1)) ∙ c .before .before .before .read-cells .ensures .0)
 
 same-length : tie.Need-same-length Inv-loop μ-loop
 same-length c = ap length (c .before .keep-none .ensures) ∙ simp length-sets ((c .before .before .before .before .before .before .before .loop .inv .1) .left .walk .long)

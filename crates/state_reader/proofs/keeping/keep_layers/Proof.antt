@@ -1,7 +1,7 @@
 -- `state_reader::keeping::keep_layers` meets its contract.
 -- Written by tools/places.py from answers.txt; assumes nothing.
 use Prim.Native.Nat.{ℕ, _-_}
-use mathlib.Core.Path.{_≡_, sym, _∙_}
+use mathlib.Core.Path.{_≡_}
 use mathlib.Core.List.{List}
 use lib.ListN.{drop}
 use native.Mathlib.Omega.{arith}
@@ -12,6 +12,7 @@ use Rattle.state_forms.specs.Grammar.{Page, pagesR}
 use Rattle.state_text.specs.Pages.{frameOf, dimsOf}
 use Rattle.layout.specs.Outcomes.{left}
 use Rattle.state_reader.proofs.Keepings.{Keeping, keeping-start, keeping-inside, keeping-legible, keeping-on, keeping-end}
+use Rattle.layout.proofs.InTurn.{in-turn-long}
 use Rattle.state_reader.proofs.keeping.keep_layers.Statement.{statement}
 use Rattle.state_reader.proofs.keeping.keep_layers.Tie as tie
 
@@ -38,7 +39,7 @@ loop-holds c = λ ps t e. keeping-start (lent-of (c .before .before .before)) ps
 keep-layer-requires : tie.Need-keep-layer-requires Inv-loop μ-loop
 keep-layer-requires c κs =
     let v = going (c .before .before .before .before .before) in
-    (v .standing, (keeping-inside v (c .before .before .before .before .loop-test .taken), keeping-legible v (c .before .before .before .before .loop-test .taken)))
+    (v .turn .standing, (keeping-inside v (c .before .before .before .before .loop-test .taken), keeping-legible v (c .before .before .before .before .loop-test .taken)))
 
 add-l : tie.Need-add-l Inv-loop μ-loop
 add-l c = record { fits = omega (arith, c .before .before .before .before .before .before .before .before .before .before .before .before .before .before .before .before .before .pre .0 .accepted .few, c .before .before .before .before .before .before .before .before .before .before .before .before .loop-test .taken) }
@@ -51,19 +52,19 @@ loop-again c =
     λ ps t e. keeping-on (c .before .before .before .before .before .before .before .before .before .before .before .before .before .loop .inv ps t e) (c .before .before .before .before .before .before .before .before .before .before .before .before .loop-test .taken) _ (drop (c .before .before .before .before .before .before .before .keep-layer .result .at) (now (c .before .before .before .before .before .before .before .before .before .before .before .before .before .before .before .before .before .args .s))) (c .before .before .before .before .before .before .before .keep-layer .ensures .0) (c .before .before .before .before .before .before .before .keep-layer .ensures .1)
 
 same-length : tie.Need-same-length Inv-loop μ-loop
-same-length c = let v = going (c .before) in v .standing .sizes .cells ∙ rw (v .shape) (sym (c .before .before .before .before .before .pre .0 .sizes .cells))
+same-length c = in-turn-long ((going (c .before)) .turn) (c .before .before .before .before .before .pre .0) .0
 
 same-length-2 : tie.Need-same-length-2 Inv-loop μ-loop
-same-length-2 c = let v = going (c .before) in v .standing .sizes .norms ∙ rw (v .shape) (sym (c .before .before .before .before .before .pre .0 .sizes .norms))
+same-length-2 c = in-turn-long ((going (c .before)) .turn) (c .before .before .before .before .before .pre .0) .1 .0
 
 same-length-3 : tie.Need-same-length-3 Inv-loop μ-loop
-same-length-3 c = let v = going (c .before) in v .standing .sizes .entries ∙ rw (v .shape) (sym (c .before .before .before .before .before .pre .0 .sizes .entries))
+same-length-3 c = in-turn-long ((going (c .before)) .turn) (c .before .before .before .before .before .pre .0) .1 .1 .0
 
 same-length-4 : tie.Need-same-length-4 Inv-loop μ-loop
-same-length-4 c = let v = going (c .before) in v .standing .sizes .counts ∙ rw (v .shape) (sym (c .before .before .before .before .before .pre .0 .sizes .counts))
+same-length-4 c = in-turn-long ((going (c .before)) .turn) (c .before .before .before .before .before .pre .0) .1 .1 .1
 
 returns : tie.Need-returns Inv-loop μ-loop
-returns c = (λ ps t e. keeping-end (c .before .loop .inv ps t e) (c .loop-test .left), (going (c .before)) .standing)
+returns c = (λ ps t e. keeping-end (c .before .loop .inv ps t e) (c .loop-test .left), (going (c .before)) .turn .standing)
 
 pub keep-layers-spec : {M : Type 1} → statement M
 keep-layers-spec = tie.close (tie.spec Inv-loop μ-loop loop-holds keep-layer-requires add-l loop-less loop-again same-length same-length-2 same-length-3 same-length-4 returns)

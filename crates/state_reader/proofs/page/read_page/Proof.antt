@@ -18,7 +18,8 @@ use Rattle.state_forms.specs.Grammar.{rowListing, keysR, flagFormat, pageFormat
 use Rattle.state_lines.specs.inner.Places.{spot, flagSpot, keysSpot}
 use Rattle.state_text.specs.Pages.{tableFrom, frameOf}
 use Rattle.layout.specs.Outcomes.{left}
-use Rattle.state_reader.proofs.PageSteps.{known, known-bad, known-keys, known-keys-bad, page-0, page-1, page-2, page-3, page-4, page-refused, page-given, zeros-are, keys-few, keys-kept, seats-are}
+use Rattle.state_lines.proofs.Known.{known, known-bad, known-many, known-many-bad}
+use Rattle.state_reader.proofs.PageSteps.{page-0, page-1, page-2, page-3, page-4, page-refused, page-given, cands-zero, keys-few, keys-kept, seats-are}
 use Rattle.state_reader.proofs.page.read_page.Statement.{statement}
 use Rattle.state_reader.proofs.page.read_page.Tie as tie
 
@@ -38,13 +39,13 @@ rows-of : (c : tie.After-b) → (rs : List (List ℤ)) × ((sparseR (rowListing 
 rows-of c = known (sparseR (rowListing (c .before .before .before .before .before .before .before .before .before .before .before .args .l) ((c .before .before .before .before .before .before .before .before .before .before .before .args .dims) .cols)) (suc ((c .before .before .before .before .before .before .before .before .before .before .before .args .dims) .rows)) 0 ((c .before .before .before .before .before .before .before .before .before .before .before .args .dims) .rows) (drop (c .before .before .before .before .before .before .a .given .0 .1 .0) (now (c .before .before .before .before .before .before .before .before .before .before .before .args .s)))) (drop (c .b .given .0 .0) (now (c .before .before .before .before .before .before .before .before .before .before .before .args .s))) (sym (ap (spot (now (c .before .before .before .before .before .before .before .before .before .before .before .args .s))) (c .b .given .1)) ∙ c .before .before .before .read-rows .ensures .0)
 
 keys-of : (c : tie.After-d) → (cs : List Cand) × (((keysR (c .before .before .before .before .before .before .before .before .before .before .before .before .before .before .before .before .before .before .before .before .before .before .before .before .before .before .before .args .l) ((c .before .before .before .before .before .before .before .before .before .before .before .before .before .before .before .before .before .before .before .before .before .before .before .before .before .before .before .args .dims) .size) (drop (c .before .before .before .before .before .before .before .before .before .before .before .before .before .before .before .before .b .given .0 .0) (now (c .before .before .before .before .before .before .before .before .before .before .before .before .before .before .before .before .before .before .before .before .before .before .before .before .before .before .before .args .s)))) ≡ got cs (drop (c .d .given .0 .1 .0) (now (c .before .before .before .before .before .before .before .before .before .before .before .before .before .before .before .before .before .before .before .before .before .before .before .before .before .before .before .args .s)))) × (c .d .given .0 .0 ≡ length cs))
-keys-of c = known-keys (keysR (c .before .before .before .before .before .before .before .before .before .before .before .before .before .before .before .before .before .before .before .before .before .before .before .before .before .before .before .args .l) ((c .before .before .before .before .before .before .before .before .before .before .before .before .before .before .before .before .before .before .before .before .before .before .before .before .before .before .before .args .dims) .size) (drop (c .before .before .before .before .before .before .before .before .before .before .before .before .before .before .before .before .b .given .0 .0) (now (c .before .before .before .before .before .before .before .before .before .before .before .before .before .before .before .before .before .before .before .before .before .before .before .before .before .before .before .args .s)))) (c .d .given .0 .0) (drop (c .d .given .0 .1 .0) (now (c .before .before .before .before .before .before .before .before .before .before .before .before .before .before .before .before .before .before .before .before .before .before .before .before .before .before .before .args .s))) (sym (ap (keysSpot (now (c .before .before .before .before .before .before .before .before .before .before .before .before .before .before .before .before .before .before .before .before .before .before .before .before .before .before .before .args .s))) (c .d .given .1)) ∙ c .before .before .before .before .before .read-keys .ensures .0)
+keys-of c = known-many (keysR (c .before .before .before .before .before .before .before .before .before .before .before .before .before .before .before .before .before .before .before .before .before .before .before .before .before .before .before .args .l) ((c .before .before .before .before .before .before .before .before .before .before .before .before .before .before .before .before .before .before .before .before .before .before .before .before .before .before .before .args .dims) .size) (drop (c .before .before .before .before .before .before .before .before .before .before .before .before .before .before .before .before .b .given .0 .0) (now (c .before .before .before .before .before .before .before .before .before .before .before .before .before .before .before .before .before .before .before .before .before .before .before .before .before .before .before .args .s)))) (c .d .given .0 .0) (drop (c .d .given .0 .1 .0) (now (c .before .before .before .before .before .before .before .before .before .before .before .before .before .before .before .before .before .before .before .before .before .before .before .before .before .before .before .args .s))) (sym (ap (keysSpot (now (c .before .before .before .before .before .before .before .before .before .before .before .before .before .before .before .before .before .before .before .before .before .before .before .before .before .before .before .args .s))) (c .d .given .1)) ∙ c .before .before .before .before .before .read-keys .ensures .0)
 
 cands-now : (c : tie.After-d) → candsOf (c .before .before .before .before .before .read-keys .last .1 .1 .1 .1 .0) (c .before .before .before .before .before .read-keys .last .1 .1 .1 .1 .1 .0) ≡ tableFrom ((c .before .before .before .before .before .before .before .before .before .before .before .before .before .before .before .before .before .before .before .before .before .before .before .before .before .before .before .args .dims) .size) ((keys-of c) .0) .cands
 cands-now c =
     let k = keys-of c in
     keys-kept ((c .before .before .before .before .before .before .before .before .before .before .before .before .before .before .before .before .before .before .before .before .before .before .before .before .before .before .before .args .dims) .size) (k .0) (candsOf (c .before .before .before .before .before .before .before .before .before .before .before .before .before .zero-words .last .0) (c .before .before .before .before .before .before .before .before .before .zero-counts .last .0)) (candsOf (c .before .before .before .before .before .read-keys .last .1 .1 .1 .1 .0) (c .before .before .before .before .before .read-keys .last .1 .1 .1 .1 .1 .0)) (keys-few (c .before .before .before .before .before .before .before .before .before .before .before .before .before .before .before .before .before .before .before .before .before .before .before .before .before .before .before .args .l) ((c .before .before .before .before .before .before .before .before .before .before .before .before .before .before .before .before .before .before .before .before .before .before .before .before .before .before .before .args .dims) .size) (drop (c .before .before .before .before .before .before .before .before .before .before .before .before .before .before .before .before .b .given .0 .0) (now (c .before .before .before .before .before .before .before .before .before .before .before .before .before .before .before .before .before .before .before .before .before .before .before .before .before .before .before .args .s))) (k .0) (drop (c .d .given .0 .1 .0) (now (c .before .before .before .before .before .before .before .before .before .before .before .before .before .before .before .before .before .before .before .before .before .before .before .before .before .before .before .args .s))) (omega (arith, c .before .before .before .before .before .before .before .before .before .before .before .before .before .before .before .before .before .before .before .before .before .before .before .before .before .before .before .fits .l)) (k .1 .0))
-    (zeros-are ((c .before .before .before .before .before .before .before .before .before .before .before .before .before .before .before .before .before .before .before .before .before .before .before .before .before .before .before .args .dims) .size) (now (c .before .before .before .before .before .before .before .before .before .before .before .before .before .before .before .before .before .before .before .before .before .before .before .before .before .before .before .args .entries)) (c .before .before .before .before .before .before .before .before .before .before .before .before .before .zero-words .last .0) (now (c .before .before .before .before .before .before .before .before .before .before .before .before .before .before .before .before .before .before .before .before .before .before .before .before .before .before .before .args .counts)) (c .before .before .before .before .before .before .before .before .before .zero-counts .last .0) (c .before .before .before .before .before .before .before .before .before .before .before .before .before .zero-words .ensures) (c .before .before .before .before .before .before .before .before .before .zero-counts .ensures) (c .before .before .before .before .before .before .before .before .before .before .before .before .before .before .before .before .before .before .before .before .before .before .before .before .before .before .before .pre .words) (c .before .before .before .before .before .before .before .before .before .before .before .before .before .before .before .before .before .before .before .before .before .before .before .before .before .before .before .pre .counts))
+    (cands-zero ((c .before .before .before .before .before .before .before .before .before .before .before .before .before .before .before .before .before .before .before .before .before .before .before .before .before .before .before .args .dims) .size) (now (c .before .before .before .before .before .before .before .before .before .before .before .before .before .before .before .before .before .before .before .before .before .before .before .before .before .before .before .args .entries)) (c .before .before .before .before .before .before .before .before .before .before .before .before .before .zero-words .last .0) (now (c .before .before .before .before .before .before .before .before .before .before .before .before .before .before .before .before .before .before .before .before .before .before .before .before .before .before .before .args .counts)) (c .before .before .before .before .before .before .before .before .before .zero-counts .last .0) (c .before .before .before .before .before .before .before .before .before .before .before .before .before .zero-words .ensures) (c .before .before .before .before .before .before .before .before .before .zero-counts .ensures) (c .before .before .before .before .before .before .before .before .before .before .before .before .before .before .before .before .before .before .before .before .before .before .before .before .before .before .before .pre .words) (c .before .before .before .before .before .before .before .before .before .before .before .before .before .before .before .before .before .before .before .before .before .before .before .before .before .before .before .pre .counts))
     (c .before .before .before .before .before .read-keys .ensures .1 (k .0) (drop (c .d .given .0 .1 .0) (now (c .before .before .before .before .before .before .before .before .before .before .before .before .before .before .before .before .before .before .before .before .before .before .before .before .before .before .before .args .s))) (k .1 .0))
 
 seats : (c : tie.After-seats-ok) → seatsOk (tableFrom ((c .before .before .before .before .before .before .before .before .before .before .before .before .before .before .before .before .before .before .before .before .before .before .before .before .before .before .before .before .before .before .before .args .dims) .size) ((keys-of (c .before .before .before .before)) .0)) ((c .before .before .before .before .before .before .before .before .before .before .before .before .before .before .before .before .before .before .before .before .before .before .before .before .before .before .before .before .before .before .before .args .dims) .size) 0 ≡ c .seats-ok .result
@@ -93,7 +94,7 @@ same-length-4 : tie.Need-same-length-4
 same-length-4 c = search needs
 
 returns-3 : tie.Need-returns-3
-returns-3 c = page-refused (pageFormat (frameOf (c .before .before .before .before .before .before .before .before .before .before .before .before .before .before .before .before .before .before .before .before .before .before .before .before .before .before .before .args .dims)) (c .before .before .before .before .before .before .before .before .before .before .before .before .before .before .before .before .before .before .before .before .before .before .before .before .before .before .before .args .l) .read (drop (c .before .before .before .before .before .before .before .before .before .before .before .before .before .before .before .before .before .before .before .before .before .before .before .before .before .before .before .args .at) (now (c .before .before .before .before .before .before .before .before .before .before .before .before .before .before .before .before .before .before .before .before .before .before .before .before .before .before .before .args .s)))) _ (page-2 (c .before .before .before .before .before .before .before .before .before .before .before .before .before .before .before .before .before .before .before .before .before .before .before .before .before .before .before .args .dims) (c .before .before .before .before .before .before .before .before .before .before .before .before .before .before .before .before .before .before .before .before .before .before .before .before .before .before .before .args .l) (drop (c .before .before .before .before .before .before .before .before .before .before .before .before .before .before .before .before .before .before .before .before .before .before .before .before .before .before .before .args .at) (now (c .before .before .before .before .before .before .before .before .before .before .before .before .before .before .before .before .before .before .before .before .before .before .before .before .before .before .before .args .s))) (flag-of (c .before .before .before .before .before .before .before .before .before .before .before .before .before .before .before .before .before .before .before .before .before .before)) ((rows-of (c .before .before .before .before .before .before .before .before .before .before .before .before .before .before .before .before)) .1) (known-keys-bad (keysR (c .before .before .before .before .before .before .before .before .before .before .before .before .before .before .before .before .before .before .before .before .before .before .before .before .before .before .before .args .l) ((c .before .before .before .before .before .before .before .before .before .before .before .before .before .before .before .before .before .before .before .before .before .before .before .before .before .before .before .args .dims) .size) (drop (c .before .before .before .before .before .before .before .before .before .before .before .before .before .before .before .before .b .given .0 .0) (now (c .before .before .before .before .before .before .before .before .before .before .before .before .before .before .before .before .before .before .before .before .before .before .before .before .before .before .before .args .s)))) (sym (ap (keysSpot (now (c .before .before .before .before .before .before .before .before .before .before .before .before .before .before .before .before .before .before .before .before .before .before .before .before .before .before .before .args .s))) (c .enum-told3 .given .1)) ∙ c .before .before .before .before .before .read-keys .ensures .0)))
+returns-3 c = page-refused (pageFormat (frameOf (c .before .before .before .before .before .before .before .before .before .before .before .before .before .before .before .before .before .before .before .before .before .before .before .before .before .before .before .args .dims)) (c .before .before .before .before .before .before .before .before .before .before .before .before .before .before .before .before .before .before .before .before .before .before .before .before .before .before .before .args .l) .read (drop (c .before .before .before .before .before .before .before .before .before .before .before .before .before .before .before .before .before .before .before .before .before .before .before .before .before .before .before .args .at) (now (c .before .before .before .before .before .before .before .before .before .before .before .before .before .before .before .before .before .before .before .before .before .before .before .before .before .before .before .args .s)))) _ (page-2 (c .before .before .before .before .before .before .before .before .before .before .before .before .before .before .before .before .before .before .before .before .before .before .before .before .before .before .before .args .dims) (c .before .before .before .before .before .before .before .before .before .before .before .before .before .before .before .before .before .before .before .before .before .before .before .before .before .before .before .args .l) (drop (c .before .before .before .before .before .before .before .before .before .before .before .before .before .before .before .before .before .before .before .before .before .before .before .before .before .before .before .args .at) (now (c .before .before .before .before .before .before .before .before .before .before .before .before .before .before .before .before .before .before .before .before .before .before .before .before .before .before .before .args .s))) (flag-of (c .before .before .before .before .before .before .before .before .before .before .before .before .before .before .before .before .before .before .before .before .before .before)) ((rows-of (c .before .before .before .before .before .before .before .before .before .before .before .before .before .before .before .before)) .1) (known-many-bad (keysR (c .before .before .before .before .before .before .before .before .before .before .before .before .before .before .before .before .before .before .before .before .before .before .before .before .before .before .before .args .l) ((c .before .before .before .before .before .before .before .before .before .before .before .before .before .before .before .before .before .before .before .before .before .before .before .before .before .before .before .args .dims) .size) (drop (c .before .before .before .before .before .before .before .before .before .before .before .before .before .before .before .before .b .given .0 .0) (now (c .before .before .before .before .before .before .before .before .before .before .before .before .before .before .before .before .before .before .before .before .before .before .before .before .before .before .before .args .s)))) (sym (ap (keysSpot (now (c .before .before .before .before .before .before .before .before .before .before .before .before .before .before .before .before .before .before .before .before .before .before .before .before .before .before .before .args .s))) (c .enum-told3 .given .1)) ∙ c .before .before .before .before .before .read-keys .ensures .0)))
 
 seats-ok-requires : tie.Need-seats-ok-requires
 seats-ok-requires c κs =
