@@ -85,6 +85,8 @@ typedef struct state {
 static dims shape;
 static uint64_t mode;
 static state one, two;
+static uint8_t text[UNIVMON_TEXT_MAX(HEAP, 9, 4096, LAYERS)];
+static size_t text_len;
 static uint64_t record[UNIVMON_RECORD(LAYERS)];
 static int64_t weight;
 static int turn;
@@ -218,6 +220,18 @@ static void run_check_state(void) {
     refusal = !univmon_check_state(one.header, ALL(one));
 }
 
+static void run_write_state(void) {
+    univmon_written w = univmon_write_state(one.header, ALL(one), text, sizeof text);
+    refusal = w.refusal;
+    text_len = w.bytes;
+}
+
+/* What run_write_state wrote, over what is there. */
+static void run_read_state(void) {
+    univmon_answered a = univmon_read_state(text, text_len, ALL(one));
+    keep(&a);
+}
+
 static void run_clear(void) {
     univmon_answered a = univmon_clear(one.header, ALL(one));
     keep(&a);
@@ -261,6 +275,8 @@ static call calls[] = {
     CALL(estimate_cardinality, IN_BOTH),
     CALL(panel_answer, IN_BOTH),
     CALL(check_state, IN_BOTH),
+    CALL(write_state, IN_BOTH),
+    CALL(read_state, IN_BOTH),
     CALL(clear, IN_BOTH),
     CALL(new, IN_BOTH),
 };

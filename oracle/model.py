@@ -1,9 +1,10 @@
 """Document 01's words once more, and 02's as far as they have landed, on slices: what every call answers and leaves, refusals included.
 
 The stored results of `replay` come from here wherever the oracle cannot be asked (refusals 4, 7, 9, 11, 12, 14, the number of updates, states set by hand);
-everything else is held against the oracle, call by call (`replay.py`).
+everything else is held against the oracle, call by call (`replay.py`). Texts of states are written and read here only: the Rust has none.
 """
 import math
+import re
 import struct
 
 TOP, CAP, MASK, PRIME = 1 << 52, 1 << 63, (1 << 64) - 1, 4294967291
@@ -419,3 +420,95 @@ class Relay:
 
 
 G = {"one": lambda x: 1.0, "value": lambda x: x, "square": lambda x: x * x}
+
+
+# ---- states carried home as text (02, W2)
+
+NUMBER, SIGNED = rb"(0|[1-9][0-9]{0,19})", rb"(0|-?[1-9][0-9]{0,19})"  # a longer one is past 64 bits
+PAIR = rb" \(" + NUMBER + b" " + SIGNED + rb"\)"
+
+
+def line(word, *fields):
+    return rb"\(" + word + b"".join(b" " + f for f in fields) + rb"\)\n"
+
+
+FIRST = re.compile(line(b"univmon", *[NUMBER] * 4))
+TOTALS = re.compile(line(b"weight", NUMBER) + line(b"updates", NUMBER) + line(b"mode", b"([0-2])"))
+FLAG = re.compile(line(b"flag", NUMBER, b"([01])"))
+ROW = re.compile(line(b"row", NUMBER, NUMBER + b"((?:" + PAIR + b")+)"))
+KEY = re.compile(line(b"key", *[NUMBER] * 5, SIGNED))
+
+
+def write_text(state, room=None):
+    """the writer lent so many bytes, or enough: (refusal, text)"""
+    if not state.check():
+        return 9, b""
+    heap, rows, cols, layers = state.shape
+    text = "(univmon %d %d %d %d)\n(weight %d)\n(updates %d)\n(mode %d)\n" % (heap, rows, cols, layers, state.weight, state.updates, state.mode)
+    for l in range(layers):
+        text += "(flag %d %d)\n" % (l, state.flags[l])
+        for r in range(rows):
+            a = state.at(l, r, 0)
+            pairs = "".join(" (%d %d)" % (c, v) for c, v in enumerate(state.counters[a:a + cols]) if v)
+            text += "(row %d %d%s)\n" % (l, r, pairs) if pairs else ""
+        for i in range(state.lens[l]):
+            text += "(key %d %d %d %d %d %d)\n" % (l, *state.entry(l, i), state.counts[l * heap + i])
+    return (16, b"") if room is not None and room < len(text) else (0, text.encode())
+
+
+def take_line(state, text, at):
+    """a line of a layer put into the state: the place past it, or None"""
+    heap, rows, cols, layers = state.shape
+    for form in (FLAG, ROW, KEY):
+        m = form.match(text, at)
+        if not m:
+            continue
+        l = int(m[1])
+        if l >= layers:
+            return None
+        if form is FLAG:
+            state.flags[l] = m[2] == b"1"
+        elif form is ROW:
+            for c, v in re.findall(PAIR, m[3]):
+                if int(m[2]) >= rows or int(c) >= cols:
+                    return None
+                state.counters[state.at(l, int(m[2]), int(c))] = int(v)
+        else:
+            *entry, n = map(int, m.groups()[1:])
+            if state.lens[l] == heap or max(entry) > MASK:
+                return None
+            state.put(l, state.lens[l], entry, n)
+            state.lens[l] += 1
+        return m.end()
+    return None
+
+
+def read_text(text, lengths):
+    """the reader lent slices of these four lengths: (refusal, state)
+
+    The lines are put into a state wherever they stand. "The reader accepts only text that the writer gives": so order, rising
+    columns, omitted zeros, ranges and heap order are judged by writing that state again."""
+    m, state = FIRST.match(text), Relay()
+    if not m or max(map(int, m.groups())) > MASK:
+        return 15, None
+    state.shape = list(map(int, m.groups()))
+    if shape_refusal(*state.shape):
+        return shape_refusal(*state.shape), None
+    if list(lengths) != state.lengths():
+        return 16, None
+    m = TOTALS.match(text, m.end())
+    if not m:
+        return 15, None
+    state.weight, state.updates, state.mode = map(int, m.groups())
+    state.zero()
+    at = m.end()
+    while at is not None and at < len(text):
+        at = take_line(state, text, at)
+    if at is None:
+        return 15, None
+    _, rows, cols, layers = state.shape
+    for l in range(layers):
+        for r in range(rows):
+            a = state.at(l, r, 0)
+            state.put_norm(l, r, sum(map(capped, state.counters[a:a + cols])))
+    return (0, state) if write_text(state) == (0, text) else (15, None)

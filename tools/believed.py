@@ -18,6 +18,7 @@ ROOT = os.path.realpath(os.path.join(os.path.dirname(os.path.abspath(__file__)),
 STATED = {
     "float64": ["Norm", "Root"],
     "state_check": ["Reached"],
+    "state_text": ["Restored"],
     "univmon_c": ["SameCalls"],
     "panel_lines": ["Ask"],
     "figures": ["Figures"],

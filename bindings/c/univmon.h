@@ -17,7 +17,8 @@
  * layer from 0 the high and the low half of its 128-bit hash. The caller hashes.
  *
  * REFUSALS. Every call answers a number, 0 for none. A refused call leaves the header and every array
- * as they were, its floats are +0.0, and a refused univmon_new gives an all-zero header:
+ * as they were, its floats and its number of bytes are 0, and a refused univmon_new or univmon_read_state
+ * gives an all-zero header:
  *   1  a dimension is 0
  *   2  layers above 19
  *   3  hash bits above 128
@@ -33,8 +34,24 @@
  *   11 a counter would leave -2^52 to 2^52
  *   12 record length wrong
  *   14 updates would pass 2^52
+ *   15 not the text of a state that passes the check
+ *   16 lent text space too short, or state slices not of the first line's lengths
  * (13 is the program panel's own.) Where several apply, the order is 9 for header, lengths and numbers,
- * then 12, 10, 5, 8, 6, 7, 14, 9 for what is read, 11; for univmon_new 1, 2, 3, 4, 9.
+ * then 12, 10, 5, 8, 6, 7, 14, 9 for what is read, 11; for univmon_new 1, 2, 3, 4, 9; for
+ * univmon_write_state 9, 16; for univmon_read_state 15 for the first line, then 1, 2, 3, 4, 16, and 15 for
+ * the other lines.
+ *
+ * A TEXT is a state's lines, each ending in one newline; capitals stand for numbers:
+ *   (univmon HEAP ROWS COLS LAYERS)
+ *   (weight W)
+ *   (updates U)
+ *   (mode M)
+ * and then for each layer I, from 0 on,
+ *   (flag I F)                             F is 1 or 0
+ *   (row I R (C V) (C V) ..)               by rising R and C; no zero V, no row of zeros
+ *   (key I KEY BOTTOM HI LO COUNT)         the candidates in the order of their entries
+ * Numbers are decimal without leading zeros; a negative V or COUNT has a minus sign. Norms are worked
+ * out on reading. There is one text for each state, and no other text is read.
  *
  * STACK. What a call takes at most, arguments and answer included, rounded up with a quarter of a KiB
  * for how the caller is compiled. Measured by bindings/stack.c in states of 19 full layers of 1,024
@@ -59,12 +76,15 @@
  *   univmon_estimate_cardinality              67 KiB
  *   univmon_panel_answer                      67 KiB
  *   univmon_check_state                        1 KiB
+ *   univmon_write_state                        2 KiB
+ *   univmon_read_state                        43 KiB
  *
  * WHAT THE CALLER OWES. The proofs speak of every value of every argument, so no header, length,
  * number or array content needs to be right. C itself asks for this, and the library cannot test it:
- *   - a pointer is not NULL, not even with length 0, is aligned to 8 bytes, and its length is not more
- *     than what lies behind it;
- *   - the arrays that a call writes, lent lengths and flags among them, overlap no other array of it;
+ *   - a pointer is not NULL, not even with length 0, is aligned to 8 bytes (one to a text need not be), and
+ *     its length is not more than what lies behind it;
+ *   - the arrays that a call writes, lent lengths, flags and text space among them, overlap no other
+ *     array of it;
  *   - each byte of `flags` is a bool, 0 or 1, as it is wherever C code assigns it.
  */
 #ifndef UNIVMON_H
@@ -89,6 +109,12 @@ extern "C" {
 #define UNIVMON_ENTRIES(heap_size, layers) ((size_t)4 * (layers) * (heap_size))
 #define UNIVMON_COUNTS(heap_size, layers) ((size_t)(layers) * (heap_size))
 #define UNIVMON_RECORD(layers) ((size_t)2 + 2 * (size_t)(layers))
+
+/* Bytes that are enough for the text of any state of these dimensions: 88 for the first four lines, 12 for
+ * a flag, 12 for a row beside its counters, 25 for a counter, 111 for a key. Most texts are far shorter; a
+ * caller may as well try a small space and a larger one after each 16. */
+#define UNIVMON_TEXT_MAX(heap_size, rows, cols, layers) \
+    (88 + (size_t)(layers) * (12 + (size_t)(rows) * (12 + 25 * (size_t)(cols)) + 111 * (size_t)(heap_size)))
 
 /* Modes: how keys were sent to layers. */
 #define UNIVMON_UNSET 0
@@ -160,6 +186,12 @@ typedef struct univmon_panel {
     double l2;
     double cardinality;
 } univmon_panel;
+
+/* A refusal and 0, or 0 and the number of bytes that the text takes. */
+typedef struct univmon_written {
+    uint64_t refusal;
+    size_t bytes;
+} univmon_written;
 
 /* ---- shapes */
 
@@ -333,6 +365,29 @@ bool univmon_check_state(
     const uint64_t *norms, size_t norms_len,
     const uint64_t *entries, size_t entries_len,
     const int64_t *counts, size_t counts_len);
+
+/* ---- states as text */
+
+/* Writes a state's text at the start of `out`; the bytes behind it remain. Reads what univmon_check_state
+ * reads, and refuses a state that fails it with 9, then a space that is shorter than the text with 16. No
+ * zero byte ends the text. */
+univmon_written univmon_write_state(
+    univmon_header header,
+    const int64_t *counters, size_t counters_len,
+    const uint64_t *norms, size_t norms_len,
+    const uint64_t *entries, size_t entries_len,
+    const int64_t *counts, size_t counts_len,
+    uint8_t *out, size_t out_len);
+
+/* Reads a state from its text, all of it, into arrays of its first line's lengths: every word of them is
+ * written, whatever was there, and the header answered. Everything is judged first, so that a refused
+ * reading leaves the arrays. Refuses 15, 1, 2, 3, 4, 16, 15. */
+univmon_answered univmon_read_state(
+    const uint8_t *text, size_t text_len,
+    int64_t *counters, size_t counters_len,
+    uint64_t *norms, size_t norms_len,
+    uint64_t *entries, size_t entries_len,
+    int64_t *counts, size_t counts_len);
 
 #ifdef __cplusplus
 }

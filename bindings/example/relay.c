@@ -1,5 +1,6 @@
-/* A relay's loop in C: two branches count their streams, one is marked, the two are merged, and the
- * panel's numbers are shown. relay.rs is the same in Rust and writes the same lines. */
+/* A relay's loop in C: two branches count their streams, one is marked and carried home as text, the two
+ * are merged there, and the panel's numbers are shown. relay.rs is the same in Rust and writes the same
+ * lines. */
 #include <inttypes.h>
 #include <stdio.h>
 #include <stdlib.h>
@@ -89,7 +90,22 @@ int main(void) {
     printf("weight -1: refused %" PRIu64 "\n", refused.refusal);
     show("east", &east);
 
-    accept(&east, univmon_merge(east.header, MUT(&east), west.header, MUT(&west)), "merge");
+    /* West has no link: its state is written as text.. */
+    static uint8_t text[UNIVMON_TEXT_MAX(HEAP, ROWS, COLS, LAYERS)];
+    univmon_written written = univmon_write_state(west.header, MUT(&west), text, sizeof text);
+    if (written.refusal != 0) {
+        fprintf(stderr, "relay: write refused %" PRIu64 "\n", written.refusal);
+        return 1;
+    }
+    printf("west as text: %zu bytes\n", written.bytes);
+
+    /* ..and read at home into other arrays, whatever these held. A text that lost its end is no state's. */
+    static branch home;
+    printf("cut short: refused %" PRIu64 "\n", univmon_read_state(text, written.bytes - 1, MUT(&home)).refusal);
+    accept(&home, univmon_read_state(text, written.bytes, MUT(&home)), "read");
+    show("home", &home);
+
+    accept(&east, univmon_merge(east.header, MUT(&east), home.header, MUT(&home)), "merge");
     show("both", &east);
 
     univmon_answer squares = univmon_estimate_g_sum(east.header, MUT(&east), UNIVMON_G_SQUARE, false);

@@ -1,5 +1,6 @@
-//! A relay's loop in Rust: two branches count their streams, one is marked, the two are merged, and the
-//! panel's numbers are shown. relay.c is the same in C and writes the same lines.
+//! A relay's loop in Rust: two branches count their streams, one is marked and carried home as text, the
+//! two are merged there, and the panel's numbers are shown. relay.c is the same in C and writes the same
+//! lines.
 use univmon::{Owned, Refused, Shape, State, G};
 
 const LAYERS: usize = 6;
@@ -60,7 +61,18 @@ fn relay() -> Result<(), Refused> {
     }
     east.with(|s| show("east", s))?;
 
-    east.merge(&mut west)?;
+    // West has no link: its state is written as text..
+    let text = west.to_text()?;
+    println!("west as text: {} bytes", text.len());
+
+    // ..and read at home. A text that lost its end is no state's.
+    if let Err(Refused(n)) = Owned::from_text(&text[..text.len() - 1]) {
+        println!("cut short: refused {n}");
+    }
+    let mut home = Owned::from_text(&text)?;
+    home.with(|s| show("home", s))?;
+
+    east.merge(&mut home)?;
     east.with(|s| show("both", s))?;
     let squares = east.with(|s| s.estimate_g_sum(G::Square, false))?;
     println!("sum of squares: {squares:.0}");

@@ -5,7 +5,7 @@
 //!
 //! Every number and every content of a slice is safe. A pointer is not null, is aligned, and its length
 //! is not more than what lies behind it; what a call writes overlaps nothing else that it is lent.
-use crate::{Answer, Answered, Bottom, Header, Panel, Shape, Step};
+use crate::{Answer, Answered, Bottom, Header, Panel, Shape, Step, Written};
 
 extern "C" {
     /// 0, or the refusal of these dimensions: [`Shape::lengths`].
@@ -215,4 +215,31 @@ extern "C" {
         counts: *const i64,
         counts_len: usize,
     ) -> bool;
+    /// [`crate::State::write_text`].
+    pub fn univmon_write_state(
+        header: Header,
+        counters: *const i64,
+        counters_len: usize,
+        norms: *const u64,
+        norms_len: usize,
+        entries: *const u64,
+        entries_len: usize,
+        counts: *const i64,
+        counts_len: usize,
+        out: *mut u8,
+        out_len: usize,
+    ) -> Written;
+    /// [`crate::State::read_text`].
+    pub fn univmon_read_state(
+        text: *const u8,
+        text_len: usize,
+        counters: *mut i64,
+        counters_len: usize,
+        norms: *mut u64,
+        norms_len: usize,
+        entries: *mut u64,
+        entries_len: usize,
+        counts: *mut i64,
+        counts_len: usize,
+    ) -> Answered;
 }

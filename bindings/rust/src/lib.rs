@@ -8,7 +8,12 @@
 //!
 //! A call that is refused answers [`Refused`] and leaves everything as it was. Where several refusals
 //! apply, the order is 9 for header and lengths, then 12, 10, 5, 8, 6, 7, 14, 9 for what is read, 11; for
-//! a fresh state 1, 2, 3, 4, 9. Each call says which of them it can answer, in that order.
+//! a fresh state 1, 2, 3, 4, 9; for a text that is written 9, 16; for one that is read 15 for its first
+//! line, then 1, 2, 3, 4, 16, and 15 for the other lines. Each call says which of them it can answer, in
+//! that order.
+//!
+//! A state can be carried as text and is restored exactly: [`State::write_text`], [`State::read_text`].
+//! `univmon.h` shows its lines; there is one text for each state, and no other text is read.
 //!
 //! The functions take no memory but the stack, at most 128 KiB; `univmon.h` says how much each takes.
 #![no_std]
@@ -82,7 +87,7 @@ pub struct Shape {
     pub layers: usize,
 }
 
-/// Lengths of the four slices and of a record, exact.
+/// Lengths of the four slices and of a record, exact, and the most that a text has.
 #[derive(Clone, Copy, Debug, PartialEq, Eq)]
 pub struct Lengths {
     /// `layers * rows * cols` signed words, by layer, then row, then column.
@@ -95,6 +100,8 @@ pub struct Lengths {
     pub counts: usize,
     /// `2 + 2 * layers` words.
     pub record: usize,
+    /// Bytes that are enough for the text of any state of the shape; most texts are far shorter.
+    pub text: usize,
 }
 
 impl Shape {
@@ -109,6 +116,8 @@ impl Shape {
             entries: 4 * layers * heap_size,
             counts: layers * heap_size,
             record: 2 + 2 * layers,
+            // the first four lines; a flag, a row beside its counters, a counter, a key
+            text: 88 + layers * (12 + rows * (12 + 25 * cols) + 111 * heap_size),
         })
     }
 }
@@ -219,6 +228,16 @@ pub struct Panel {
     pub cardinality: f64,
 }
 
+/// A refusal and 0, or 0 and the number of bytes that a text takes.
+#[repr(C)]
+#[derive(Clone, Copy, Debug, PartialEq, Eq)]
+pub struct Written {
+    /// 0 for none.
+    pub refusal: u64,
+    /// The text's length.
+    pub bytes: usize,
+}
+
 fn accepted(refusal: u64) -> Result<(), Refused> {
     if refusal == 0 {
         Ok(())
@@ -242,6 +261,28 @@ pub fn bottom_layer_for_hash(hash: u64, layers: usize) -> Result<usize, Refused>
 /// The slices of a state, lent to be read.
 #[derive(Clone, Copy)]
 struct Read<'a>(&'a [i64], &'a [u64], &'a [u64], &'a [i64]);
+
+/// A state's text at the start of `out`, and its length.
+fn write_text(header: Header, state: Read<'_>, out: &mut [u8]) -> Result<usize, Refused> {
+    let Read(counters, norms, entries, counts) = state;
+    // SAFETY: each pointer and length is a slice's, and `out`, which is written, is borrowed alone.
+    let w = unsafe {
+        ffi::univmon_write_state(
+            header,
+            counters.as_ptr(),
+            counters.len(),
+            norms.as_ptr(),
+            norms.len(),
+            entries.as_ptr(),
+            entries.len(),
+            counts.as_ptr(),
+            counts.len(),
+            out.as_mut_ptr(),
+            out.len(),
+        )
+    };
+    accepted(w.refusal).map(|()| w.bytes)
+}
 
 /// A state in lent slices: it allocates nothing.
 ///
@@ -288,6 +329,34 @@ struct Read<'a>(&'a [i64], &'a [u64], &'a [u64], &'a [i64]);
 /// let state = State::lend(header, &mut counters, &mut norms, &mut entries, &mut counts)?;
 /// assert!(state.check());
 /// assert_eq!(state.estimate_l1()?, 5.0);
+/// # Ok(())
+/// # }
+/// ```
+///
+/// Or the state is carried as text, and read into other slices:
+///
+/// ```
+/// # use univmon::{Refused, Shape, State};
+/// # fn main() -> Result<(), Refused> {
+/// # let shape = Shape { heap_size: 2, rows: 2, cols: 4, layers: 2 };
+/// # let (mut counters, mut norms) = ([0i64; 16], [0u64; 8]);
+/// # let (mut entries, mut counts) = ([0u64; 16], [0i64; 4]);
+/// let mut state = State::new(shape, &mut counters, &mut norms, &mut entries, &mut counts)?;
+/// state.update_weighted(&[7, 0, 0x8000_0000_0000_0000, 6, 0, 0], 5)?;
+/// let mut space = [0; 500];
+/// let bytes = state.write_text(&mut space)?;
+/// let text = &space[..bytes];
+/// assert!(text.starts_with(b"(univmon 2 2 4 2)\n(weight 5)\n(updates 1)\n(mode 1)\n(flag 0 1)\n(row 0 0 (2 5))\n"));
+///
+/// let (mut counters, mut norms) = ([9i64; 16], [9u64; 8]);
+/// let (mut entries, mut counts) = ([9u64; 16], [9i64; 4]);
+/// let home = State::read_text(text, &mut counters, &mut norms, &mut entries, &mut counts)?;
+/// assert_eq!((home.header(), home.norms()), (state.header(), state.norms()));
+///
+/// // a text that lost its end is refused, and the slices stay
+/// let cut = State::read_text(&text[..bytes - 1], &mut counters, &mut norms, &mut entries, &mut counts);
+/// assert_eq!(cut.unwrap_err(), Refused(15));
+/// assert_eq!(counters[2], 5);
 /// # Ok(())
 /// # }
 /// ```
@@ -346,6 +415,34 @@ impl<'a> State<'a> {
             return Err(Refused(9));
         }
         Ok(State { header, counters, norms, entries, counts })
+    }
+
+    /// A state from its text, all of it, in slices of its first line's lengths: every word of them is
+    /// written, whatever was there. Everything is judged first. Refuses 15, 1, 2, 3, 4, 16, 15.
+    pub fn read_text(
+        text: &[u8],
+        counters: &'a mut [i64],
+        norms: &'a mut [u64],
+        entries: &'a mut [u64],
+        counts: &'a mut [i64],
+    ) -> Result<Self, Refused> {
+        // SAFETY: each pointer and length is a slice's, and no two slices overlap.
+        let a = unsafe {
+            ffi::univmon_read_state(
+                text.as_ptr(),
+                text.len(),
+                counters.as_mut_ptr(),
+                counters.len(),
+                norms.as_mut_ptr(),
+                norms.len(),
+                entries.as_mut_ptr(),
+                entries.len(),
+                counts.as_mut_ptr(),
+                counts.len(),
+            )
+        };
+        accepted(a.refusal)?;
+        Ok(State { header: a.header, counters, norms, entries, counts })
     }
 
     /// The header as the last accepted call left it.
@@ -643,6 +740,13 @@ impl<'a> State<'a> {
                 counts.len(),
             )
         }
+    }
+
+    /// Writes the state's text at the start of `out` and answers its length; the bytes behind it remain.
+    /// [`Lengths::text`] bytes are always enough. Reads what [`State::check`] reads. Refuses 9 where that
+    /// says no, 16 where the text is longer than `out`.
+    pub fn write_text(&self, out: &mut [u8]) -> Result<usize, Refused> {
+        write_text(self.header, self.read(), out)
     }
 
     /// What the panel shows: L1, L2 and cardinality. Reads what these three read. Refuses 9.

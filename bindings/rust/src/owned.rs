@@ -1,8 +1,9 @@
 //! A state that owns its slices.
 use alloc::boxed::Box;
 use alloc::vec;
+use alloc::vec::Vec;
 
-use crate::{Header, Refused, Shape, State};
+use crate::{write_text, Header, Read, Refused, Shape, State};
 
 /// A header and four boxed slices. [`Owned::with`] lends them to a [`State`] for some calls.
 ///
@@ -32,6 +33,26 @@ use crate::{Header, Refused, Shape, State};
 /// # Ok(())
 /// # }
 /// ```
+///
+/// Where there is no link between them, a state is carried home as text:
+///
+/// ```
+/// # use univmon::{Owned, Refused, Shape};
+/// # fn main() -> Result<(), Refused> {
+/// # let shape = Shape { heap_size: 4, rows: 2, cols: 4, layers: 2 };
+/// # let mut east = Owned::new(shape)?;
+/// # let mut west = Owned::new(shape)?;
+/// # west.with(|s| s.update_weighted(&[8, 2, 0, 1, 0, 3], 2))?;
+/// let text = west.to_text()?;
+/// let mut carried = Owned::from_text(&text)?;
+/// assert_eq!(carried, west);
+/// east.merge(&mut carried)?;
+///
+/// assert_eq!(Owned::from_text(b"(univmon 4 2 4 20)\n"), Err(Refused(2)));
+/// assert_eq!(Owned::from_text(b"(univmon 4 2 4 2)\n"), Err(Refused(15)));
+/// # Ok(())
+/// # }
+/// ```
 #[derive(Clone, Debug, PartialEq)]
 pub struct Owned {
     header: Header,
@@ -44,13 +65,39 @@ pub struct Owned {
 impl Owned {
     /// A fresh state, in boxes of the shape's lengths. Refuses 1, 2, 3, 4.
     pub fn new(shape: Shape) -> Result<Self, Refused> {
-        let want = shape.lengths()?;
-        let mut counters = vec![0i64; want.counters].into_boxed_slice();
-        let mut norms = vec![0u64; want.norms].into_boxed_slice();
-        let mut entries = vec![0u64; want.entries].into_boxed_slice();
-        let mut counts = vec![0i64; want.counts].into_boxed_slice();
-        let state = State::new(shape, &mut counters, &mut norms, &mut entries, &mut counts)?;
-        let header = state.into_header();
+        Self::boxed(Some(shape), |a, b, c, d| State::new(shape, a, b, c, d))
+    }
+
+    /// A state from its text, in boxes of its first line's lengths, as [`State::read_text`]. Refuses 15, 1,
+    /// 2, 3, 4, 15.
+    pub fn from_text(text: &[u8]) -> Result<Self, Refused> {
+        Self::boxed(first_line(text), |a, b, c, d| State::read_text(text, a, b, c, d))
+    }
+
+    /// The state's text, as [`State::write_text`]. Refuses 9.
+    pub fn to_text(&self) -> Result<Vec<u8>, Refused> {
+        // Without a shape there is no text, and the call says so.
+        let most = self.header.shape().lengths().map_or(0, |want| want.text);
+        let mut text = vec![0; most];
+        let bytes = write_text(self.header, Read(&self.counters, &self.norms, &self.entries, &self.counts), &mut text)?;
+        text.truncate(bytes);
+        text.shrink_to_fit();
+        Ok(text)
+    }
+
+    /// What a call makes of boxes of a shape's lengths. Where there is no such shape they are empty: the call
+    /// refuses the shape before it looks at them.
+    fn boxed<F>(shape: Option<Shape>, call: F) -> Result<Self, Refused>
+    where
+        F: for<'a> FnOnce(&'a mut [i64], &'a mut [u64], &'a mut [u64], &'a mut [i64]) -> Result<State<'a>, Refused>,
+    {
+        let want = shape.and_then(|shape| shape.lengths().ok());
+        let [a, b, c, d] = want.map_or([0; 4], |w| [w.counters, w.norms, w.entries, w.counts]);
+        let mut counters = vec![0i64; a].into_boxed_slice();
+        let mut norms = vec![0u64; b].into_boxed_slice();
+        let mut entries = vec![0u64; c].into_boxed_slice();
+        let mut counts = vec![0i64; d].into_boxed_slice();
+        let header = call(&mut counters, &mut norms, &mut entries, &mut counts)?.into_header();
         Ok(Owned { header, counters, norms, entries, counts })
     }
 
@@ -77,4 +124,13 @@ impl Owned {
     pub fn merge(&mut self, other: &mut Owned) -> Result<(), Refused> {
         self.with(|one| other.with(|two| one.merge(two)))
     }
+}
+
+/// The shape that a text's first line says, to size the boxes by: what is not such a line is for the reader to
+/// refuse, which takes no form that this leaves out.
+fn first_line(text: &[u8]) -> Option<Shape> {
+    let line = text.strip_prefix(b"(univmon ")?.split(|&b| b == b')').next()?;
+    let mut numbers = core::str::from_utf8(line).ok()?.split(' ').map(|n| n.parse().ok());
+    let mut next = || numbers.next().flatten();
+    Some(Shape { heap_size: next()?, rows: next()?, cols: next()?, layers: next()? })
 }

@@ -2,8 +2,8 @@
 use core::error::Error;
 use core::fmt::{self, Display, Formatter};
 
-/// The number of a refusal, 1 to 12 or 14; 13 is the program `panel`'s own. The call that it was answered
-/// by changed nothing.
+/// The number of a refusal, 1 to 12 or 14 to 16; 13 is the program `panel`'s own. The call that it was
+/// answered by changed nothing.
 ///
 /// ```
 /// use univmon::Refused;
@@ -40,6 +40,8 @@ impl Refused {
             12 => "record length wrong",
             13 => "program line unreadable, or before a shape",
             14 => "updates would pass 2^52",
+            15 => "not the text of a state that passes the check",
+            16 => "lent text space too short, or state slices not of the first line's lengths",
             _ => "no refusal has this number",
         }
     }

@@ -1,7 +1,7 @@
 //! The figures of the papers through the wrapper, in lent slices.
 use std::error::Error;
 
-use univmon::{bottom_layer_for_hash, Fidelity, Header, Mode, Refused, Shape, State, Step, G};
+use univmon::{bottom_layer_for_hash, Fidelity, Header, Mode, Refused, Shape, State, Step, Written, G};
 
 const SHAPE: Shape = Shape { heap_size: 2, rows: 2, cols: 4, layers: 2 };
 
@@ -25,6 +25,7 @@ fn layout_is_the_headers() {
     assert_eq!(std::mem::offset_of!(Header, lens), 56);
     assert_eq!(std::mem::offset_of!(Header, flags), 208);
     assert_eq!(std::mem::offset_of!(Step, updates), 16);
+    assert_eq!((std::mem::size_of::<Written>(), std::mem::offset_of!(Written, bytes)), (16, 8));
 }
 
 #[test]
@@ -122,8 +123,9 @@ fn updates_are_counted() {
 fn table_of_the_header() -> Vec<(u64, String)> {
     let mut table: Vec<(u64, String)> = Vec::new();
     let text = include_str!("../../c/univmon.h");
-    let lines = text.lines().skip_while(|line| !line.starts_with(" * REFUSALS.")).skip(2);
-    for line in lines.take_while(|line| line.starts_with(" *   ")) {
+    let in_table = |line: &&str| line.starts_with(" *   ");
+    let lines = text.lines().skip_while(|line| !line.starts_with(" * REFUSALS."));
+    for line in lines.skip_while(|line| !in_table(line)).take_while(in_table) {
         match line[5..].split_once(' ').map(|(n, words)| (n.parse(), words.trim())) {
             Some((Ok(n), words)) => table.push((n, words.to_string())),
             _ => table.last_mut().unwrap().1 += &format!(" {}", line[5..].trim()),
@@ -135,13 +137,13 @@ fn table_of_the_header() -> Vec<(u64, String)> {
 #[test]
 fn refusals_have_the_headers_words() {
     let table = table_of_the_header();
-    assert_eq!(table.iter().map(|row| row.0).collect::<Vec<_>>(), (1..=12).chain([14]).collect::<Vec<_>>());
+    assert_eq!(table.iter().map(|row| row.0).collect::<Vec<_>>(), (1..=12).chain(14..=16).collect::<Vec<_>>());
     for (n, words) in table {
         assert_eq!(Refused(n).words(), words);
         assert_eq!(Refused(n).to_string(), format!("refused {n}: {words}"));
     }
     assert_eq!(Refused(13).to_string(), "refused 13: program line unreadable, or before a shape");
-    for n in [0, 15, u64::MAX] {
+    for n in [0, 17, u64::MAX] {
         assert_eq!(Refused(n).to_string(), format!("refused {n}: no refusal has this number"));
     }
 }

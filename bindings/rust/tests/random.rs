@@ -157,7 +157,7 @@ fn damage(r: &mut Random, s: &mut Lent) {
 }
 
 /// The rules that hold of whatever a call left; `updates` is the number that an accepted one has.
-fn judge(before: &Lent, after: &mut Lent, a: Answered, updates: u64, kinds: &mut [u64; 16]) {
+fn judge(before: &Lent, after: &mut Lent, a: Answered, updates: u64, kinds: &mut [u64; 17]) {
     kinds[a.refusal as usize] += 1;
     assert!(a.refusal <= 12 || a.refusal == 14, "refusal {}", a.refusal);
     after.header = a.header;
@@ -172,7 +172,7 @@ fn judge(before: &Lent, after: &mut Lent, a: Answered, updates: u64, kinds: &mut
     }
 }
 
-fn judge_float(a: Answer, kinds: &mut [u64; 16]) {
+fn judge_float(a: Answer, kinds: &mut [u64; 17]) {
     kinds[a.refusal as usize] += 1;
     if a.refusal != 0 {
         assert_eq!((a.refusal, a.value.to_bits()), (9, 0));
@@ -247,7 +247,7 @@ fn change(r: &mut Random, s: &mut Lent, other: &mut Lent) -> (Answered, u64) {
     }
 }
 
-fn ask(r: &mut Random, s: &mut Lent, kinds: &mut [u64; 16]) {
+fn ask(r: &mut Random, s: &mut Lent, kinds: &mut [u64; 17]) {
     let h = s.header;
     let before = s.clone();
     let (a, b, c, d, e, f, g, i) = lend!(s);
@@ -279,12 +279,52 @@ fn sound(s: &mut Lent) -> bool {
     unsafe { univmon_check_state(s.header, a, b, c, d, e, f, g, i) }
 }
 
+/// The other state's text, at times in too short a space or with a byte changed, read into this one's slices.
+fn carry(r: &mut Random, s: &mut Lent, other: &mut Lent, kinds: &mut [u64; 17]) {
+    let was = sound(other);
+    let source = other.clone();
+    let mut out = vec![0xAA; if r.one_in(4) { r.below(200) } else { 1 << 16 }];
+    let (a, b, c, d, e, f, g, i) = lend!(other);
+    // SAFETY: as in `change`; the space is a vector of its own.
+    let w = unsafe { univmon_write_state(other.header, a, b, c, d, e, f, g, i, out.as_mut_ptr(), out.len()) };
+    assert_eq!(&source, other, "a writing changes nothing");
+    kinds[w.refusal as usize] += 1;
+    assert_eq!(w.refusal == 9, !was, "the writer and the check differ");
+    assert!(out[w.bytes..].iter().all(|&b| b == 0xAA), "bytes past the text changed");
+    if w.refusal != 0 {
+        assert!(w.bytes == 0 && matches!(w.refusal, 9 | 16));
+        return;
+    }
+    let mut text = out[..w.bytes].to_vec();
+    let broken = r.one_in(3);
+    if broken {
+        let at = r.below(text.len());
+        text[at] ^= 1 << r.below(8);
+    }
+    let before = s.clone();
+    let (a, b, c, d, e, f, g, i) = lend!(s);
+    // SAFETY: as in `change`.
+    let read = unsafe { univmon_read_state(text.as_ptr(), text.len(), a, b, c, d, e, f, g, i) };
+    kinds[read.refusal as usize] += 1;
+    if read.refusal != 0 {
+        assert!(matches!(read.refusal, 1..=4 | 15 | 16), "refusal {}", read.refusal);
+        assert_eq!(&before, s, "a refused reading changed something");
+        assert!(broken || read.refusal == 16);
+        let zero = Header { lens: [0; MAX_LAYERS], flags: [false; MAX_LAYERS], weight: 0, updates: 0, mode: 0, heap_size: 0, rows: 0, cols: 0, layers: 0 };
+        assert_eq!(read.header, zero);
+        return;
+    }
+    s.header = read.header;
+    assert!(sound(s), "what was read does not pass the check");
+    assert!(broken || s == other, "a state is not restored");
+}
+
 #[test]
 fn random_calls() {
     let number = |name: &str, or: u64| std::env::var(name).map_or(or, |v| v.parse().unwrap());
     let calls = number("RANDOM_CALLS", 400_000);
     let mut r = Random(number("RANDOM_SEED", 1));
-    let mut kinds = [0u64; 16];
+    let mut kinds = [0u64; 17];
     let mut passed = 0;
     let mut s = fresh(&mut r);
     let mut other = s.clone();
@@ -307,7 +347,9 @@ fn random_calls() {
         if r.one_in(50) {
             damage(&mut r, &mut other);
         }
-        if r.one_in(4) {
+        if r.one_in(20) {
+            carry(&mut r, &mut s, &mut other, &mut kinds);
+        } else if r.one_in(4) {
             ask(&mut r, &mut s, &mut kinds);
         } else {
             let before = s.clone();
@@ -330,7 +372,7 @@ fn random_calls() {
     println!("{calls} calls; answered by number: {kinds:?}; {passed} on states that pass the check");
     if calls >= 100_000 {
         assert!(passed > calls / 10 && passed < calls, "the check says always the same");
-        for refusal in [0, 5, 6, 7, 8, 9, 10, 11, 12, 14] {
+        for refusal in [0, 5, 6, 7, 8, 9, 10, 11, 12, 14, 15, 16] {
             assert!(kinds[refusal] > 0, "number {refusal} never came");
         }
     }

@@ -27,15 +27,15 @@ pub within-ok : (t : Totals) → Within t → totalsOk t ≡ true
 within-ok t w = both (le-leb (t .weight) top (w .light)) (le-leb (t .updates) top (w .few))
 
 -- the tests of a sum say whether it is in range
-pub sum-within : (a b : Totals) → Off (totalsTests a b) → Within (addTotals a b)
-sum-within a b o =
+pub totals-within : (a b : Totals) → Off (totalsTests a b) → Within (addTotals a b)
+totals-within a b o =
     record {
       light = leb-true (a .weight + b .weight) top (not-false (leb (a .weight + b .weight) top) (o .0));
       few = leb-true (a .updates + b .updates) top (not-false (leb (a .updates + b .updates) top) (o .1 .0));
     }
 
-pub sum-off : (a b : Totals) → Within (addTotals a b) → Off (totalsTests a b)
-sum-off a b w = (ap not (le-leb (a .weight + b .weight) top (w .light)), (ap not (le-leb (a .updates + b .updates) top (w .few)), tt))
+pub totals-off : (a b : Totals) → Within (addTotals a b) → Off (totalsTests a b)
+totals-off a b w = (ap not (le-leb (a .weight + b .weight) top (w .light)), (ap not (le-leb (a .updates + b .updates) top (w .few)), tt))
 
 -- a sum is judged without being formed
 pub sum-less : (a b n : ℕ) → b ≤ n → leb a (n - b) ≡ leb (a + b) n

@@ -5,3 +5,4 @@ pub mod Bounds
 pub mod Ranges
 pub mod Sweeps
 pub mod Shapes
+pub mod Modes

@@ -91,6 +91,15 @@ joined mode.Terminal m = mode.Terminal
 abbrev pub settled : Mode → Mode
 settled m = joined m mode.Standard
 
+-- "M 0 unset, 1 standard, 2 terminal" (02, W2): in a text, and for C
+abbrev pub modeNumber : Mode → ℕ
+modeNumber mode.Unset = 0
+modeNumber mode.Standard = 1
+modeNumber mode.Terminal = 2
+
+unfoldable pub modeBy : ℕ → Mode
+modeBy n = cond (eqb n 1) mode.Standard (cond (eqb n 2) mode.Terminal mode.Unset)
+
 -- ---- the totals and the mode of an update or of a second header come in
 
 abbrev pub begun : Header → Totals → Mode → Header

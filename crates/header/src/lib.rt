@@ -13,7 +13,7 @@ ghost use Rattle.words.specs.Tests.{number};
 ghost use Rattle.header.specs.declared.Mode.{Mode};
 ghost use Rattle.header.specs.Totals.{noTotals, updateTotals, addTotals, setWeight, totalsOk, totalsTests};
 ghost use Rattle.header.specs.Shape.{maxLayers, shapeRefusal, checkedShape, sameShape, bottomOf, bottomLayer};
-ghost use Rattle.header.specs.Header.{zeroHeader, freshHeader, withTotals, withMode, withFlags, withLens, withLayer, withLayers, scalarsOf, clash, joined, begun, begunScalars, beginTests, beginOf, beginHeader, freshFlags, lensFrom, headerOk};
+ghost use Rattle.header.specs.Header.{zeroHeader, freshHeader, withTotals, withMode, withFlags, withLens, withLayer, withLayers, scalarsOf, clash, joined, modeNumber, modeBy, begun, begunScalars, beginTests, beginOf, beginHeader, freshFlags, lensFrom, headerOk};
 ghost use Rattle.header.specs.Lending.{headIn};
 
 // Heap size, rows, columns and layers.
@@ -224,6 +224,30 @@ pub fn join(a: Mode, b: Mode) -> Mode
     }
 }
 
+// Modes as numbers, for C and for texts: 0 unset, 1 standard, 2 terminal.
+pub fn mode_number(mode: Mode) -> u64
+    ensures { λ r. ⌜ r ≡ modeNumber mode ⌝ }
+{
+    match mode {
+        Mode::Unset => 0,
+        Mode::Standard => 1,
+        Mode::Terminal => 2,
+    }
+}
+
+// Unset for a number that is no mode: callers refuse it first.
+pub fn mode_of(n: u64) -> Mode
+    ensures { λ r. ⌜ r ≡ modeBy n ⌝ }
+{
+    if n == 1 {
+        return Mode::Standard;
+    }
+    if n == 2 {
+        return Mode::Terminal;
+    }
+    Mode::Unset
+}
+
 // ---- the header's own steps
 
 impl Header {
@@ -342,6 +366,16 @@ impl Header {
             return self.with_len(layer, len);
         }
         self.clear_flag(layer).with_len(layer, len)
+    }
+
+    // A layer's length and flag anew.
+    pub fn with_layer(mut self, layer: usize, len: usize, flag: bool) -> Self
+        requires { ⌜ layer < maxLayers ⌝ }
+        ensures { λ r. ⌜ r ≡ withLayer self layer len flag ⌝ }
+    {
+        self.lens[layer] = len;
+        self.flags[layer] = flag;
+        self
     }
 
     // Every length and flag anew, after a call that was lent them.

@@ -1,6 +1,7 @@
 pub mod Offsets
 pub mod States
 pub mod Lengths
+pub mod InTurn
 pub mod Pieces
 pub mod Views
 pub mod Handed

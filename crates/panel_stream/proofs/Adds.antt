@@ -9,7 +9,7 @@ use lib.IntN.{ℤ, natAbs}
 use lib.Signed.{nonNeg}
 use lib.Dec.{eqb, leb}
 use Rattle.words.specs.Num.{top}
-use Rattle.words.proofs.Lists.{All}
+use Rattle.words.specs.Lists.{All}
 use Rattle.header.specs.declared.Shape.{Shape}
 use Rattle.header.specs.declared.Mode.{Mode}
 use Rattle.header.specs.declared.Mode.the-variants as mode

@@ -107,7 +107,7 @@ fn alike(shelf: &[u64], a: usize, b: usize, n: usize) -> bool {
     true
 }
 
-// 12: whether both relays agree in shape, weight, mode, flags, counters and norms.
+// 12: whether both relays agree in shape, weight, updates, mode, flags, counters and norms.
 pub fn same(shelf: &[u64]) -> bool {
     if !alike(shelf, 0, SECOND, LENS) {
         return false;

@@ -16,7 +16,7 @@ use Rattle.header.specs.declared.Totals.{Totals}
 use Rattle.header.specs.Shape.{shapeRefusal, sameShape}
 use Rattle.header.specs.Totals.{updateTotals, totalsTests}
 use Rattle.header.specs.Header.{scalarsOf, clash, beginTests}
-use Rattle.header.proofs.Bounds.{sum-within}
+use Rattle.header.proofs.Bounds.{totals-within}
 use Rattle.layout.specs.Records.{recordLength}
 use Rattle.layout.specs.Slices.{Lent, view, flat}
 use Rattle.layout.specs.Outcomes.{Outcome, judge, lentTests}
@@ -59,7 +59,7 @@ feed-answers sh v b r x k words w =
     front = (not (eqb (length words) (recordLength (r .head .shape .layers))), 12) ∷ beginTests (scalarsOf (r .head)) w (modeOf k)
 
     sent : (z : ℤ) → Off ((not (eqb (length words) (recordLength (r .head .shape .layers))), 12) ∷ beginTests (scalarsOf (r .head)) z (modeOf k)) → Off (sentTests k (view r) words z)
-    sent (pos m) o = update-sent sh v k b r words m x (sum-within (r .head .totals) (updateTotals m) (o .1 .1 .1) .light)
+    sent (pos m) o = update-sent sh v k b r words m x (totals-within (r .head .totals) (updateTotals m) (o .1 .1 .1) .light)
     sent (negsuc m) o = absurd (never (sym (o .1 .0)))
 
     by-book : number ((not (eqb (length words) (recordLength (r .head .shape .layers))), 12) ∷ beginTests (scalarsOf (r .head)) w (modeOf k)) ≡ number (feedTests sh b k words w)
@@ -91,7 +91,7 @@ join-answers sh v a b r t x y =
         (p .0, (p .1 .0, (q .0, (q .1 .0, (ap not (shapes-same sh a b r t x y), tt)))))
 
     paired : Off ((clash (r .head .mode) (t .head .mode), 6) ∷ totalsTests (r .head .totals) (t .head .totals)) → Off (pairTests (r .head .shape .layers) (view r) (view t))
-    paired o = merge-paired sh v a b r t x y (sum-within (r .head .totals) (t .head .totals) (o .1) .light)
+    paired o = merge-paired sh v a b r t x y (totals-within (r .head .totals) (t .head .totals) (o .1) .light)
 
     by-books : number ((clash (r .head .mode) (t .head .mode), 6) ∷ totalsTests (r .head .totals) (t .head .totals)) ≡ number (joinTests a b)
     by-books =

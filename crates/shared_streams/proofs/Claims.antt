@@ -10,7 +10,8 @@ use lib.Dec.{eqb}
 use lib.Ieee.{binary64, ofInt}
 use borrow.Author.Tests.{le-leb, eq-eqb}
 use Rattle.words.proofs.Tests.{Off, number-off}
-use Rattle.words.proofs.Lists.{all-at, All, all-map}
+use Rattle.words.specs.Lists.{All}
+use Rattle.words.proofs.Lists.{all-at, all-map}
 use Rattle.float64.proofs.Ints.{int-value}
 use Rattle.header.specs.declared.Shape.{Shape}
 use Rattle.header.specs.declared.Mode.{Mode}

@@ -10,7 +10,8 @@ use lib.Seq.{getD-set-same, getD-set-other}
 use lib.Dec.{eqb, ltb}
 use borrow.Author.Tests.{ltb-true, eq-eqb, not-true}
 use Rattle.words.proofs.Bools.{and-left, and-right, never}
-use Rattle.words.proofs.Lists.{All, all-append, all-left, all-right}
+use Rattle.words.specs.Lists.{All}
+use Rattle.words.proofs.Lists.{all-append, all-left, all-right}
 use Rattle.header.specs.declared.Shape.{Shape}
 use Rattle.layout.specs.Slices.{Lent, freshLent}
 use Rattle.layout.specs.Outcomes.{Outcome}

@@ -6,7 +6,8 @@ use mathlib.Core.List.{List, [], _∷_, _++_, map}
 use lib.ListN.{set, replicate, List·getD-map}
 use lib.Dec.{eqb}
 use borrow.Author.Tests.{eq-eqb, ne-eqb}
-use Rattle.words.proofs.Lists.{All, map-set, map-replicate}
+use Rattle.words.specs.Lists.{All}
+use Rattle.words.proofs.Lists.{map-set, map-replicate}
 use Rattle.header.specs.declared.Shape.{Shape}
 use Rattle.header.specs.Shape.{shapeRefusal}
 use Rattle.layout.specs.Outcomes.{Outcome}

@@ -13,7 +13,7 @@ use Rattle.words.proofs.Tests.{number-off}
 use Rattle.header.specs.declared.Shape.{Shape}
 use Rattle.header.specs.Shape.{shapeRefusal}
 use Rattle.header.specs.Totals.{addTotals}
-use Rattle.header.proofs.Bounds.{Within, sum-off}
+use Rattle.header.proofs.Bounds.{Within, totals-off}
 use Rattle.layout.specs.Slices.{Lent}
 use Rattle.layout.specs.Outcomes.{Outcome}
 use Rattle.univmon_merge.specs.Merges.{mergeCall}
@@ -196,7 +196,7 @@ module _ (sh : Shape) (v : shapeRefusal sh ≡ 0) (n : ℕ) (calls : List Call) 
 
   none : joinNumber a b ≡ 0
   unfolding joinNumber
-  none = number-off (joinTests a b) (books-clear a b one, sum-off (totalsOf a) (totalsOf b) within)
+  none = number-off (joinTests a b) (books-clear a b one, totals-off (totalsOf a) (totalsOf b) within)
 
   pub no-merge-refused : (u : Lent) × (mergeCall (relayAt sh (run sh (start sh n) calls) i .lends) (relayAt sh (run sh (start sh n) calls) j .lends) ≡ Outcome.yes u)
   no-merge-refused =

@@ -45,7 +45,7 @@ pub record Whole (d : Dims) (y : Layer) : Type 0 where
 
 -- ---- the rows
 
-all-drop : (a : ℕ) (xs : List ℤ) → allIn xs ≡ true → allIn (drop a xs) ≡ true
+pub all-drop : (a : ℕ) (xs : List ℤ) → allIn xs ≡ true → allIn (drop a xs) ≡ true
 unfolding allIn
 all-drop zero xs e = e
 all-drop (suc a) [] e = refl

@@ -4,4 +4,5 @@ mod candidates;
 mod layers;
 mod rows;
 
+pub use candidates::seats_ok;
 pub use layers::check_state;

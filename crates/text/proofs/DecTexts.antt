@@ -1,6 +1,6 @@
 -- Decimals as texts: their last digit, their length, their first digit. Assumes nothing.
 use Prim.Native.Nat.{ℕ, zero, suc, _+_, _/_, _%_, _^_, _≤_, _<_}
-use mathlib.Core.Path.{_≡_, refl, sym, ap, _∙_}
+use mathlib.Core.Path.{_≡_, refl, ap, _∙_}
 use mathlib.Core.Bool.{Bool, true, false, cond}
 use mathlib.Core.List.{List, [], _∷_, _++_}
 use lib.ListN.{length, set, length-append}
@@ -9,7 +9,7 @@ use lib.Dec.{ltb}
 use native.Mathlib.Omega.{arith}
 use borrow.Author.Tests.{lt-ltb, le-ltb, ltb-true, ltb-false}
 use Rattle.text.specs.Decimals.{decIn, dec}
-use Rattle.text.proofs.Puts.{sets-snoc}
+use Rattle.text.proofs.Puts.{sets-last}
 
 -- where n has at most f + 1 digits, allowing for more changes nothing
 more : (f n : ℕ) → n < 10 ^ suc f → decIn (suc f) n ≡ decIn (suc (suc f)) n
@@ -66,9 +66,40 @@ dec-digits k n h = decIn-digits 20 k n h
 pub dec-grows : (n : ℕ) → 10 ≤ n → n < 10 ^ 20 → length (dec n) ≡ length (dec (n / 10)) + 1
 dec-grows n h k = rw (dec-step n h k) (length-append (dec (n / 10)) ((48 + n % 10) ∷ []))
 
--- the last digit after the others
-pub dec-put : (o p : List ℕ) (a i d n : ℕ) → 10 ≤ n → n < 10 ^ 20 → p ≡ sets o a (dec (n / 10)) → i ≡ a + length (dec (n / 10)) → d ≡ 48 + n % 10 → set p i d ≡ sets o a (dec n)
-dec-put o p a i d n h k e f g = rw (e, f, g, dec-step n h k) (sym (sets-snoc o a (dec (n / 10)) (48 + n % 10)))
+-- ---- how many digits there are: the last four and those before them
+
+pub dec-one : (n : ℕ) → n < 10 → length (dec n) ≡ 1
+dec-one n h = ap length (dec-small n h)
+
+pub dec-two : (n : ℕ) → 10 ≤ n → n < 100 → length (dec n) ≡ 2
+dec-two n l h = omega (arith, dec-grows n l (omega arith), dec-one (n / 10) (omega arith))
+
+pub dec-three : (n : ℕ) → 100 ≤ n → n < 1000 → length (dec n) ≡ 3
+dec-three n l h = omega (arith, dec-grows n (omega arith) (omega arith), dec-two (n / 10) (omega arith) (omega arith))
+
+pub dec-four : (n : ℕ) → 1000 ≤ n → n < 10000 → length (dec n) ≡ 4
+dec-four n l h = omega (arith, dec-grows n (omega arith) (omega arith), dec-three (n / 10) (omega arith) (omega arith))
+
+pub dec-fours : (n : ℕ) → 10000 ≤ n → n < 10 ^ 20 → length (dec n) ≡ length (dec (n / 10000)) + 4
+dec-fours n l h =
+    let z : n / 10 / 10 / 10 / 10 ≡ n / 10000 = omega arith in
+    let a = dec-grows n (omega arith) h in
+    let b = dec-grows (n / 10) (omega arith) (omega arith) in
+    let c = dec-grows (n / 10 / 10) (omega arith) (omega arith) in
+    let d = dec-grows (n / 10 / 10 / 10) (omega arith) (omega arith) in
+    omega (arith, a, b, c, d, ap (λ (m : ℕ). length (dec m)) z)
+
+-- the last digit before the others
+pub dec-put : (o : List ℕ) (a i d n : ℕ) → 10 ≤ n → n < 10 ^ 20 → i + 1 ≡ a + length (dec n) → d ≡ 48 + n % 10 → sets (set o i d) a (dec (n / 10)) ≡ sets o a (dec n)
+dec-put o a i d n h k e g =
+    let f : i ≡ a + length (dec (n / 10)) = omega (arith, dec-grows n h k) in
+    rw (f, g, dec-step n h k) (sets-last o a (dec (n / 10)) (48 + n % 10))
+
+-- the first digit of all, which is stored last
+pub dec-done : (o : List ℕ) (a i d n : ℕ) → n < 10 → i + 1 ≡ a + length (dec n) → d ≡ 48 + n → set o i d ≡ sets o a (dec n)
+dec-done o a i d n h e g =
+    let f : i ≡ a = omega (arith, dec-one n h) in
+    rw (f, g, dec-small n h)
 
 -- the first digit, which is 0 for the number 0 alone
 pub record Headed (n : ℕ) : Type 0 where
@@ -91,3 +122,6 @@ heads (suc f) n h k = go (λ u. heads f (n / 10) (omega (arith, u)) (omega arith
 
 pub dec-head : (n : ℕ) → n < 10 ^ 20 → Headed n
 dec-head n k = heads n n (omega arith) k
+
+pub dec-any : (n : ℕ) → n < 10 ^ 20 → 1 ≤ length (dec n)
+dec-any n k = omega (arith, ap length (dec-head n k .is))

@@ -3,16 +3,19 @@ use Prim.Native.Nat.{ℕ, zero, suc, _+_, _-_, _*_, _/_, _%_, _^_, _<_}
 use mathlib.Core.Path.{_≡_, refl, sym, ap, _∙_}
 use mathlib.Core.List.{List, [], _∷_, _++_}
 use lib.ListN.{length, getD, set, drop, length-append}
-use lib.Seq.{drop-cons, sets}
+use lib.Seq.{drop-cons, sets, set-comm}
 use native.Mathlib.Omega.{arith}
 use native.Mathlib.Numerals.{add-one}
 use Rattle.text.specs.Hex.{hexDigits, hexGlyph}
 
-pub sets-snoc : (l : List ℕ) (i : ℕ) (xs : List ℕ) (d : ℕ) → sets l i (xs ++ (d ∷ [])) ≡ set (sets l i xs) (i + length xs) d
-sets-snoc l i [] d = let z : i + 0 ≡ i = omega arith in rw z
-sets-snoc l i (x ∷ xs) d = let z : i + suc (length xs) ≡ suc i + length xs = omega arith in rw z (sets-snoc (set l i x) (suc i) xs d)
+-- the last byte may be stored first
+pub sets-last : (l : List ℕ) (i : ℕ) (xs : List ℕ) (d : ℕ) → sets (set l (i + length xs) d) i xs ≡ sets l i (xs ++ (d ∷ []))
+sets-last l i [] d = let z : i + 0 ≡ i = omega arith in rw z
+sets-last l i (x ∷ xs) d =
+    let z : i + suc (length xs) ≡ suc i + length xs = omega arith in
+    rw (z, set-comm l (suc i + length xs) i d x (λ e. omega (arith, e))) (sets-last (set l i x) (suc i) xs d)
 
-pub sets-append : (l : List ℕ) (i : ℕ) (xs ys : List ℕ) → sets (sets l i xs) (i + length xs) ys ≡ sets l i (xs ++ ys)
+pub sets-append : {A : Type 0} (l : List A) (i : ℕ) (xs ys : List A) → sets (sets l i xs) (i + length xs) ys ≡ sets l i (xs ++ ys)
 sets-append l i [] ys = let z : i + 0 ≡ i = omega arith in rw z
 sets-append l i (x ∷ xs) ys = let z : i + suc (length xs) ≡ suc i + length xs = omega arith in rw z (sets-append (set l i x) (suc i) xs ys)
 

@@ -80,17 +80,42 @@ pub fn field(s: &[u8], at: usize, stop: u8) -> Num
     }
 }
 
-// Writes a decimal: the number over ten, then its last digit.
+// The number of digits, counted by four: that takes a quarter of the divisions that counting by one takes.
+fn digits_of(n: u64) -> usize
+    ensures { λ r. ⌜ r ≡ length (dec n) ⌝ }
+{
+    let mut v = n;
+    let mut k = 0;
+    while 10000 <= v {
+        v = v / 10000;
+        k += 4;
+    }
+    if v < 10 {
+        return k + 1;
+    }
+    if v < 100 {
+        return k + 2;
+    }
+    if v < 1000 {
+        return k + 3;
+    }
+    k + 4
+}
+
+// Writes a decimal from its last digit to its first, as a division by ten gives them.
 pub fn put_decimal(out: &mut [u8], at: usize, n: u64) -> usize
     requires { ⌜ at + length (dec n) ≤ length (now out) ⌝ }
     ensures { λ r. ⌜ r ≡ at + length (dec n) ⌝ }
     ensures { λ _. ⌜ now (out .exit) ≡ sets (now (out .entry)) at (dec n) ⌝ }
 {
-    if n < 10 {
-        out[at] = low_byte(48 + n);
-        return at + 1;
+    let end = at + digits_of(n);
+    let mut i = end - 1;
+    let mut v = n;
+    while 10 <= v {
+        out[i] = low_byte(48 + v % 10);
+        v = v / 10;
+        i -= 1;
     }
-    let i = put_decimal(out, at, n / 10);
-    out[i] = low_byte(48 + n % 10);
-    i + 1
+    out[i] = low_byte(48 + v);
+    end
 }

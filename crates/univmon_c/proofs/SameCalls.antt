@@ -1,21 +1,20 @@
 -- Calls from C on what the library left are the library's own: the statements stand in specs/SameCalls.antt. Assumes nothing.
 use mathlib.Core.Path.{_≡_, refl, ap, ap₂}
 use mathlib.Core.Bool.{true}
+use mathlib.Core.List.{List}
+use Prim.Native.Nat.{ℕ}
 use Rattle.header.specs.declared.Mode.{Mode}
 use Rattle.header.specs.declared.Mode.the-variants as mode
+use Rattle.header.specs.Header.{modeNumber}
+use Rattle.header.proofs.Modes.{mode-back}
 use Rattle.layout.specs.Slices.{Lent, lent}
 use Rattle.layout.specs.Outcomes.{Outcome, leftBy}
 use Rattle.univmon.specs.Calls.{updateCall, lentUpdateCall}
 use Rattle.univmon_merge.specs.Merges.{mergeCall}
-use Rattle.univmon_c.specs.Crossing.{isMode, modeBy, modeNumber}
-use Rattle.univmon_c.specs.Calls.{ofLent, crossed, changeBy, mergeBy}
+use Rattle.state_text.specs.Calls.{writeCall}
+use Rattle.univmon_c.specs.Crossing.{isMode}
+use Rattle.univmon_c.specs.Calls.{ofLent, crossed, changeBy, mergeBy, crossedCopy, writeBy}
 use Rattle.univmon_c.specs.SameCalls.{ThereAndBack, FromC}
-
-mode-back : (m : Mode) → modeBy (modeNumber m) ≡ m
-unfolding modeBy
-mode-back mode.Unset = refl
-mode-back mode.Standard = refl
-mode-back mode.Terminal = refl
 
 is-mode : (m : Mode) → isMode (modeNumber m) ≡ true
 is-mode mode.Unset = refl
@@ -36,10 +35,15 @@ merge-same f r t =
     rw (is-mode (r .head .mode), is-mode (t .head .mode))
     (ap₂ (λ (y z : Lent). crossed (leftBy y (f y z))) (there-and-back r) (there-and-back t))
 
+write-same : (r : Lent) (out : List ℕ) → writeBy writeCall (ofLent r) out ≡ crossedCopy (writeCall r out)
+unfolding writeBy
+write-same r out = rw (is-mode (r .head .mode)) (ap (λ (z : Lent). crossedCopy (writeCall z out)) (there-and-back r))
+
 pub from-c : FromC
 from-c r =
     record {
       update = λ k words w. change-same (λ s. updateCall k s words w) r;
       lent = λ k words w. change-same (λ s. lentUpdateCall k s words w) r;
+      write = write-same r;
       merge = merge-same mergeCall r;
     }

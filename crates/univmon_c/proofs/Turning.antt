@@ -15,10 +15,11 @@ use Rattle.univmon.specs.Calls.{lentUpdateCall}
 use Rattle.estimates.specs.declared.Answer.{Answer}
 use Rattle.estimates.specs.declared.PanelAnswer.{PanelAnswer}
 use Rattle.estimates.specs.Calls.{refusedBy, noPanel}
+use Rattle.state_text.specs.Calls.{Copied, notCopied}
 use Rattle.univmon_c.proofs.Shapes.{update-shape}
 use Rattle.univmon_c.specs.declared.CHeader.{CHeader}
 use Rattle.univmon_c.specs.Crossing.{headerOf, cHeader, cAnswered, cAnswer, cPanel}
-use Rattle.univmon_c.specs.Calls.{CLent, cLent, lentOf, ofLent, cLeft, crossed, changeBy, mergeBy, headBy, answerBy, panelBy, checkBy}
+use Rattle.univmon_c.specs.Calls.{CLent, cLent, lentOf, ofLent, cLeft, crossed, changeBy, mergeBy, headBy, answerBy, panelBy, crossedCopy, writeBy, checkBy}
 
 -- ---- calls that change a state
 
@@ -92,6 +93,14 @@ panel-no-mode h a k = simp (lt-leb _ _ k)
 pub panelled : (h : CHeader) (a b : PanelAnswer) → h .mode ≤ 2 → b ≡ a → cPanel b ≡ panelBy h a
 unfolding panelBy
 panelled h a b k q = ap cPanel q ∙ simp (le-leb _ _ k)
+
+pub write-no-mode : (f : Lent → List ℕ → Copied) (r : CLent) (o : List ℕ) → 2 < r .head .mode → crossedCopy (notCopied 9 o) ≡ writeBy f r o
+unfolding writeBy
+write-no-mode f r o h = simp (lt-leb _ _ h)
+
+pub writes : (f : Lent → List ℕ → Copied) (r : CLent) (o : List ℕ) → r .head .mode ≤ 2 → (a : Copied) → a ≡ f (lentOf r) o → crossedCopy a ≡ writeBy f r o
+unfolding writeBy
+writes f r o h a e = ap crossedCopy e ∙ simp (le-leb _ _ h)
 
 pub check-no-mode : (f : Lent → Bool) (r : CLent) → 2 < r .head .mode → false ≡ checkBy f r
 unfolding checkBy

@@ -11,11 +11,13 @@ use Rattle.layout.specs.Outcomes.{Outcome, Left, leftBy}
 use Rattle.estimates.specs.declared.Answer.{Answer}
 use Rattle.estimates.specs.declared.PanelAnswer.{PanelAnswer}
 use Rattle.estimates.specs.Calls.{refusedBy, noPanel}
+use Rattle.state_text.specs.Calls.{Copied, notCopied}
 use Rattle.univmon_c.specs.declared.CHeader.{CHeader}
 use Rattle.univmon_c.specs.declared.CAnswered.{CAnswered}
 use Rattle.univmon_c.specs.declared.CAnswer.{CAnswer}
 use Rattle.univmon_c.specs.declared.CPanel.{CPanel}
-use Rattle.univmon_c.specs.Crossing.{isMode, headerOf, cHeader, cAnswered, cAnswer, cPanel}
+use Rattle.univmon_c.specs.declared.CWritten.{CWritten}
+use Rattle.univmon_c.specs.Crossing.{isMode, headerOf, cHeader, cAnswered, cAnswer, cWritten, cPanel}
 
 -- ---- a state as C lends it
 
@@ -67,6 +69,20 @@ answerBy ok h a = cond (isMode (h .mode) && ok) (cAnswer a) (cAnswer (refusedBy 
 -- the panel answer
 unfoldable pub panelBy : CHeader → PanelAnswer → CPanel
 panelBy h a = cond (isMode (h .mode)) (cPanel a) (cPanel (noPanel 9))
+
+-- a state's text, and the space that was lent for it
+pub record CCopied : Type 0 where
+  pub answer : CWritten
+  pub out : List ℕ
+
+abbrev pub cCopied : CWritten → List ℕ → CCopied
+cCopied a o = record { answer = a; out = o }
+
+abbrev pub crossedCopy : Copied → CCopied
+crossedCopy a = cCopied (cWritten (a .answer)) (a .out)
+
+unfoldable pub writeBy : (Lent → List ℕ → Copied) → CLent → List ℕ → CCopied
+writeBy f r o = cond (isMode (r .head .mode)) (crossedCopy (f (lentOf r) o)) (crossedCopy (notCopied 9 o))
 
 -- a yes or no on a whole state: no, where the mode's number stands for no mode
 unfoldable pub checkBy : (Lent → Bool) → CLent → Bool

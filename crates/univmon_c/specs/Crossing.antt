@@ -3,12 +3,11 @@ use Prim.Native.Nat.{ℕ}
 use mathlib.Core.Bool.{Bool, cond}
 use mathlib.Core.List.{List}
 use lib.Dec.{eqb, leb}
-use Rattle.header.specs.declared.Mode.{Mode}
-use Rattle.header.specs.declared.Mode.the-variants as mode
 use Rattle.header.specs.declared.Header.{Header}
 use Rattle.header.specs.declared.Answered.{Answered}
 use Rattle.header.specs.declared.Scalars.{Scalars}
 use Rattle.header.specs.declared.AnsweredLent.{AnsweredLent}
+use Rattle.header.specs.Header.{modeNumber, modeBy}
 use Rattle.header.specs.declared.BottomLayer.{BottomLayer}
 use Rattle.header.specs.declared.BottomLayer.the-variants as bottom
 use Rattle.univmon_delta.specs.declared.Fidelity.{Fidelity}
@@ -17,11 +16,13 @@ use Rattle.sums.specs.declared.G.{G}
 use Rattle.sums.specs.declared.G.the-variants as g
 use Rattle.estimates.specs.declared.Answer.{Answer}
 use Rattle.estimates.specs.declared.PanelAnswer.{PanelAnswer}
+use Rattle.state_text.specs.declared.write.Written.{Written}
 use Rattle.univmon_c.specs.declared.CHeader.{CHeader}
 use Rattle.univmon_c.specs.declared.CAnswered.{CAnswered}
 use Rattle.univmon_c.specs.declared.CBottom.{CBottom}
 use Rattle.univmon_c.specs.declared.CAnswer.{CAnswer}
 use Rattle.univmon_c.specs.declared.CPanel.{CPanel}
+use Rattle.univmon_c.specs.declared.CWritten.{CWritten}
 use Rattle.univmon_c.specs.declared.CShape.{CShape}
 use Rattle.univmon_c.specs.declared.CStep.{CStep}
 
@@ -29,14 +30,6 @@ use Rattle.univmon_c.specs.declared.CStep.{CStep}
 
 abbrev pub isMode : ℕ → Bool
 isMode n = leb n 2
-
-unfoldable pub modeBy : ℕ → Mode
-modeBy n = cond (eqb n 1) mode.Standard (cond (eqb n 2) mode.Terminal mode.Unset)
-
-abbrev pub modeNumber : Mode → ℕ
-modeNumber mode.Unset = 0
-modeNumber mode.Standard = 1
-modeNumber mode.Terminal = 2
 
 -- "Closures `g` become a choice of one, value or square."
 abbrev pub isG : ℕ → Bool
@@ -104,6 +97,9 @@ cBottom (bottom.Refused n) = record { refusal = n; layer = 0 }
 
 abbrev pub cAnswer : Answer → CAnswer
 cAnswer a = record { refusal = a .refusal; value = a .value }
+
+abbrev pub cWritten : Written → CWritten
+cWritten w = record { refusal = w .refusal; bytes = w .bytes }
 
 abbrev pub cPanel : PanelAnswer → CPanel
 cPanel a = record { refusal = a .refusal; l1 = a .l1; l2 = a .l2; cardinality = a .cardinality }

@@ -6,16 +6,19 @@ use crate::CHeader;
 use crate::CPanel;
 use crate::CShape;
 use crate::CStep;
+use crate::CWritten;
 use estimates::Answer;
 use estimates::PanelAnswer;
 use header::Answered;
 use header::AnsweredLent;
 use header::BottomLayer;
 use header::Header;
-use header::Mode;
 use header::Scalars;
 use header::Shape;
 use header::Totals;
+use header::mode_number;
+use header::mode_of;
+use state_text::Written;
 use sums::G;
 use univmon_delta::Fidelity;
 ghost use mathlib.Core.Path.{_≡_};
@@ -23,8 +26,6 @@ ghost use mathlib.Core.Bool.{Bool};
 ghost use Prim.Native.Nat.{ℕ};
 ghost use Rattle.estimates.specs.Calls.{refusedBy, noPanel};
 ghost use Rattle.univmon_c.specs.Crossing.{
-  modeBy,
-  modeNumber,
   gBy,
   fidelityOf,
   headerOf,
@@ -33,6 +34,7 @@ ghost use Rattle.univmon_c.specs.Crossing.{
   cBottom,
   cAnswer,
   cPanel,
+  cWritten,
   cScalars,
   cStep,
 };
@@ -41,28 +43,6 @@ ghost use Rattle.univmon_c.specs.Crossing.{
 
 // The greatest number that is a mode.
 pub const LAST_MODE: u64 = 2;
-
-fn mode_of(n: u64) -> Mode
-    ensures { λ r. ⌜ r ≡ modeBy n ⌝ }
-{
-    if n == 1 {
-        return Mode::Standard;
-    }
-    if n == 2 {
-        return Mode::Terminal;
-    }
-    Mode::Unset
-}
-
-fn mode_number(mode: Mode) -> u64
-    ensures { λ r. ⌜ r ≡ modeNumber mode ⌝ }
-{
-    match mode {
-        Mode::Unset => 0,
-        Mode::Standard => 1,
-        Mode::Terminal => 2,
-    }
-}
 
 pub fn g_of(n: u64) -> G
     ensures { λ r. ⌜ r ≡ gBy n ⌝ }
@@ -201,6 +181,15 @@ pub fn c_panel(a: PanelAnswer) -> CPanel
         l1: a.l1,
         l2: a.l2,
         cardinality: a.cardinality,
+    }
+}
+
+pub fn c_written(w: Written) -> CWritten
+    ensures { λ r. ⌜ r ≡ cWritten w ⌝ }
+{
+    CWritten {
+        refusal: w.refusal,
+        bytes: w.bytes,
     }
 }
 

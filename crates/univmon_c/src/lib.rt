@@ -5,6 +5,7 @@ pub mod answering;
 pub mod changing;
 mod crossing;
 pub mod lending;
+pub mod texts;
 
 use header::Shape;
 
@@ -50,6 +51,13 @@ pub struct CPanel {
     pub l1: f64,
     pub l2: f64,
     pub cardinality: f64,
+}
+
+// A refusal and 0, or 0 and the number of bytes written.
+#[repr(C)]
+pub struct CWritten {
+    pub refusal: u64,
+    pub bytes: usize,
 }
 
 // Dimensions, for calls that have no header by value.

@@ -5,13 +5,13 @@ use native.Mathlib.Omega.{arith}
 use borrow.Author.Needs.{needs}
 use Rattle.header.specs.Totals.{addTotals, totalsTests}
 use Rattle.words.proofs.Tests.{off-number}
-use Rattle.header.proofs.Bounds.{Within, sum-within}
+use Rattle.header.proofs.Bounds.{Within, totals-within}
 use Rattle.header.proofs.Totals.plus.Statement.{statement}
 use Rattle.header.proofs.Totals.plus.Tie as tie
 
 -- both sums are at most 2^52
 small : (c : tie.Start) → Within (addTotals (c .args .self) (c .args .more))
-small c = sum-within (c .args .self) (c .args .more) (off-number (totalsTests (c .args .self) (c .args .more)) refl (c .pre))
+small c = totals-within (c .args .self) (c .args .more) (off-number (totalsTests (c .args .self) (c .args .more)) refl (c .pre))
 
 add-t3 : tie.Need-add-t3
 add-t3 c = record { fits = omega (arith, (small (c .before .before)) .light) }

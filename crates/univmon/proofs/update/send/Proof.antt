@@ -7,6 +7,7 @@ use denote.Ref.{now}
 use Rattle.header.specs.Header.{headOf, Headed}
 use Rattle.layout.specs.Slices.{lent, Lent}
 use Rattle.layout.specs.Outcomes.{left}
+use Rattle.layout.proofs.InTurn.{in-turn-long}
 use Rattle.univmon.proofs.Sending.{Sending, sending-start, sending-ready, sending-on, sending-end}
 use Rattle.univmon.proofs.update.send.Statement.{statement}
 use Rattle.univmon.proofs.update.send.Tie as tie
@@ -58,22 +59,22 @@ same-length-2 : tie.Need-same-length-2 Inv-loop μ-loop
 same-length-2 c = c .before .loop .inv .headed .flags ∙ sym (c .before .before .before .before .before .before .before .pre .headed .flags)
 
 same-length-3 : tie.Need-same-length-3 Inv-loop μ-loop
-same-length-3 c = let v = c .before .loop .inv in v .standing .sizes .cells ∙ rw (v .shape) (sym (c .before .before .before .before .before .before .before .pre .standing .sizes .cells))
+same-length-3 c = in-turn-long (c .before .loop .inv .turn) (c .before .before .before .before .before .before .before .pre .standing) .0
 
 same-length-4 : tie.Need-same-length-4 Inv-loop μ-loop
-same-length-4 c = let v = c .before .loop .inv in v .standing .sizes .norms ∙ rw (v .shape) (sym (c .before .before .before .before .before .before .before .pre .standing .sizes .norms))
+same-length-4 c = in-turn-long (c .before .loop .inv .turn) (c .before .before .before .before .before .before .before .pre .standing) .1 .0
 
 same-length-5 : tie.Need-same-length-5 Inv-loop μ-loop
-same-length-5 c = let v = c .before .loop .inv in v .standing .sizes .entries ∙ rw (v .shape) (sym (c .before .before .before .before .before .before .before .pre .standing .sizes .entries))
+same-length-5 c = in-turn-long (c .before .loop .inv .turn) (c .before .before .before .before .before .before .before .pre .standing) .1 .1 .0
 
 same-length-6 : tie.Need-same-length-6 Inv-loop μ-loop
-same-length-6 c = let v = c .before .loop .inv in v .standing .sizes .counts ∙ rw (v .shape) (sym (c .before .before .before .before .before .before .before .pre .standing .sizes .counts))
+same-length-6 c = in-turn-long (c .before .loop .inv .turn) (c .before .before .before .before .before .before .before .pre .standing) .1 .1 .1
 
 returns : tie.Need-returns Inv-loop μ-loop
 returns c =
     let a = c .before .before .before .before .before .before .before .args in (
       sending-end (lent-of (c .before .before .before .before .before .before .before)) (now (a .«record»)) (a .weight) (a .many) (a .first) (lent-here (c .before)) (c .before .loop .l) (c .before .loop .inv) (omega (arith, c .loop-test .left)),
-      c .before .loop .inv .standing,
+      c .before .loop .inv .turn .standing,
     )
 
 pub send-spec : {M : Type 1} → statement M

@@ -1,10 +1,10 @@
 -- `univmon_merge::layers::merge_layers` meets its contract.
 -- Written by tools/places.py from answers.txt; assumes nothing.
 use Prim.Native.Nat.{_-_}
-use mathlib.Core.Path.{sym, _∙_}
 use native.Mathlib.Omega.{arith}
 use denote.Ref.{now}
 use Rattle.layout.specs.Slices.{lent, Lent}
+use Rattle.layout.proofs.InTurn.{in-turn-long}
 use Rattle.univmon_merge.proofs.Pairings.{Merging, merging-start, merging-ready, merging-on, merging-end}
 use Rattle.univmon_merge.proofs.layers.merge_layers.Statement.{statement}
 use Rattle.univmon_merge.proofs.layers.merge_layers.Tie as tie
@@ -43,16 +43,16 @@ loop-again c =
     (c .before .before .before .before .before .before .merge-one .ensures .0) (c .before .before .before .before .before .before .merge-one .ensures .1)
 
 same-length : tie.Need-same-length Inv-loop μ-loop
-same-length c = let v = c .before .loop .inv in v .standing .sizes .cells ∙ rw (v .shape) (sym (c .before .before .before .before .before .before .pre .ready .paired .standing .sizes .cells))
+same-length c = in-turn-long (c .before .loop .inv) (c .before .before .before .before .before .before .pre .ready .paired .standing) .0
 
 same-length-2 : tie.Need-same-length-2 Inv-loop μ-loop
-same-length-2 c = let v = c .before .loop .inv in v .standing .sizes .norms ∙ rw (v .shape) (sym (c .before .before .before .before .before .before .pre .ready .paired .standing .sizes .norms))
+same-length-2 c = in-turn-long (c .before .loop .inv) (c .before .before .before .before .before .before .pre .ready .paired .standing) .1 .0
 
 same-length-3 : tie.Need-same-length-3 Inv-loop μ-loop
-same-length-3 c = let v = c .before .loop .inv in v .standing .sizes .entries ∙ rw (v .shape) (sym (c .before .before .before .before .before .before .pre .ready .paired .standing .sizes .entries))
+same-length-3 c = in-turn-long (c .before .loop .inv) (c .before .before .before .before .before .before .pre .ready .paired .standing) .1 .1 .0
 
 same-length-4 : tie.Need-same-length-4 Inv-loop μ-loop
-same-length-4 c = let v = c .before .loop .inv in v .standing .sizes .counts ∙ rw (v .shape) (sym (c .before .before .before .before .before .before .pre .ready .paired .standing .sizes .counts))
+same-length-4 c = in-turn-long (c .before .loop .inv) (c .before .before .before .before .before .before .pre .ready .paired .standing) .1 .1 .1
 
 returns : tie.Need-returns Inv-loop μ-loop
 returns c = (

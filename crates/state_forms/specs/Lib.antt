@@ -1,0 +1,5 @@
+pub mod Formats
+pub mod Sparse
+pub mod Grammar
+pub mod Whole
+pub mod inner

@@ -1,0 +1,9 @@
+pub mod Spots
+pub mod Known
+pub mod Walks
+pub mod Readings
+pub mod RowWalk
+pub mod KeyChain
+pub mod KeyWalk
+pub mod FirstChain
+pub mod LineChain
