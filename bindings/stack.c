@@ -88,6 +88,7 @@ static state one, two;
 static uint8_t text[UNIVMON_TEXT_MAX(HEAP, 9, 4096, LAYERS)];
 static size_t text_len;
 static uint64_t record[UNIVMON_RECORD(LAYERS)];
+static uint64_t list[UNIVMON_MERGE_LIST(HEAP, LAYERS)];
 static int64_t weight;
 static int turn;
 
@@ -95,6 +96,7 @@ static int turn;
     (s).counters, UNIVMON_COUNTERS(shape.rows, shape.cols, LAYERS), (s).norms, UNIVMON_NORMS(shape.rows, LAYERS), \
         (s).entries, UNIVMON_ENTRIES(HEAP, LAYERS), (s).counts, UNIVMON_COUNTS(HEAP, LAYERS)
 #define RECORD record, UNIVMON_RECORD(LAYERS)
+#define LIST list, UNIVMON_LIST(LAYERS)
 
 /* The record of a key whose bottom is this layer: bits 1 to it are 1, the next is 0. */
 static void set_record(uint64_t key, uint64_t bottom) {
@@ -112,8 +114,8 @@ static void fill(state *s, uint64_t first_key) {
     for (uint64_t i = 0; a.refusal == 0 && i < keys; i++) {
         int64_t w = 1 + (int64_t)(mixed(i, 99) % 1000);
         set_record(first_key + i, mode == UNIVMON_TERMINAL ? i % LAYERS : LAYERS - 1);
-        a = mode == UNIVMON_TERMINAL ? univmon_update_weighted_terminal(a.header, ALL(*s), RECORD, w)
-                                     : univmon_update_weighted(a.header, ALL(*s), RECORD, w);
+        a = mode == UNIVMON_TERMINAL ? univmon_update_weighted_terminal(a.header, ALL(*s), RECORD, w, LIST)
+                                     : univmon_update_weighted(a.header, ALL(*s), RECORD, w, LIST);
     }
     s->header = a.header;
     for (int l = 0; l < LAYERS; l++) {
@@ -141,12 +143,12 @@ static void run_bottom_layer_for_hash(void) {
 }
 
 static void run_update_weighted(void) {
-    univmon_answered a = univmon_update_weighted(one.header, ALL(one), RECORD, weight);
+    univmon_answered a = univmon_update_weighted(one.header, ALL(one), RECORD, weight, LIST);
     keep(&a);
 }
 
 static void run_update_weighted_terminal(void) {
-    univmon_answered a = univmon_update_weighted_terminal(one.header, ALL(one), RECORD, weight);
+    univmon_answered a = univmon_update_weighted_terminal(one.header, ALL(one), RECORD, weight, LIST);
     keep(&a);
 }
 
@@ -162,21 +164,21 @@ static void keep_step(univmon_step s) {
         one.header.lens, UNIVMON_MAX_LAYERS, one.header.flags, UNIVMON_MAX_LAYERS, ALL(one)
 
 static void run_update_weighted_lent(void) {
-    keep_step(univmon_update_weighted_lent(LENT, RECORD, weight));
+    keep_step(univmon_update_weighted_lent(LENT, RECORD, weight, LIST));
 }
 
 static void run_update_weighted_terminal_lent(void) {
-    keep_step(univmon_update_weighted_terminal_lent(LENT, RECORD, weight));
+    keep_step(univmon_update_weighted_terminal_lent(LENT, RECORD, weight, LIST));
 }
 
 static void run_apply_delta(void) {
     size_t layer = turn % 2 ? 0 : LAYERS - 1;
-    univmon_answered a = univmon_apply_delta(one.header, ALL(one), RECORD, layer, shape.rows - 1, shape.cols - 1, 100000, turn / 3);
+    univmon_answered a = univmon_apply_delta(one.header, ALL(one), RECORD, layer, shape.rows - 1, shape.cols - 1, 100000, turn / 3, LIST);
     keep(&a);
 }
 
 static void run_merge(void) {
-    univmon_answered a = univmon_merge(one.header, ALL(one), two.header, ALL(two));
+    univmon_answered a = univmon_merge(one.header, ALL(one), two.header, ALL(two), list, UNIVMON_MERGE_LIST(HEAP, LAYERS));
     keep(&a);
 }
 

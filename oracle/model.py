@@ -1,7 +1,8 @@
 """Document 01's words once more, and 02's as far as they have landed, on slices: what every call answers and leaves, refusals included.
 
-The stored results of `replay` come from here wherever the oracle cannot be asked (refusals 4, 7, 9, 11, 12, 14, the number of updates, states set by hand);
-everything else is held against the oracle, call by call (`replay.py`). Texts of states are written and read here only: the Rust has none.
+The stored results of `replay` come from here wherever the oracle cannot be asked (refusals 4, 7, 9, 11, 12, 14, 16, the number of updates, states set by hand);
+everything else is held against the oracle, call by call (`replay.py`). Texts of states are written and read here only: the Rust has none. Nor has it
+lists of what was done; they are held against its candidates before and after a call, and its true and false.
 """
 import math
 import re
@@ -9,6 +10,7 @@ import struct
 
 TOP, CAP, MASK, PRIME = 1 << 52, 1 << 63, (1 << 64) - 1, 4294967291
 UNSET, STANDARD, TERMINAL = 0, 1, 2
+RESCORED, SEATED, DISPLACED, TURNED_AWAY = 1, 2, 3, 4  # what an offer did; the Rust's true is the first two
 HEAD_WORDS = 45  # heap, rows, cols, layers, weight, updates, mode, 19 flags, 19 lengths
 
 
@@ -49,6 +51,14 @@ def bottom_layer(hash, layers):
         if not hash >> l & 1:
             return l - 1
     return layers - 1
+
+
+def blanked(told, words):
+    """whether a list has so many words, which are zeros then"""
+    if len(told) < words:
+        return False
+    told[:words] = [0] * words
+    return True
 
 
 class Relay:
@@ -159,24 +169,37 @@ class Relay:
             i = (i - 1) // 2
 
     def offer(self, l, entry, n):
+        """a place of a list: what was done, and the displaced key or 0"""
         a = l * self.shape[0]
         for i in range(self.lens[l]):
             if self.entries[4 * (a + i)] == entry[0]:
                 self.counts[a + i] = n
                 if not self.down(l, i):
                     self.up(l, i)
-                return True
+                return [RESCORED, 0]
         if self.lens[l] < self.shape[0]:
             self.lens[l] += 1
             self.put(l, self.lens[l] - 1, entry, n)
             self.up(l, self.lens[l] - 1)
-            return True
-        if n > self.counts[a]:
-            self.put(l, 0, entry, n)
-            self.down(l, 0)
-        return False
+            return [SEATED, 0]
+        if n <= self.counts[a]:
+            return [TURNED_AWAY, 0]
+        gone = self.entries[4 * a]
+        self.put(l, 0, entry, n)
+        self.down(l, 0)
+        return [DISPLACED, gone]
 
-    # ---- the calls: each answers the number of its refusal, 0 for none
+    # ---- lists of what was done: the words of all layers' places, two a place
+
+    def list_words(self):
+        """of an update or a delta: a place a layer"""
+        return 2 * self.shape[3]
+
+    def merge_words(self):
+        """of a merge: for each layer twice the heap size in places"""
+        return 4 * self.shape[0] * self.shape[3]
+
+    # ---- the calls: each answers the number of its refusal, 0 for none; `told` is the list that both updates, the delta and the merge are lent
 
     def new(self, heap, rows, cols, layers):
         n = shape_refusal(heap, rows, cols, layers)
@@ -203,7 +226,7 @@ class Relay:
     def entry_of(self, words, l):
         return [words[0], words[1], words[2 + 2 * l], words[3 + 2 * l]]
 
-    def update(self, words, w, mode):
+    def update(self, words, w, mode, told):
         if not self.sound():
             return 9
         if len(words) != 2 + 2 * self.shape[3]:
@@ -222,15 +245,17 @@ class Relay:
             return 9
         if any(abs(self.counters[at] + s * w) > TOP for _, places in sent for _, at, s in places):
             return 11
+        if not blanked(told, self.list_words()):
+            return 16
         self.mode, self.weight, self.updates = mode, self.weight + w, self.updates + 1
         for l, places in sent:
             for r, at, s in places:
                 self.add(l, r, at, s * w)
-            kept = self.offer(l, self.entry_of(words, l), self.count(l, self.hash(words, l)))
-            self.flags[l] = self.flags[l] and kept
+            told[2 * l:2 * l + 2] = self.offer(l, self.entry_of(words, l), self.count(l, self.hash(words, l)))
+            self.flags[l] = self.flags[l] and told[2 * l] < DISPLACED
         return 0
 
-    def delta(self, l, row, col, n, words, promoted_only):
+    def delta(self, l, row, col, n, words, promoted_only, told):
         if not self.sound():
             return 9
         if len(words) != 2 + 2 * self.shape[3]:
@@ -242,10 +267,12 @@ class Relay:
             return 9
         if abs(self.counters[at] + n) > TOP:
             return 11
+        if not blanked(told, self.list_words()):
+            return 16
         self.mode = self.mode or STANDARD
         self.add(l, row, at, n)
-        kept = self.offer(l, self.entry_of(words, l), self.count(l, self.hash(words, l)))
-        self.flags[l] = self.flags[l] and kept and not promoted_only
+        told[2 * l:2 * l + 2] = self.offer(l, self.entry_of(words, l), self.count(l, self.hash(words, l)))
+        self.flags[l] = self.flags[l] and told[2 * l] < DISPLACED and not promoted_only
         return 0
 
     def set_total_weight(self, w):
@@ -272,7 +299,7 @@ class Relay:
         self.flags = [False] * 19
         return 0
 
-    def merge(self, o):
+    def merge(self, o, told):
         if not self.sound() or not o.sound():
             return 9
         if self.shape != o.shape:
@@ -288,6 +315,8 @@ class Relay:
             return 9
         if any(abs(x + y) > TOP for x, y in zip(self.counters, o.counters)):
             return 11
+        if not blanked(told, self.merge_words()):
+            return 16
         self.counters = [x + y for x, y in zip(self.counters, o.counters)]
         self.weight, self.updates, self.mode = self.weight + o.weight, self.updates + o.updates, self.mode or o.mode
         for l in range(layers):
@@ -299,8 +328,8 @@ class Relay:
             self.flags[l] = self.flags[l] and o.flags[l] and len(first) <= heap
             self.lens[l] = 0
             self.entries[4 * l * heap:4 * (l + 1) * heap], self.counts[l * heap:(l + 1) * heap] = [0] * (4 * heap), [0] * heap
-            for e in first.values():
-                self.offer(l, e, self.count(l, e[2] << 64 | e[3]))
+            for place, e in enumerate(first.values(), 2 * heap * l):
+                told[2 * place:2 * place + 2] = self.offer(l, e, self.count(l, e[2] << 64 | e[3]))
         return 0
 
     # ---- answers: (refusal, value)
@@ -401,9 +430,10 @@ class Relay:
         """the header as words"""
         return self.shape + [self.weight, self.updates, self.mode] + [int(f) for f in self.flags] + self.lens
 
-    def digest(self):
+    def digest(self, told=()):
+        """of the state, and of a list behind it"""
         d = 0
-        for x in self.words() + self.counters + self.norms + self.entries + self.counts:
+        for x in [*self.words(), *self.counters, *self.norms, *self.entries, *self.counts, *told]:
             d = (d * 65599 + (x & MASK) % PRIME) % PRIME
         return d
 

@@ -3,16 +3,22 @@
 `model.py` says what each call answers and leaves. Each call that the oracle can be asked is asked of it too, and its state, line by
 line, and its answers must be the model's: refusals 0, 1, 2, 3, 5, 6, 8 and 10, states that no hand has touched, no ties of equal count
 and equal bottom hash in terminal mode. The sign of a zero is not compared.
+
+Each update, delta and merge is lent a list, marked word by word, that is long enough, and in many places before that the same with a
+shorter one. The oracle has no lists: what they say is held against its candidates before and after an update or a delta, and for
+a merge against a lone heap of it, to which the keys are offered in the same order, and its true and false.
 """
 import random
 
-from model import CAP, G, HEAD_WORDS, MASK, STANDARD, TERMINAL, TOP, Relay, bits, bottom_layer, cell, mask_bits, shape_refusal
+from model import CAP, DISPLACED, G, HEAD_WORDS, MASK, RESCORED, SEATED, STANDARD, TERMINAL, TOP, TURNED_AWAY, Relay, bits, bottom_layer, cell, mask_bits, shape_refusal
 from vectors import oracle, store
 
 rng = random.Random(6)
+spaces = random.Random(3)  # the lengths of lists have numbers of their own, so that the calls are what they were without
+often = 0.25  # how often a list is too short first
 EDGE = 3037000499  # the greatest number whose square stays below 2^63
 inputs, answers, script = [], [], []
-ROOM = (12288, 760, 8192, 2048)
+ROOM, LIST_ROOM = (12288, 760, 8192, 2048), 8208
 WEIGHT, UPDATES, MODE, FLAGS, LENS = 4, 5, 6, 7, 26  # places in the header's words
 
 
@@ -81,11 +87,36 @@ def use(i):
     return shelf[i]
 
 
-def left(r, n):
-    """the number, whether what is left passes the check, and a digest of it; what no hand has touched passes"""
+def left(r, n, told=()):
+    """the number, whether what is left passes the check, and a digest of it with the list; what no hand has touched passes"""
     sound = r.check()
     assert sound or not r.name
-    return [(n << 56) + (sound << 48) + r.digest()]
+    return [(n << 56) + (sound << 48) + r.digest(told)]
+
+
+def marked(words):
+    """a list as the program lends it"""
+    return [MASK - i for i in range(words)]
+
+
+def lent_lists(op, numbers, r, words, change, lists=None):
+    """a call that needs a list of so many words, with lists of these lengths: by default one that is enough, and at times one that is too
+    short before it. A short one is refused last, and a refused call leaves its list. The number of the last call; `told` is what it said."""
+    words = min(words, LIST_ROOM - 7)
+    if lists is None:
+        lists = [words + spaces.choice([0, 0, 1, 2, 7])]
+        if words and spaces.random() < often:
+            lists.insert(0, spaces.choice([words - 1, words - 1, words // 2, 0]))
+    said = set()
+    for length in lists:
+        r.told = marked(length)
+        n = change(r.told)
+        call(op, numbers + [0] * (7 - len(numbers)) + [length], left(r, n, r.told))
+        assert r.told[words if n == 0 else 0:] == marked(length)[words if n == 0 else 0:]
+        assert n != (16 if length >= words else 0)
+        said.add(n)
+    assert len(said) == 1 or said == {0, 16}
+    return n
 
 
 def lent(r, lengths):
@@ -135,20 +166,40 @@ def asked(r, n, line, told):
         tell("state %s" % r.name, r.text())
 
 
-def update(i, key, w, mode=STANDARD, length=None):
+def entries(r):
+    """each layer's candidates, in the array's order; of a relay that no hand has touched"""
+    return [[r.entry(l, i) for i in range(r.lens[l])] for l in range(r.shape[3])] if r.name else []
+
+
+def seen(before, r, key, layers):
+    """the list of an accepted update or delta that touched these layers, by the candidates before and after it, which are the oracle's"""
+    told = [0] * r.list_words()
+    for l in layers:
+        old, new = ({e[0] for e in layer[l]} for layer in (before, entries(r)))
+        gone = list(old - new) + [0]
+        told[2 * l:2 * l + 2] = [RESCORED if key in old else TURNED_AWAY if key not in new else DISPLACED if old - new else SEATED, gone[0]]
+    return told
+
+
+def update(i, key, w, mode=STANDARD, length=None, lists=None):
     r = use(i)
     words = (RECORDS[key] + [0] * 40)[:2 + 2 * r.shape[3] if length is None else length]
-    n = r.update(words, w, mode)
-    call(2 if mode == STANDARD else 3, [PLACES[key], len(words), w], left(r, n))
+    before = entries(r)
+    n = lent_lists(2 if mode == STANDARD else 3, [PLACES[key], len(words), w], r, r.list_words(), lambda told: r.update(words, w, mode, told), lists)
+    if r.name and n == 0:
+        b = bottom_layer(words[1], r.shape[3])
+        assert r.told[:r.list_words()] == seen(before, r, key, range(0 if mode == STANDARD else b, b + 1))
     asked(r, n, "%s %s %d %d" % ("std" if mode == STANDARD else "term", r.name, key, w), (0, 5, 6))
     return n
 
 
-def delta(i, l, row, col, count, key, promoted_only=0, length=None):
+def delta(i, l, row, col, count, key, promoted_only=0, length=None, lists=None):
     r = use(i)
     words = (RECORDS[key] + [0] * 40)[:2 + 2 * r.shape[3] if length is None else length]
-    n = r.delta(l, row, col, count, words, promoted_only)
-    call(4, [PLACES[key], len(words), l, row, col, count, promoted_only], left(r, n))
+    before = entries(r)
+    n = lent_lists(4, [PLACES[key], len(words), l, row, col, count, promoted_only], r, r.list_words(), lambda told: r.delta(l, row, col, count, words, promoted_only, told), lists)
+    if r.name and n == 0:
+        assert r.told[:r.list_words()] == seen(before, r, key, [l])
     asked(r, n, "delta %s %d %d %d %d %d %d" % (r.name, l, row, col, count, key, promoted_only), (0, 8))
     return n
 
@@ -185,15 +236,42 @@ def clear(i):
     return n
 
 
-def merge(i, j):
+def offered_alone(r, pairs):
+    """the candidates of both relays, layer by layer, offered to a lone heap of the oracle: its true and false follow from the merge's list,
+    and so does who is in it after each offer"""
+    heap = r.shape[0]
+    for l, (own, others) in enumerate(pairs):
+        first, inside = {}, set()
+        for e in own + others:
+            first.setdefault(e[0], e)
+        places = r.told[4 * heap * l:4 * heap * (l + 1)]
+        assert places[2 * len(first):] == [0] * (4 * heap - 2 * len(first))
+        tell("hnew m %d" % heap)
+        for (key, e), did, gone in zip(first.items(), places[::2], places[1::2]):
+            n = r.count(l, e[2] << 64 | e[3])
+            tell("est %s %d %d" % (r.name, l, key), lambda have, n=n: have.split()[1] == str(n))
+            tell("hput m %d %d" % (key, n), "%d" % (did < DISPLACED))
+            tell("hfind m %d" % key, "none" if did == TURNED_AWAY else lambda have: have != "none")
+            if did != TURNED_AWAY:
+                inside.add(key)
+            if did == DISPLACED:
+                tell("hfind m %d" % gone, "none")
+                inside.remove(gone)
+            assert did in (SEATED, DISPLACED, TURNED_AWAY) and (did == DISPLACED or gone == 0)
+        assert inside == {e[0] for e in entries(r)[l]}
+
+
+def merge(i, j, lists=None):
     r, o = use(i), shelf[j]
     call(15, [j])
-    n = r.merge(o)
-    call(9, [], left(r, n))
+    before, others = entries(r), entries(o)
+    n = lent_lists(9, [], r, r.merge_words(), lambda told: r.merge(o, told), lists)
     if not o.name:
         r.name = None if n == 0 else r.name
     else:
         asked(r, n, "merge %s %s" % (r.name, o.name), (0, 6, 10))
+    if r.name and n == 0:
+        offered_alone(r, zip(before, others))
     return n
 
 
@@ -319,6 +397,79 @@ for layers in range(1, 20):
         for _ in range(12):
             update(1, rng.choice(KEYS[:12]), rng.choice([0, 1, 2, 5, 1000]), mode)
         answer(1)
+
+# ---- who was pushed out: all four things in each layer, at every number of layers, with lists one word short, exact and one word longer
+
+PAIRS = [(2000 + 2 * l, 2001 + 2 * l) for l in range(19)]  # two keys whose bottom layer is l, in two columns of 4
+for l, pair in enumerate(PAIRS):
+    for col, key in enumerate(pair):
+        force(key, (2 << l) - 2, [(1 << 127) + col] * 19)
+for layers in range(1, 20):
+    for mode in (STANDARD, TERMINAL):
+        r = fresh(1, 1, 1, 4, layers)
+        exact = 2 * layers
+        for bottom in [layers - 1] if mode == STANDARD else range(layers):
+            a, b = PAIRS[bottom]
+            touched = range(layers) if mode == STANDARD else [bottom]
+            for key, w, did in ((a, 5, [SEATED, 0]), (a, 1, [RESCORED, 0]), (b, 6, [TURNED_AWAY, 0]), (b, 1, [DISPLACED, a]), (a, 0, [TURNED_AWAY, 0])):
+                assert update(1, key, w, mode, lists=[exact - 1, exact + (w == 6)]) == 0
+                assert r.told[:exact] == [x for l in range(layers) for x in (did if l in touched else [0, 0])]
+        l = spaces.randrange(layers)
+        a, b = PAIRS[l] if mode == TERMINAL else PAIRS[layers - 1]
+        for key, col, n, did in ((b, 1, 0, [RESCORED, 0]), (a, 0, 1, [TURNED_AWAY, 0]), (a, 0, 1, [DISPLACED, b]), (a, 3, 9, [RESCORED, 0])):
+            assert delta(1, l, 0, col, n, key, lists=[exact - 1, exact, exact + 1][:2 + (n == 0)]) == 0
+            assert r.told[:exact] == [0] * 2 * l + did + [0] * (exact - 2 * l - 2)
+# a displaced key 0 is told as 3 and 0, by every call
+for mode in (STANDARD, TERMINAL):
+    for i in (1, 2):
+        fresh(i, 1, 3, 16, 1)
+    update(1, 0, 5, mode)
+    update(2, 7, 9, mode)
+    merge(1, 2, lists=[3, 4])
+    assert shelf[1].told == [SEATED, 0, DISPLACED, 0]
+    fresh(1, 1, 3, 16, 1)
+    update(1, 0, 5, mode)
+    update(1, 7, 9, mode, lists=[1, 3])
+    assert shelf[1].told == [DISPLACED, 0, MASK - 2]
+    fresh(1, 1, 1, 16, 1)
+    update(1, 0, 5, mode)
+    col, sign = cell(shelf[1].hash(RECORDS[7], 0), 0, 16)
+    delta(1, 0, 0, col, 9 * sign, 7, lists=[1, 3])
+    assert shelf[1].told == [DISPLACED, 0, MASK - 2]
+# merges in which later keys displace earlier ones
+for mode in (STANDARD, TERMINAL):
+    for heap in (1, 2, 3):
+        for i in (1, 2, 3):
+            fresh(i, heap, 1, 64, 2)
+        hashes = [(1 << 127) + col for col in range(2 * heap)]
+        for k, h in enumerate(hashes):
+            force(MADE_UP[k], 2 * (k % 2), [h, h])
+            update(1 + k // heap, MADE_UP[k], 10 + k, mode)
+        exact = 4 * heap * 2
+        assert merge(3, 1, lists=[exact - 1, exact]) == 0
+        assert merge(1, 2, lists=[0, exact - 1, exact + 1]) == 0
+        assert merge(3, 2, lists=[exact + 7]) == 0
+        for i in (1, 3):
+            if mode == STANDARD:
+                assert shelf[i].told[:4 * heap:2] == [SEATED] * heap + [DISPLACED] * heap
+                assert shelf[i].told[2 * heap + 1:4 * heap:2] == MADE_UP[:heap]
+        assert merge(2, 1) == 0 and (mode == TERMINAL or TURNED_AWAY not in shelf[2].told[:4 * heap:2])
+fresh(1, 1024, 1, 1, 1)
+fresh(2, 1024, 1, 1, 1)
+for key in KEYS:
+    update(1 + key % 2, key, 1)
+merge(1, 2, lists=[4095, 4096])
+update(1, 5, 1, lists=[1, LIST_ROOM])  # a list may be far too long
+# a key that a hand put into two entries has one place in a merge, by its first entry, and is rescored there
+for i in (1, 2):
+    fresh(i, 3, 1, 8, 1)
+    for key in (4, 5, 6):
+        update(i, key + 3 * (i - 1), key)
+    poke(i, 3, 4, shelf[i].entry(0, 0)[0])
+update(1, shelf[1].entry(0, 0)[0], 1)
+assert shelf[1].told[:2] == [RESCORED, 0]
+merge(1, 2, lists=[11, 12])
+assert shelf[1].told[:6:2] == [SEATED] * 3 and shelf[1].told[6] in (DISPLACED, TURNED_AWAY) and shelf[1].told[8:] == [0] * 4
 
 # ---- random calls on three relays, as they come
 
@@ -597,7 +748,8 @@ for at in range(4):
     lent(r, [x - (j == at) for j, x in enumerate(r.lengths())])
     assert not check(1)
     prepared()
-# 12, and the order: 9, 12, 10, 5, 8, 6, 7, 9, 11
+# 12, and the order: 9, 12, 10, 5, 8, 6, 7, 9, 11, 16
+often = 1
 prepared()
 for length in (0, 5, 6, 7, 38, 40):
     update(1, 5, 1, length=length)
@@ -689,6 +841,8 @@ for mode in (STANDARD, TERMINAL):
 def agree(want, have):
     if want is None:
         return have.startswith("refused")
+    if callable(want):
+        return want(have)
     if isinstance(want, int):
         return int(have, 16) % (1 << 63) == want % (1 << 63) if want % (1 << 63) == 0 else int(have, 16) == want
     return want == have

@@ -69,14 +69,14 @@ def record(r, key):
 
 
 def update(r, key, w, mode):
-    if r.update(record(r, key), w, mode) == 0:
+    if r.update(record(r, key), w, mode, [0] * r.list_words()) == 0:
         tell("%s %s %d %d" % ("std" if mode == STANDARD else "term", r.name, key, w))
 
 
 def delta(r, key, count, promoted_only):
     l, row = rng.randrange(r.shape[3]), rng.randrange(r.shape[1])
     col = rng.choice([rng.randrange(r.shape[2]), cell(r.hash(RECORDS[key], l), row, r.shape[2])[0]])
-    if r.delta(l, row, col, count, record(r, key), promoted_only) == 0:
+    if r.delta(l, row, col, count, record(r, key), promoted_only, [0] * r.list_words()) == 0:
         tell("delta %s %d %d %d %d %d %d" % (r.name, l, row, col, count, key, promoted_only))
 
 
@@ -88,7 +88,7 @@ def some_call(r, o, mode, size, keys):
     elif what < 0.85:
         delta(r, key, rng.choice([0, rng.randint(-9, 9), rng.randint(-(1 << 31), (1 << 31) - 1)]), int(rng.random() < 0.3))
     elif what < 0.9:
-        if r.merge(o) == 0:
+        if r.merge(o, [0] * r.merge_words()) == 0:
             tell("merge %s %s" % (r.name, o.name))
     elif what < 0.95:
         l = rng.randrange(r.shape[3])

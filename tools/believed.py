@@ -17,6 +17,9 @@ ROOT = os.path.realpath(os.path.join(os.path.dirname(os.path.abspath(__file__)),
 # the theorems' statements, and the definitions that say of another what it is
 STATED = {
     "float64": ["Norm", "Root"],
+    "univmon": ["Told"],
+    "univmon_delta": ["Told"],
+    "univmon_merge": ["Told"],
     "state_check": ["Reached"],
     "state_text": ["Restored"],
     "univmon_c": ["SameCalls"],

@@ -5,8 +5,7 @@
 
 No function, so no answers: each crate takes 1 to 5 s, and a law can be proved while the code below it is not. `--skip NAME` leaves a crate's
 laws out, `--only NAME:LAW,LAW` keeps but some of them (where the others are not current and nothing above names them). It prints what fails and
-what each crate came to. Structs that stand in a module of a crate (`text`, `panel_lines`) are not copied, so those crates and what stands on them
-cannot be checked so. It is no verdict on the tree.
+what each crate came to. It is no verdict on the tree.
 """
 import glob
 import os
@@ -42,6 +41,24 @@ def visit(c):
         seen.append(c)
 
 
+
+
+def types(text):
+    """the structs and enums of a file, and the `use` lines that they need"""
+    kept = re.findall(r"^(?:#\[repr\(C\)\]\n)?(?:pub )?(?:struct|enum) \w+ \{\n.*?^\}\n", text, re.M | re.S)
+    kept = [k.replace("Shape::MAX_LAYERS", "19") for k in kept]
+    named = lambda u: re.search(r"\b" + last(u) + r"\b", "".join(kept))
+    return kept, [u for u in re.findall(r"^use [^\n]*;$", text, re.M) if named(u)]
+
+
+def last(use):
+    return use.rstrip(";").split("::")[-1]
+
+
+def written(path, lines, kept):
+    open(path, "w").write("\n".join(["// structs and enums only"] + lines + [""] + kept))
+
+
 for c in crates:
     visit(c)
 shutil.rmtree(f"{out}/crates", ignore_errors=True)
@@ -58,10 +75,17 @@ for c in seen:
         if c in only:
             open(there + "/proofs/Lib.antt", "w").write("".join(f"pub mod {m}\n" for m in only[c]))
     text = open(here + "/src/lib.rt").read()
-    kept = re.findall(r"^pub (?:struct|enum) \w+ \{\n.*?^\}\n", text, re.M | re.S)
-    kept = [k.replace("Shape::MAX_LAYERS", "19") for k in kept]
-    uses = [u for u in re.findall(r"^use [^\n]*;$", text, re.M) if re.search(r"\b" + u.rstrip(";").split("::")[-1] + r"\b", "".join(kept))]
-    open(there + "/src/lib.rt", "w").write("\n".join(["// structs and enums only"] + uses + [""] + kept))
+    mods, has = [], {}
+    for f in sorted(glob.glob(here + "/src/*.rt")):
+        m = os.path.basename(f)[:-3]
+        kept, uses = types(open(f).read())
+        if m != "lib" and kept:
+            written(f"{there}/src/{m}.rt", uses, kept)
+            mods.append(("pub " if f"\npub mod {m};" in text else "") + f"mod {m};")
+            has[m] = set(re.findall(r"(?:struct|enum) (\w+)", "".join(kept)))
+    mods += [u for u in re.findall(r"^pub use [^\n]*;$", text, re.M) if last(u) in has.get(u.split()[2].split("::")[0], ())]
+    kept, uses = types(text)
+    written(there + "/src/lib.rt", mods + uses, kept)
 open(f"{out}/crates.txt", "w").write("".join(f"{c}: {' '.join(d for d in deps[c] if d in deps)}\n" for c in seen))
 for c in crates:
     o = subprocess.run(f"cd {out}; RT_JOBS=1 RT_CUT=0 rt dev {c} 2>&1", shell=True, capture_output=True, text=True).stdout

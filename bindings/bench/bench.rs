@@ -79,17 +79,17 @@ fn original_update(u: &mut UnivMon, complete: &mut [bool; LAYERS], k: &Key, firs
 
 fn ours(heap: usize, stream: &[u64], keys: &[Key], terminal: bool) -> Owned {
     let mut state = Owned::new(shape(heap)).unwrap();
-    state.with(|s| run(s, stream, keys, terminal));
+    state.with(|s| run(s, stream, keys, terminal, &mut [0; 2 * LAYERS]));
     state
 }
 
-fn run(s: &mut State<'_>, stream: &[u64], keys: &[Key], terminal: bool) {
+fn run(s: &mut State<'_>, stream: &[u64], keys: &[Key], terminal: bool, list: &mut [u64]) {
     for &n in stream {
         let words = &keys[n as usize].words;
         if terminal {
-            s.update_weighted_terminal(words, 1).unwrap();
+            s.update_weighted_terminal(words, 1, list).unwrap();
         } else {
-            s.update_weighted(words, 1).unwrap();
+            s.update_weighted(words, 1, list).unwrap();
         }
     }
 }
@@ -170,7 +170,8 @@ fn main() {
                 }),
                 this: Box::new(move || {
                     let mut state = Owned::new(shape(heap)).unwrap();
-                    timed(|| state.with(|s| run(s, sa, keys, terminal)))
+                    let mut list = [0; 2 * LAYERS];
+                    timed(|| state.with(|s| run(s, sa, keys, terminal, &mut list)))
                 }),
                 times: Vec::new(),
             });
@@ -191,6 +192,7 @@ fn main() {
             );
             const MERGES: usize = 5;
             let (u1, v1, o1) = (u.clone(), v.clone(), o.clone());
+            let mut list = vec![0; shape(heap).lengths().unwrap().merge_list];
             items.push(Item {
                 name: format!("merge, {kind}, heap {heap}"),
                 per: MERGES as f64,
@@ -206,7 +208,7 @@ fn main() {
                     (0..MERGES)
                         .map(|_| {
                             let mut a = o1.clone();
-                            timed(|| a.merge(&mut p).unwrap())
+                            timed(|| a.merge(&mut p, &mut list).unwrap())
                         })
                         .sum()
                 }),

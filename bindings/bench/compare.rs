@@ -1,16 +1,17 @@
 //! The original Rust and this library on the same random calls: `compare [CALLS] [SEED]`.
-//! After every call the whole states are compared, and at times every answer. Where the original panics
-//! this library must refuse; where this library refuses something that only it refuses (4, 7, 9, 11, 12),
-//! the original is not asked. The sign of a zero is outside the comparison.
+//! After every call the whole states are compared, and at times every answer. What a list says is held against
+//! the original's heaps: each key is offered to a copy of them, and its true or false must follow from the list.
+//! Where the original panics this library must refuse; where this library refuses something that only it
+//! refuses (4, 7, 9, 11, 12, 16), the original is not asked. The sign of a zero is outside the comparison.
 use std::panic::{catch_unwind, AssertUnwindSafe};
 
 use asap_sketchlib::octo_delta::{CountSketchCellDelta, UnivMonCellDelta};
 use asap_sketchlib::{
-    hash128_seeded, hash64_seeded, DataInput, OwnedDataInput, UnivMon, UnivMonDeltaFidelity,
+    hash128_seeded, hash64_seeded, DataInput, OwnedDataInput, TopKHeap, UnivMon, UnivMonDeltaFidelity,
     UNIVMON_BOTTOM_LAYER_SEED_INDEX,
 };
 use random::Random;
-use univmon::{Fidelity, Owned, Refused, Shape, State, G};
+use univmon::{Fidelity, Happened, Owned, Refused, Shape, State, G, MAX_LAYERS};
 
 #[path = "../random.rs"]
 mod random;
@@ -99,29 +100,93 @@ fn same_answers(p: &mut Pair) {
     });
 }
 
-/// Makes the call on both; the original is put back where it panics after a change.
+/// What stands in a list before its call.
+const MARK: u64 = 99;
+
+/// A list for a call that needs this many words: at times one word short, at times longer.
+fn list(r: &mut Random, words: usize) -> Vec<u64> {
+    vec![MARK; if r.one_in(30) { words - 1 } else { words + r.below(3) }]
+}
+
+fn keys(heap: &TopKHeap) -> Vec<u64> {
+    let key = |key: &OwnedDataInput| match key {
+        OwnedDataInput::U64(n) => *n,
+        _ => panic!("a key of another kind"),
+    };
+    heap.heap().iter().map(|item| key(&item.key)).collect()
+}
+
+/// What the original's heap does with a key, by its candidates before and after; its true or false follows.
+fn offered(heap: &mut TopKHeap, key: u64, count: f64) -> Happened {
+    let old = keys(heap);
+    let kept = heap.update(&DataInput::U64(key), count as i64);
+    let new = keys(heap);
+    let happened = match old.iter().find(|k| !new.contains(k)) {
+        _ if old.contains(&key) => Happened::Rescored,
+        _ if !new.contains(&key) => Happened::TurnedAway,
+        Some(&gone) => Happened::Displaced(gone),
+        None => Happened::Seated,
+    };
+    assert_eq!(kept, happened.kept_all());
+    happened
+}
+
+/// Whether the list of an accepted update or delta in these layers says what the original does; `before` is
+/// the original before it.
+fn same_list(before: &UnivMon, after: &UnivMon, key: u64, layers: impl Iterator<Item = usize>, shape: Shape, list: &[u64]) {
+    let estimate = |l: usize| after.layer_sketches[l].estimate(&DataInput::U64(key));
+    let want: Vec<_> = layers.map(|l| (l, offered(&mut before.layer_heaps[l].clone(), key, estimate(l)))).collect();
+    assert_eq!(shape.told(list).collect::<Vec<_>>(), want);
+    assert!(list[2 * shape.layers..].iter().all(|&word| word == MARK));
+}
+
+/// The same of a merge: the keys of both in first entry order, offered to an empty heap.
+fn same_merge_list(before: &UnivMon, second: &UnivMon, after: &UnivMon, shape: Shape, list: &[u64]) {
+    let mut want = Vec::new();
+    for l in 0..shape.layers {
+        let mut heap = TopKHeap::new(shape.heap_size);
+        let mut seen = Vec::new();
+        for key in keys(&before.layer_heaps[l]).into_iter().chain(keys(&second.layer_heaps[l])) {
+            if !seen.contains(&key) {
+                seen.push(key);
+                want.push((l, offered(&mut heap, key, after.layer_sketches[l].estimate(&DataInput::U64(key)))));
+            }
+        }
+        assert_eq!(keys(&heap), keys(&after.layer_heaps[l]));
+    }
+    assert_eq!(shape.told_by_merge(list).collect::<Vec<_>>(), want);
+    assert!(list[4 * shape.heap_size * shape.layers..].iter().all(|&word| word == MARK));
+}
+
+/// Makes the call on both; the original is put back where it panics after a change. Answers the original as
+/// it was before an accepted call.
 fn both(
     p: &mut Pair,
-    tally: &mut [u64; 16],
+    tally: &mut [u64; 17],
     theirs: impl FnOnce(&mut UnivMon),
     ours: impl FnOnce(&mut State<'_>) -> Result<(), Refused>,
-) {
+) -> Option<UnivMon> {
     let answer = p.ours.with(ours);
     let number = answer.err().map_or(0, |Refused(n)| n);
     tally[number as usize] += 1;
-    if [4, 7, 9, 11, 12].contains(&number) {
-        return;
+    if [4, 7, 9, 11, 12, 16].contains(&number) {
+        return None;
     }
     let before = p.theirs.clone();
     let panicked = catch_unwind(AssertUnwindSafe(|| theirs(&mut p.theirs))).is_err();
+    assert_eq!(panicked, number != 0, "refusal {number}");
     if panicked {
         p.theirs = before;
+        return None;
     }
-    assert_eq!(panicked, number != 0, "refusal {number}");
+    Some(before)
 }
 
-fn step(r: &mut Random, p: &mut Pair, other: &mut Pair, keys: usize, tally: &mut [u64; 16]) {
+fn step(r: &mut Random, p: &mut Pair, other: &mut Pair, keys: usize, tally: &mut [u64; 17]) {
     let layers = p.theirs.layers;
+    let shape = p.ours.header().shape();
+    let want = shape.lengths().unwrap();
+    let mut list = list(r, want.list);
     let key = r.below(keys) as u64;
     let words = record(key, layers);
     let weight = match r.below(60) {
@@ -131,7 +196,9 @@ fn step(r: &mut Random, p: &mut Pair, other: &mut Pair, keys: usize, tally: &mut
         _ => r.below(6) as i64,
     };
     match r.below(40) {
-        0 => both(p, tally, |u| u.mark_candidates_incomplete(), |s| s.mark_candidates_incomplete()),
+        0 => {
+            both(p, tally, |u| u.mark_candidates_incomplete(), |s| s.mark_candidates_incomplete());
+        }
         1 => {
             let layer = r.below(layers + 1);
             both(
@@ -145,10 +212,17 @@ fn step(r: &mut Random, p: &mut Pair, other: &mut Pair, keys: usize, tally: &mut
             let w = r.below(1000) as u64;
             both(p, tally, |u| u.set_total_weight(w as usize), |s| s.set_total_weight(w));
         }
-        3 if r.one_in(3) => both(p, tally, |u| u.clear(), |s| s.clear()),
+        3 if r.one_in(3) => {
+            both(p, tally, |u| u.clear(), |s| s.clear());
+        }
         4 | 5 => {
             let (second, lent) = (&other.theirs, &mut other.ours);
-            both(p, tally, |u| u.merge(second), |s| lent.with(|t| s.merge(t)));
+            let mut list = self::list(r, want.merge_list);
+            if let Some(before) = both(p, tally, |u| u.merge(second), |s| lent.with(|t| s.merge(t, &mut list))) {
+                same_merge_list(&before, second, &p.theirs, shape, &list);
+            } else {
+                assert!(list.iter().all(|&word| word == MARK));
+            }
         }
         6..=9 => {
             let (rows, cols) = (p.theirs.rows, p.theirs.cols);
@@ -168,21 +242,30 @@ fn step(r: &mut Random, p: &mut Pair, other: &mut Pair, keys: usize, tally: &mut
             } else {
                 (UnivMonDeltaFidelity::EveryInsert, Fidelity::EveryInsert)
             };
-            both(p, tally, |u| u.apply_delta(&delta, a), |s| s.apply_delta(&words, layer, row, col, count, b));
+            let ours = |s: &mut State<'_>| s.apply_delta(&words, layer, row, col, count, b, &mut list);
+            if let Some(before) = both(p, tally, |u| u.apply_delta(&delta, a), ours) {
+                same_list(&before, &p.theirs, key, layer..layer + 1, shape, &list);
+            } else {
+                assert!(list.iter().all(|&word| word == MARK));
+            }
         }
         n => {
             let terminal = if n == 39 { r.one_in(2) } else { p.ours.header().mode == 2 };
             let input = DataInput::U64(key);
-            if terminal {
-                both(
-                    p,
-                    tally,
-                    |u| u.update_weighted_terminal(&input, weight),
-                    |s| s.update_weighted_terminal(&words, weight),
-                );
+            let before = if terminal {
+                let ours = |s: &mut State<'_>| s.update_weighted_terminal(&words, weight, &mut list);
+                both(p, tally, |u| u.update_weighted_terminal(&input, weight), ours)
             } else {
-                both(p, tally, |u| u.update_weighted(&input, weight), |s| s.update_weighted(&words, weight));
-            }
+                let ours = |s: &mut State<'_>| s.update_weighted(&words, weight, &mut list);
+                both(p, tally, |u| u.update_weighted(&input, weight), ours)
+            };
+            let Some(before) = before else {
+                assert!(list.iter().all(|&word| word == MARK));
+                return;
+            };
+            let bottom = UnivMon::bottom_layer_for_hash(words[1], layers);
+            let first = if terminal { bottom } else { 0 };
+            same_list(&before, &p.theirs, key, first..bottom + 1, shape, &list);
         }
     }
 }
@@ -192,7 +275,7 @@ fn main() {
     let calls: u64 = args.next().map_or(300_000, |a| a.parse().unwrap());
     let mut r = Random(args.next().map_or(1, |a| a.parse().unwrap()));
     std::panic::set_hook(Box::new(|_| {}));
-    let mut tally = [0u64; 16];
+    let mut tally = [0u64; 17];
     let (mut answers, mut runs, mut made) = (0u64, 0u64, 0u64);
     let report = catch_unwind(AssertUnwindSafe(|| {
         while made < calls {
@@ -207,7 +290,7 @@ fn main() {
                     &mut p,
                     &mut tally,
                     |u| u.update_weighted_terminal(&DataInput::U64(0), 1),
-                    |s| s.update_weighted_terminal(&words, 1),
+                    |s| s.update_weighted_terminal(&words, 1, &mut [0; 2 * MAX_LAYERS]),
                 );
             }
             for _ in 0..1 + r.below(200) {

@@ -18,11 +18,15 @@ struct state {
 };
 
 static struct state first, second;
+static uint64_t list[UNIVMON_MERGE_LIST(HEAP, LAYERS)];
 static size_t heap;
 
 #define SLICES(s) \
     (s)->counters, UNIVMON_COUNTERS(ROWS, COLS, LAYERS), (s)->norms, UNIVMON_NORMS(ROWS, LAYERS), \
         (s)->entries, UNIVMON_ENTRIES(heap, LAYERS), (s)->counts, UNIVMON_COUNTS(heap, LAYERS)
+
+#define RECORD record, UNIVMON_RECORD(LAYERS)
+#define LIST list, UNIVMON_LIST(LAYERS)
 
 static void must(uint64_t refusal, uint64_t expected, const char *what) {
     if (refusal != expected) {
@@ -53,8 +57,8 @@ static void by_value(struct state *s, int terminal) {
     for (uint64_t i = 0; i < UPDATES; i++) {
         record_of(i, record);
         univmon_answered a = terminal
-            ? univmon_update_weighted_terminal(s->header, SLICES(s), record, UNIVMON_RECORD(LAYERS), weight_of(i))
-            : univmon_update_weighted(s->header, SLICES(s), record, UNIVMON_RECORD(LAYERS), weight_of(i));
+            ? univmon_update_weighted_terminal(s->header, SLICES(s), RECORD, weight_of(i), LIST)
+            : univmon_update_weighted(s->header, SLICES(s), RECORD, weight_of(i), LIST);
         must(a.refusal, 0, "an update");
         s->header = a.header;
     }
@@ -68,9 +72,9 @@ static void lent(struct state *s, int terminal) {
         record_of(i, record);
         univmon_step a = terminal
             ? univmon_update_weighted_terminal_lent(shape, s->header.weight, s->header.updates, s->header.mode, s->header.lens, UNIVMON_MAX_LAYERS, s->header.flags,
-                  UNIVMON_MAX_LAYERS, SLICES(s), record, UNIVMON_RECORD(LAYERS), weight_of(i))
+                  UNIVMON_MAX_LAYERS, SLICES(s), RECORD, weight_of(i), LIST)
             : univmon_update_weighted_lent(shape, s->header.weight, s->header.updates, s->header.mode, s->header.lens, UNIVMON_MAX_LAYERS, s->header.flags,
-                  UNIVMON_MAX_LAYERS, SLICES(s), record, UNIVMON_RECORD(LAYERS), weight_of(i));
+                  UNIVMON_MAX_LAYERS, SLICES(s), RECORD, weight_of(i), LIST);
         must(a.refusal, 0, "a lent update");
         s->header.weight = a.weight;
         s->header.updates = a.updates;
@@ -91,12 +95,12 @@ int main(int argc, char **argv) {
     by_value(&second, 0);
     for (uint64_t i = 0; i < UPDATES; i++) {
         record_of(i, record);
-        univmon_answered a = univmon_apply_delta(first.header, SLICES(&first), record, UNIVMON_RECORD(LAYERS), i % LAYERS, i % ROWS,
-            mixed(i, 5) % COLS, (int32_t)(1 + i % 100), 0);
+        univmon_answered a = univmon_apply_delta(first.header, SLICES(&first), RECORD, i % LAYERS, i % ROWS,
+            mixed(i, 5) % COLS, (int32_t)(1 + i % 100), 0, LIST);
         must(a.refusal, 0, "a delta");
         first.header = a.header;
     }
-    univmon_answered m = univmon_merge(first.header, SLICES(&first), second.header, SLICES(&second));
+    univmon_answered m = univmon_merge(first.header, SLICES(&first), second.header, SLICES(&second), list, UNIVMON_MERGE_LIST(heap, LAYERS));
     must(m.refusal, 0, "a merge");
     return 0;
 }

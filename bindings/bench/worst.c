@@ -51,7 +51,7 @@ static int full(const char *what, int64_t times, uint64_t apart) {
         scale[l - 1] = scale[l] * times;
     }
     for (uint64_t i = 0; a.refusal == 0 && i < (uint64_t)LAYERS * HEAP; i++) {
-        uint64_t record[UNIVMON_RECORD(LAYERS)];
+        uint64_t record[UNIVMON_RECORD(LAYERS)], list[UNIVMON_LIST(LAYERS)];
         uint64_t layer = i % LAYERS;
         record[0] = i * apart;
         /* bits 1 to layer are 1, the next is 0: this layer is the key's bottom */
@@ -59,7 +59,8 @@ static int full(const char *what, int64_t times, uint64_t apart) {
         for (size_t k = 2; k < UNIVMON_RECORD(LAYERS); k++) {
             record[k] = mixed(i, k);
         }
-        a = univmon_update_weighted_terminal(a.header, ALL, record, UNIVMON_RECORD(LAYERS), scale[layer] * (int64_t)(1 + mixed(i, 99) % 1000));
+        a = univmon_update_weighted_terminal(a.header, ALL, record, UNIVMON_RECORD(LAYERS), scale[layer] * (int64_t)(1 + mixed(i, 99) % 1000), list,
+            UNIVMON_LIST(LAYERS));
     }
     for (int l = 0; l < LAYERS; l++) {
         if (a.refusal != 0 || a.header.lens[l] != HEAP) {

@@ -16,6 +16,19 @@
  * A RECORD is what a key is counted by, 2 + 2 * layers words: the key, its bottom hash, then for each
  * layer from 0 the high and the low half of its 128-bit hash. The caller hashes.
  *
+ * A LIST is what an update, a delta or a merge says that it did with the keys it offered to the layers'
+ * candidates. Its places have two words each: one of
+ *   1  rescored      the key was a candidate, and has its new count
+ *   2  seated        the key took a free seat
+ *   3  displaced     the key took the seat of the candidate with the least count
+ *   4  turned away   the layer is full and the key's count is not above the least
+ * and then the displaced key, 0 where none was. A key was lost where the first word is 3 or 4: the layer's
+ * flag falls. An update's or a delta's list has a place for each layer, at the layer's number; a merge's has
+ * 2 * heap_size places for each layer, layers in turn, in each the distinct keys of both states in the order
+ * of their first entry, and never says 1. Places of layers that the call does not reach, and those behind a
+ * layer's last key, become zeros; words behind the last layer's places remain. A list may be longer than
+ * needed; a shorter one is refused with 16, after everything else. What a list holds before is not read.
+ *
  * REFUSALS. Every call answers a number, 0 for none. A refused call leaves the header and every array
  * as they were, its floats and its number of bytes are 0, and a refused univmon_new or univmon_read_state
  * gives an all-zero header:
@@ -35,9 +48,9 @@
  *   12 record length wrong
  *   14 updates would pass 2^52
  *   15 not the text of a state that passes the check
- *   16 lent text space too short, or state slices not of the first line's lengths
+ *   16 lent text space or list too short, or state slices not of the first line's lengths
  * (13 is the program panel's own.) Where several apply, the order is 9 for header, lengths and numbers,
- * then 12, 10, 5, 8, 6, 7, 14, 9 for what is read, 11; for univmon_new 1, 2, 3, 4, 9; for
+ * then 12, 10, 5, 8, 6, 7, 14, 9 for what is read, 11, 16; for univmon_new 1, 2, 3, 4, 9; for
  * univmon_write_state 9, 16; for univmon_read_state 15 for the first line, then 1, 2, 3, 4, 16, and 15 for
  * the other lines.
  *
@@ -83,8 +96,8 @@
  * number or array content needs to be right. C itself asks for this, and the library cannot test it:
  *   - a pointer is not NULL, not even with length 0, is aligned to 8 bytes (one to a text need not be), and
  *     its length is not more than what lies behind it;
- *   - the arrays that a call writes, lent lengths, flags and text space among them, overlap no other
- *     array of it;
+ *   - the arrays that a call writes, lent lengths, flags, lists and text space among them, overlap no
+ *     other array of it;
  *   - each byte of `flags` is a bool, 0 or 1, as it is wherever C code assigns it.
  */
 #ifndef UNIVMON_H
@@ -110,6 +123,10 @@ extern "C" {
 #define UNIVMON_COUNTS(heap_size, layers) ((size_t)(layers) * (heap_size))
 #define UNIVMON_RECORD(layers) ((size_t)2 + 2 * (size_t)(layers))
 
+/* The least lengths of a list: an update's or a delta's, and a merge's. */
+#define UNIVMON_LIST(layers) ((size_t)2 * (layers))
+#define UNIVMON_MERGE_LIST(heap_size, layers) ((size_t)4 * (heap_size) * (layers))
+
 /* Bytes that are enough for the text of any state of these dimensions: 88 for the first four lines, 12 for
  * a flag, 12 for a row beside its counters, 25 for a counter, 111 for a key. Most texts are far shorter; a
  * caller may as well try a small space and a larger one after each 16. */
@@ -124,6 +141,12 @@ extern "C" {
 /* Fidelity of a delta: whether every insert was promoted. */
 #define UNIVMON_EVERY_INSERT 0
 #define UNIVMON_PROMOTED_ONLY 1
+
+/* What a list's place says. */
+#define UNIVMON_RESCORED 1
+#define UNIVMON_SEATED 2
+#define UNIVMON_DISPLACED 3
+#define UNIVMON_TURNED_AWAY 4
 
 /* g of a sum. */
 #define UNIVMON_G_ONE 0
@@ -224,9 +247,9 @@ univmon_answered univmon_clear(
 
 /* ---- counting */
 
-/* Counts a key with a weight: it goes to layers 0 to its bottom layer. Reads header, lengths and record,
- * and in each of these layers the key's counters, its rows' norms and the candidates. Refuses 9, 12, 5,
- * 6, 7, 14, 9, 11. */
+/* Counts a key with a weight: it goes to layers 0 to its bottom layer, and the list says what happened in
+ * each. Reads header, lengths and record, and in each of these layers the key's counters, its rows' norms
+ * and the candidates. Refuses 9, 12, 5, 6, 7, 14, 9, 11, 16. */
 univmon_answered univmon_update_weighted(
     univmon_header header,
     int64_t *counters, size_t counters_len,
@@ -234,7 +257,8 @@ univmon_answered univmon_update_weighted(
     uint64_t *entries, size_t entries_len,
     int64_t *counts, size_t counts_len,
     const uint64_t *record, size_t record_len,
-    int64_t weight);
+    int64_t weight,
+    uint64_t *list, size_t list_len);
 
 /* The same, to its bottom layer only. */
 univmon_answered univmon_update_weighted_terminal(
@@ -244,7 +268,8 @@ univmon_answered univmon_update_weighted_terminal(
     uint64_t *entries, size_t entries_len,
     int64_t *counts, size_t counts_len,
     const uint64_t *record, size_t record_len,
-    int64_t weight);
+    int64_t weight,
+    uint64_t *list, size_t list_len);
 
 /* The same two updates with the header's lengths and flags lent and the rest of it as numbers: no header
  * is copied in or out, which is most of what a call costs beside its layers. Both arrays have 19 places,
@@ -252,7 +277,7 @@ univmon_answered univmon_update_weighted_terminal(
  * them in the header, refused or not. With a header h:
  *   univmon_step s = univmon_update_weighted_lent(
  *       (univmon_shape){h.heap_size, h.rows, h.cols, h.layers}, h.weight, h.updates, h.mode,
- *       h.lens, UNIVMON_MAX_LAYERS, h.flags, UNIVMON_MAX_LAYERS, .., record, record_len, weight);
+ *       h.lens, UNIVMON_MAX_LAYERS, h.flags, UNIVMON_MAX_LAYERS, .., record, record_len, weight, list, list_len);
  *   h.weight = s.weight;
  *   h.updates = s.updates;
  *   h.mode = s.mode; */
@@ -265,7 +290,8 @@ univmon_step univmon_update_weighted_lent(
     uint64_t *entries, size_t entries_len,
     int64_t *counts, size_t counts_len,
     const uint64_t *record, size_t record_len,
-    int64_t weight);
+    int64_t weight,
+    uint64_t *list, size_t list_len);
 
 univmon_step univmon_update_weighted_terminal_lent(
     univmon_shape shape, uint64_t total_weight, uint64_t total_updates, uint64_t mode,
@@ -276,11 +302,13 @@ univmon_step univmon_update_weighted_terminal_lent(
     uint64_t *entries, size_t entries_len,
     int64_t *counts, size_t counts_len,
     const uint64_t *record, size_t record_len,
-    int64_t weight);
+    int64_t weight,
+    uint64_t *list, size_t list_len);
 
 /* A change of one counter that another relay saw, with the record of the key that made it. Sets an
  * unset mode to standard and leaves weight and updates. Reads header, lengths and record, the counter and its
- * row's norm, and in its layer the key's counters and the candidates. Refuses 9, 12, 8, 9, 11. */
+ * row's norm, and in its layer the key's counters and the candidates. The list says what happened in that
+ * layer. Refuses 9, 12, 8, 9, 11, 16. */
 univmon_answered univmon_apply_delta(
     univmon_header header,
     int64_t *counters, size_t counters_len,
@@ -289,11 +317,13 @@ univmon_answered univmon_apply_delta(
     int64_t *counts, size_t counts_len,
     const uint64_t *record, size_t record_len,
     size_t layer, size_t row, size_t col, int32_t count,
-    uint64_t fidelity);
+    uint64_t fidelity,
+    uint64_t *list, size_t list_len);
 
 /* Puts the other state's stream behind this one's: counters and norms by the sums of the counters,
- * candidates counted anew, updates added. The other state stays as it is. Reads both headers and lengths, every
- * counter and every candidate of both. Refuses 9, 10, 6, 7, 14, 9, 11. */
+ * candidates counted anew, updates added. The other state stays as it is. The list, UNIVMON_MERGE_LIST words
+ * or more, says what happened with each key. Reads both headers and lengths, every counter and every
+ * candidate of both. Refuses 9, 10, 6, 7, 14, 9, 11, 16. */
 univmon_answered univmon_merge(
     univmon_header header,
     int64_t *counters, size_t counters_len,
@@ -304,7 +334,8 @@ univmon_answered univmon_merge(
     const int64_t *other_counters, size_t other_counters_len,
     const uint64_t *other_norms, size_t other_norms_len,
     const uint64_t *other_entries, size_t other_entries_len,
-    const int64_t *other_counts, size_t other_counts_len);
+    const int64_t *other_counts, size_t other_counts_len,
+    uint64_t *list, size_t list_len);
 
 /* ---- the header alone, which is all that these read */
 

@@ -1,6 +1,6 @@
-/* A relay's loop in C: two branches count their streams, one is marked and carried home as text, the two
- * are merged there, and the panel's numbers are shown. relay.rs is the same in Rust and writes the same
- * lines. */
+/* A relay's loop in C: two branches count their streams and say who left their lists, one is marked and
+ * carried home as text, the two are merged there, and the panel's numbers are shown. relay.rs is the same in
+ * Rust and writes the same lines. */
 #include <inttypes.h>
 #include <stdio.h>
 #include <stdlib.h>
@@ -46,14 +46,33 @@ static void record_of(uint64_t key, uint64_t record[UNIVMON_RECORD(LAYERS)]) {
     }
 }
 
-/* A stream of 3000 arrivals, in which small keys come more often. */
-static void count_stream(branch *b, uint64_t seed, uint64_t keys) {
+/* A stream of 3000 arrivals, in which small keys come more often. A driver whose receiver leaves layer 0's
+ * candidates is phoned: here the first is named, and all are counted. */
+static void count_stream(const char *name, branch *b, uint64_t seed, uint64_t keys) {
+    uint64_t calls = 0;
     for (uint64_t i = 0; i < 3000; i++) {
         uint64_t r = mixed(i, seed);
         uint64_t key = (r % keys) * ((r >> 32) % keys) / keys;
-        uint64_t record[UNIVMON_RECORD(LAYERS)];
+        uint64_t record[UNIVMON_RECORD(LAYERS)], list[UNIVMON_LIST(LAYERS)];
         record_of(key, record);
-        accept(b, univmon_update_weighted(b->header, MUT(b), record, UNIVMON_RECORD(LAYERS), 1 + (int64_t)(r >> 60)), "update");
+        accept(b, univmon_update_weighted(b->header, MUT(b), record, UNIVMON_RECORD(LAYERS), 1 + (int64_t)(r >> 60),
+            list, UNIVMON_LIST(LAYERS)), "update");
+        if (list[0] == UNIVMON_DISPLACED && calls++ == 0) {
+            printf("%s: %" PRIu64 " pushes %" PRIu64 " out\n", name, key, list[1]);
+        }
+    }
+    printf("%s: %" PRIu64 " pushed out\n", name, calls);
+}
+
+/* What a merge did in each layer: how many keys have a seat at first, pushed another out, were turned away. */
+static void show_merge(const uint64_t list[UNIVMON_MERGE_LIST(HEAP, LAYERS)]) {
+    for (size_t l = 0; l < LAYERS; l++) {
+        unsigned did[5] = {0};
+        for (size_t place = 2 * HEAP * l; place < 2 * HEAP * (l + 1); place++) {
+            did[list[2 * place]]++;
+        }
+        printf("layer %zu: seated %u displaced %u turned away %u\n", l, did[UNIVMON_SEATED], did[UNIVMON_DISPLACED],
+            did[UNIVMON_TURNED_AWAY]);
     }
 }
 
@@ -75,8 +94,8 @@ int main(void) {
     accept(&east, univmon_new(HEAP, ROWS, COLS, LAYERS, MUT(&east)), "new");
     accept(&west, univmon_new(HEAP, ROWS, COLS, LAYERS, MUT(&west)), "new");
 
-    count_stream(&east, 100, 60);
-    count_stream(&west, 200, 90);
+    count_stream("east", &east, 100, 60);
+    count_stream("west", &west, 200, 90);
     show("east", &east);
     show("west", &west);
 
@@ -85,8 +104,10 @@ int main(void) {
 
     /* A refused call changes nothing. */
     uint64_t record[UNIVMON_RECORD(LAYERS)];
+    static uint64_t list[UNIVMON_MERGE_LIST(HEAP, LAYERS)];
     record_of(7, record);
-    univmon_answered refused = univmon_update_weighted(east.header, MUT(&east), record, UNIVMON_RECORD(LAYERS), -1);
+    univmon_answered refused =
+        univmon_update_weighted(east.header, MUT(&east), record, UNIVMON_RECORD(LAYERS), -1, list, UNIVMON_LIST(LAYERS));
     printf("weight -1: refused %" PRIu64 "\n", refused.refusal);
     show("east", &east);
 
@@ -105,7 +126,8 @@ int main(void) {
     accept(&home, univmon_read_state(text, written.bytes, MUT(&home)), "read");
     show("home", &home);
 
-    accept(&east, univmon_merge(east.header, MUT(&east), home.header, MUT(&home)), "merge");
+    accept(&east, univmon_merge(east.header, MUT(&east), home.header, MUT(&home), list, UNIVMON_MERGE_LIST(HEAP, LAYERS)), "merge");
+    show_merge(list);
     show("both", &east);
 
     univmon_answer squares = univmon_estimate_g_sum(east.header, MUT(&east), UNIVMON_G_SQUARE, false);

@@ -53,6 +53,8 @@ extern "C" {
         record: *const u64,
         record_len: usize,
         weight: i64,
+        list: *mut u64,
+        list_len: usize,
     ) -> Answered;
     /// [`crate::State::update_weighted_terminal`], with the header by value.
     pub fn univmon_update_weighted_terminal(
@@ -68,6 +70,8 @@ extern "C" {
         record: *const u64,
         record_len: usize,
         weight: i64,
+        list: *mut u64,
+        list_len: usize,
     ) -> Answered;
     /// [`crate::State::update_weighted`]: the header's lengths and flags are lent, 19 of each, the rest of
     /// it goes as numbers.
@@ -91,6 +95,8 @@ extern "C" {
         record: *const u64,
         record_len: usize,
         weight: i64,
+        list: *mut u64,
+        list_len: usize,
     ) -> Step;
     /// [`crate::State::update_weighted_terminal`], lent in the same way.
     pub fn univmon_update_weighted_terminal_lent(
@@ -113,6 +119,8 @@ extern "C" {
         record: *const u64,
         record_len: usize,
         weight: i64,
+        list: *mut u64,
+        list_len: usize,
     ) -> Step;
     /// [`crate::State::apply_delta`]; `fidelity` is the number of a [`crate::Fidelity`], another is refused
     /// with 9.
@@ -133,6 +141,8 @@ extern "C" {
         col: usize,
         count: i32,
         fidelity: u64,
+        list: *mut u64,
+        list_len: usize,
     ) -> Answered;
     /// [`crate::State::merge`].
     pub fn univmon_merge(
@@ -154,6 +164,8 @@ extern "C" {
         other_entries_len: usize,
         other_counts: *const i64,
         other_counts_len: usize,
+        list: *mut u64,
+        list_len: usize,
     ) -> Answered;
     /// [`crate::State::set_total_weight`].
     pub fn univmon_set_total_weight(header: Header, weight: u64) -> Answered;

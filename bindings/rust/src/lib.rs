@@ -7,10 +7,14 @@
 //! layer from 0 the high and the low half of its 128-bit hash. The caller hashes.
 //!
 //! A call that is refused answers [`Refused`] and leaves everything as it was. Where several refusals
-//! apply, the order is 9 for header and lengths, then 12, 10, 5, 8, 6, 7, 14, 9 for what is read, 11; for
+//! apply, the order is 9 for header and lengths, then 12, 10, 5, 8, 6, 7, 14, 9 for what is read, 11, 16; for
 //! a fresh state 1, 2, 3, 4, 9; for a text that is written 9, 16; for one that is read 15 for its first
 //! line, then 1, 2, 3, 4, 16, and 15 for the other lines. Each call says which of them it can answer, in
 //! that order.
+//!
+//! An update, a delta and a merge are lent a list, which says who was seated and who was pushed out of each
+//! layer's candidates: [`Shape::told`] and [`Shape::told_by_merge`] read it, [`Lengths::list`] and
+//! [`Lengths::merge_list`] are its least lengths. A shorter one is refused with 16, last.
 //!
 //! A state can be carried as text and is restored exactly: [`State::write_text`], [`State::read_text`].
 //! `univmon.h` shows its lines; there is one text for each state, and no other text is read.
@@ -31,6 +35,9 @@ pub use owned::Owned;
 
 mod refused;
 pub use refused::Refused;
+
+mod told;
+pub use told::{Happened, Told};
 
 /// The greatest number of layers.
 pub const MAX_LAYERS: usize = 19;
@@ -87,7 +94,7 @@ pub struct Shape {
     pub layers: usize,
 }
 
-/// Lengths of the four slices and of a record, exact, and the most that a text has.
+/// Lengths of the four slices and of a record, exact, the least of lists, and the most that a text has.
 #[derive(Clone, Copy, Debug, PartialEq, Eq)]
 pub struct Lengths {
     /// `layers * rows * cols` signed words, by layer, then row, then column.
@@ -100,6 +107,10 @@ pub struct Lengths {
     pub counts: usize,
     /// `2 + 2 * layers` words.
     pub record: usize,
+    /// `2 * layers` words or more: the list of an update or a delta, a place of two words for each layer.
+    pub list: usize,
+    /// `4 * heap_size * layers` words or more: the list of a merge, `2 * heap_size` places for each layer.
+    pub merge_list: usize,
     /// Bytes that are enough for the text of any state of the shape; most texts are far shorter.
     pub text: usize,
 }
@@ -116,6 +127,8 @@ impl Shape {
             entries: 4 * layers * heap_size,
             counts: layers * heap_size,
             record: 2 + 2 * layers,
+            list: 2 * layers,
+            merge_list: 4 * heap_size * layers,
             // the first four lines; a flag, a row beside its counters, a counter, a key
             text: 88 + layers * (12 + rows * (12 + 25 * cols) + 111 * heap_size),
         })
@@ -289,17 +302,19 @@ fn write_text(header: Header, state: Read<'_>, out: &mut [u8]) -> Result<usize, 
 /// 2 layers of 2 rows and 4 columns, with 2 candidates each:
 ///
 /// ```
-/// use univmon::{Refused, Shape, State, G};
+/// use univmon::{Happened, Refused, Shape, State, G};
 ///
 /// # fn main() -> Result<(), Refused> {
 /// let shape = Shape { heap_size: 2, rows: 2, cols: 4, layers: 2 };
 /// let (mut counters, mut norms) = ([0i64; 16], [0u64; 8]);
 /// let (mut entries, mut counts) = ([0u64; 16], [0i64; 4]);
+/// let mut list = [0; 4];
 /// let mut state = State::new(shape, &mut counters, &mut norms, &mut entries, &mut counts)?;
 ///
 /// // key 7, bottom hash 0, then the halves of the hashes of layers 0 and 1
 /// let record = [7, 0, 0x8000_0000_0000_0000, 6, 0, 0];
-/// state.update_weighted(&record, 5)?;
+/// state.update_weighted(&record, 5, &mut list)?;
+/// assert!(shape.told(&list).eq([(0, Happened::Seated)]));
 /// assert_eq!(state.counters()[..8], [0, 0, 5, 0, 0, -5, 0, 0]);
 /// assert_eq!(state.estimate_l2()?, 5.0);
 /// assert_eq!(state.estimate_cardinality()?, 1.0);
@@ -307,7 +322,7 @@ fn write_text(header: Header, state: Read<'_>, out: &mut [u8]) -> Result<usize, 
 /// assert!(state.header().flags[0]);
 ///
 /// // a refused call says why and changes nothing
-/// let refused = state.update_weighted(&record, -1).unwrap_err();
+/// let refused = state.update_weighted(&record, -1, &mut list).unwrap_err();
 /// assert_eq!(refused.to_string(), "refused 5: negative weight");
 /// assert_eq!(state.estimate_l1()?, 5.0);
 /// # Ok(())
@@ -321,9 +336,9 @@ fn write_text(header: Header, state: Read<'_>, out: &mut [u8]) -> Result<usize, 
 /// # fn main() -> Result<(), Refused> {
 /// # let shape = Shape { heap_size: 2, rows: 2, cols: 4, layers: 2 };
 /// # let (mut counters, mut norms) = ([0i64; 16], [0u64; 8]);
-/// # let (mut entries, mut counts) = ([0u64; 16], [0i64; 4]);
+/// # let (mut entries, mut counts, mut list) = ([0u64; 16], [0i64; 4], [0; 4]);
 /// let mut state = State::new(shape, &mut counters, &mut norms, &mut entries, &mut counts)?;
-/// state.update_weighted_terminal(&[7, 0, 0, 0, 0, 0], 5)?;
+/// state.update_weighted_terminal(&[7, 0, 0, 0, 0, 0], 5, &mut list)?;
 /// let header = state.into_header();
 ///
 /// let state = State::lend(header, &mut counters, &mut norms, &mut entries, &mut counts)?;
@@ -340,9 +355,9 @@ fn write_text(header: Header, state: Read<'_>, out: &mut [u8]) -> Result<usize, 
 /// # fn main() -> Result<(), Refused> {
 /// # let shape = Shape { heap_size: 2, rows: 2, cols: 4, layers: 2 };
 /// # let (mut counters, mut norms) = ([0i64; 16], [0u64; 8]);
-/// # let (mut entries, mut counts) = ([0u64; 16], [0i64; 4]);
+/// # let (mut entries, mut counts, mut list) = ([0u64; 16], [0i64; 4], [0; 4]);
 /// let mut state = State::new(shape, &mut counters, &mut norms, &mut entries, &mut counts)?;
-/// state.update_weighted(&[7, 0, 0x8000_0000_0000_0000, 6, 0, 0], 5)?;
+/// state.update_weighted(&[7, 0, 0x8000_0000_0000_0000, 6, 0, 0], 5, &mut list)?;
 /// let mut space = [0; 500];
 /// let bytes = state.write_text(&mut space)?;
 /// let text = &space[..bytes];
@@ -516,9 +531,10 @@ impl<'a> State<'a> {
     }
 
     /// Counts a key with a weight: it goes to layers 0 to its bottom layer. Reads header, lengths and
-    /// record, and in each of these layers the key's counters, its rows' norms and the candidates. Refuses
-    /// 9, 12, 5, 6, 7, 14, 9, 11. The header's lengths and flags are lent, so that no header is copied.
-    pub fn update_weighted(&mut self, record: &[u64], weight: i64) -> Result<(), Refused> {
+    /// record, and in each of these layers the key's counters, its rows' norms and the candidates. The list
+    /// says what happened in each layer: [`Shape::told`]. Refuses 9, 12, 5, 6, 7, 14, 9, 11, 16. The header's
+    /// lengths and flags are lent, so that no header is copied.
+    pub fn update_weighted(&mut self, record: &[u64], weight: i64, list: &mut [u64]) -> Result<(), Refused> {
         // SAFETY: each pointer and length is a slice's, and no two slices that are written overlap.
         let a = unsafe {
             ffi::univmon_update_weighted_lent(
@@ -541,14 +557,16 @@ impl<'a> State<'a> {
                 record.as_ptr(),
                 record.len(),
                 weight,
+                list.as_mut_ptr(),
+                list.len(),
             )
         };
         self.put(a)
     }
 
     /// Counts a key with a weight in its bottom layer only; else as [`State::update_weighted`]. Refuses 9, 12,
-    /// 5, 6, 7, 14, 9, 11.
-    pub fn update_weighted_terminal(&mut self, record: &[u64], weight: i64) -> Result<(), Refused> {
+    /// 5, 6, 7, 14, 9, 11, 16.
+    pub fn update_weighted_terminal(&mut self, record: &[u64], weight: i64, list: &mut [u64]) -> Result<(), Refused> {
         // SAFETY: as in `update_weighted`.
         let a = unsafe {
             ffi::univmon_update_weighted_terminal_lent(
@@ -571,6 +589,8 @@ impl<'a> State<'a> {
                 record.as_ptr(),
                 record.len(),
                 weight,
+                list.as_mut_ptr(),
+                list.len(),
             )
         };
         self.put(a)
@@ -578,7 +598,8 @@ impl<'a> State<'a> {
 
     /// A change of one counter that another relay saw, with the record of the key that made it. Sets an
     /// unset mode to standard and leaves the weight. Reads header, lengths and record, the counter and its
-    /// row's norm, and in its layer the key's counters and the candidates. Refuses 9, 12, 8, 9, 11.
+    /// row's norm, and in its layer the key's counters and the candidates. The list says what happened in that
+    /// layer: [`Shape::told`]. Refuses 9, 12, 8, 9, 11, 16.
     pub fn apply_delta(
         &mut self,
         record: &[u64],
@@ -587,6 +608,7 @@ impl<'a> State<'a> {
         col: usize,
         count: i32,
         fidelity: Fidelity,
+        list: &mut [u64],
     ) -> Result<(), Refused> {
         // SAFETY: as in `update_weighted`.
         let a = unsafe {
@@ -607,6 +629,8 @@ impl<'a> State<'a> {
                 col,
                 count,
                 fidelity as u64,
+                list.as_mut_ptr(),
+                list.len(),
             )
         };
         self.take(a)
@@ -614,8 +638,9 @@ impl<'a> State<'a> {
 
     /// Puts the other state's stream behind this one's: counters and norms by the sums of the counters,
     /// candidates counted anew. The other state stays as it is. Reads both headers and lengths, every
-    /// counter and every candidate of both. Refuses 9, 10, 6, 7, 14, 9, 11.
-    pub fn merge(&mut self, other: &State<'_>) -> Result<(), Refused> {
+    /// counter and every candidate of both. The list says what happened with each key:
+    /// [`Shape::told_by_merge`]. Refuses 9, 10, 6, 7, 14, 9, 11, 16.
+    pub fn merge(&mut self, other: &State<'_>, list: &mut [u64]) -> Result<(), Refused> {
         let Read(other_counters, other_norms, other_entries, other_counts) = other.read();
         // SAFETY: each pointer and length is a slice's; `self` is borrowed alone, so that the other
         // state's slices are not its own.
@@ -639,6 +664,8 @@ impl<'a> State<'a> {
                 other_entries.len(),
                 other_counts.as_ptr(),
                 other_counts.len(),
+                list.as_mut_ptr(),
+                list.len(),
             )
         };
         self.take(a)

@@ -10,17 +10,21 @@ use crate::{write_text, Header, Read, Refused, Shape, State};
 /// Two branches count apart and are merged:
 ///
 /// ```
-/// use univmon::{Owned, Refused, Shape};
+/// use univmon::{Happened, Owned, Refused, Shape};
 ///
 /// # fn main() -> Result<(), Refused> {
 /// let shape = Shape { heap_size: 4, rows: 2, cols: 4, layers: 2 };
 /// let mut east = Owned::new(shape)?;
 /// let mut west = Owned::new(shape)?;
 /// // key, bottom hash, then high and low half of the hashes of layers 0 and 1
-/// east.with(|s| s.update_weighted(&[7, 0, 1 << 63, 6, 0, 0], 5))?;
-/// west.with(|s| s.update_weighted(&[8, 2, 0, 1, 0, 3], 2))?;
+/// let mut list = vec![0; shape.lengths()?.merge_list];
+/// east.with(|s| s.update_weighted(&[7, 0, 1 << 63, 6, 0, 0], 5, &mut list))?;
+/// west.with(|s| s.update_weighted(&[8, 2, 0, 1, 0, 3], 2, &mut list))?;
 ///
-/// east.merge(&mut west)?;
+/// east.merge(&mut west, &mut list)?;
+/// // both keys have a seat in layer 0, and 8 has one in layer 1
+/// let told: Vec<_> = shape.told_by_merge(&list).collect();
+/// assert_eq!(told, [(0, Happened::Seated), (0, Happened::Seated), (1, Happened::Seated)]);
 /// let shown = east.with(|s| s.panel_answer())?;
 /// assert_eq!((shown.l1, shown.cardinality), (7.0, 2.0));
 /// assert_eq!(east.header().flags[..2], [true, true]);
@@ -29,7 +33,7 @@ use crate::{write_text, Header, Read, Refused, Shape, State};
 ///
 /// // states of two shapes are not merged
 /// let mut wide = Owned::new(Shape { cols: 8, ..shape })?;
-/// assert_eq!(east.merge(&mut wide), Err(Refused(10)));
+/// assert_eq!(east.merge(&mut wide, &mut list), Err(Refused(10)));
 /// # Ok(())
 /// # }
 /// ```
@@ -42,11 +46,12 @@ use crate::{write_text, Header, Read, Refused, Shape, State};
 /// # let shape = Shape { heap_size: 4, rows: 2, cols: 4, layers: 2 };
 /// # let mut east = Owned::new(shape)?;
 /// # let mut west = Owned::new(shape)?;
-/// # west.with(|s| s.update_weighted(&[8, 2, 0, 1, 0, 3], 2))?;
+/// # let mut list = vec![0; shape.lengths()?.merge_list];
+/// # west.with(|s| s.update_weighted(&[8, 2, 0, 1, 0, 3], 2, &mut list))?;
 /// let text = west.to_text()?;
 /// let mut carried = Owned::from_text(&text)?;
 /// assert_eq!(carried, west);
-/// east.merge(&mut carried)?;
+/// east.merge(&mut carried, &mut list)?;
 ///
 /// assert_eq!(Owned::from_text(b"(univmon 4 2 4 20)\n"), Err(Refused(2)));
 /// assert_eq!(Owned::from_text(b"(univmon 4 2 4 2)\n"), Err(Refused(15)));
@@ -120,9 +125,9 @@ impl Owned {
         answer
     }
 
-    /// Puts the other state's stream behind this one's, as [`State::merge`]. Refuses 9, 10, 6, 7, 14, 9, 11.
-    pub fn merge(&mut self, other: &mut Owned) -> Result<(), Refused> {
-        self.with(|one| other.with(|two| one.merge(two)))
+    /// Puts the other state's stream behind this one's, as [`State::merge`]. Refuses 9, 10, 6, 7, 14, 9, 11, 16.
+    pub fn merge(&mut self, other: &mut Owned, list: &mut [u64]) -> Result<(), Refused> {
+        self.with(|one| other.with(|two| one.merge(two, list)))
     }
 }
 

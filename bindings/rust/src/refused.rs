@@ -41,7 +41,7 @@ impl Refused {
             13 => "program line unreadable, or before a shape",
             14 => "updates would pass 2^52",
             15 => "not the text of a state that passes the check",
-            16 => "lent text space too short, or state slices not of the first line's lengths",
+            16 => "lent text space or list too short, or state slices not of the first line's lengths",
             _ => "no refusal has this number",
         }
     }

@@ -59,19 +59,20 @@ fn step(r: &mut Random, s: &mut Owned, other: &mut Owned, terminal: bool) {
     let key = if r.one_in(9) { r.next() } else { r.below(12) as u64 };
     let words = record(key, layers);
     let weight = r.weight();
+    let mut list = vec![0; s.header().shape().lengths().unwrap().merge_list];
     let _ = match r.below(20) {
-        0 => s.merge(other),
+        0 => s.merge(other, &mut list),
         1 | 2 => {
             let fidelity = if r.one_in(4) { Fidelity::PromotedOnly } else { Fidelity::EveryInsert };
             let (layer, row, col) = (r.below(layers), r.below(rows), r.below(cols));
-            s.with(|s| s.apply_delta(&words, layer, row, col, weight as i32 - 4, fidelity))
+            s.with(|s| s.apply_delta(&words, layer, row, col, weight as i32 - 4, fidelity, &mut list))
         }
         3 if r.one_in(3) => s.with(|s| s.mark_candidates_incomplete()),
         3 => s.with(|s| s.mark_layer_candidates_incomplete(r.below(layers))),
         4 if r.one_in(3) => s.with(|s| s.set_total_weight(weight as u64)),
         5 if r.one_in(20) => s.with(|s| s.clear()),
-        _ if terminal => s.with(|s| s.update_weighted_terminal(&words, weight)),
-        _ => s.with(|s| s.update_weighted(&words, weight)),
+        _ if terminal => s.with(|s| s.update_weighted_terminal(&words, weight, &mut list)),
+        _ => s.with(|s| s.update_weighted(&words, weight, &mut list)),
     };
 }
 

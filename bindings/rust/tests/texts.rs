@@ -52,7 +52,7 @@ fn one_update_as_text() {
     let (mut counters, mut norms) = ([0i64; 16], [0u64; 8]);
     let (mut entries, mut counts) = ([0u64; 16], [0i64; 4]);
     let mut state = State::new(SHAPE, &mut counters, &mut norms, &mut entries, &mut counts).unwrap();
-    state.update_weighted(&[7, 0, 1 << 63, 6, 0, 0], 5).unwrap();
+    state.update_weighted(&[7, 0, 1 << 63, 6, 0, 0], 5, &mut [0; 4]).unwrap();
     let mut space = [BYTE; 200];
     let bytes = state.write_text(&mut space).unwrap();
     let text = "(univmon 2 2 4 2)\n(weight 5)\n(updates 1)\n(mode 1)\n(flag 0 1)\n(row 0 0 (2 5))\n(row 0 1 (1 -5))\n\

@@ -13,7 +13,7 @@ use lib.Signed.{ltZ, nonNeg}
 use lib.Dec.{eqb, leb}
 use Rattle.words.specs.Num.{top}
 use Rattle.words.specs.Tests.{number}
-use Rattle.words.proofs.Bools.{never}
+use Rattle.words.proofs.Bools.{never, and-true}
 use Rattle.words.proofs.Tests.{number-off, off-number}
 use Rattle.header.proofs.Sweeps.{and-assoc}
 use Rattle.header.specs.Header.{withTotals, withMode, withFlags, withLens, withLayer, headOf, scalarsOf, begun, begunScalars, beginTests, beginOf, beginHeader, lengthOk, lensFrom}
@@ -111,10 +111,6 @@ module _ (h : Header) (w : ℤ) (m : Mode) where
           record { refusal = beginOf (scalarsOf h) w m .refusal; header = record { shape = sh; totals = f .totals; mode = f .mode; flags = h .flags; lens = h .lens } }
 
 -- ---- a layer's flag and length
-
-and-true : (a : Bool) → a && true ≡ a
-and-true true = refl
-and-true false = refl
 
 and-false : (a : Bool) → a && false ≡ false
 and-false true = refl

@@ -1,5 +1,5 @@
 -- What offering a candidate does to the entries and the keys of a table: the four answers.
-use mathlib.Core.Path.{_≡_, refl, ap}
+use mathlib.Core.Path.{_≡_, refl, sym, ap, _∙_, subst}
 use Prim.Native.Nat.{ℕ, zero, suc, _+_, _≤_, _<_}
 use native.Mathlib.Omega.{arith}
 use native.Mathlib.Numerals.{add-one}
@@ -14,6 +14,7 @@ use Rattle.heap_moves.specs.inner.Totals.{total, Moved}
 use Rattle.heap_moves.proofs.Moved.{total-set, total-next, up-moved, down-moved, update-moved}
 use Rattle.heap.specs.declared.Answer.the-variants.{Rescored, Seated, Displaced, TurnedAway}
 use Rattle.heap.specs.Offer.{Table, Offered, find, placeOf, rescore, seat, replaceRoot, offer}
+use Rattle.heap.specs.Places.{codeOf, displacedKey}
 use Rattle.heap.specs.inner.Keys.{hit, keyHit, timesHeld, KeysOnce, gainedBy, lostBy}
 use Rattle.heap.proofs.Cases.{offer-cases}
 
@@ -74,6 +75,22 @@ offer-effect size t c z e l =
 
 -- ---- the keys
 
+hit-same : (k : ℕ) → hit k k ≡ 1
+hit-same k = rw (eq-eqb k k refl)
+
+-- a key that is not there is not one that is
+apart : (j k : ℕ) (t : Table) → timesHeld j t ≡ 0 → 0 < timesHeld k t → hit j k ≡ 0
+apart j k t h p = rw (ne-eqb j k (λ q. omega (arith, rw q at h)))
+
+root-held : (t : Table) → 0 < t .len → t .len ≤ length (t .cands) → 0 < timesHeld (getD (t .cands) 0 noCand .item .key) t
+unfolding timesHeld total
+root-held t p l = go (t .len) (t .cands) p l
+  where
+    go : (n : ℕ) (cs : List Cand) → 0 < n → n ≤ length cs → 0 < total (keyHit (getD cs 0 noCand .item .key)) n cs
+    go zero cs p l = absurd (omega arith)
+    go (suc n) [] p l = absurd (omega arith)
+    go (suc n) (x ∷ cs) p l = omega (arith, hit-same (x .item .key))
+
 module _ (size : ℕ) (t : Table) (c : Cand) (z : 0 < size) (e : length (t .cands) ≡ size) (l : t .len ≤ size) where
   effect-held : (o : Offered) → Effect size t c o → (k : ℕ) → timesHeld k (o .table) + lostBy (o .answer) k ≡ timesHeld k t + gainedBy (o .answer) (c .item .key) k
   unfolding timesHeld
@@ -126,3 +143,21 @@ module _ (size : ℕ) (t : Table) (c : Cand) (z : 0 < size) (e : length (t .cand
   -- distinct keys stay distinct
   pub offer-once : KeysOnce t → KeysOnce (offer size t c .table)
   offer-once u k = omega (arith, offer-held k, effect-new (offer size t c) (offer-effect size t c z e l) k (u k))
+
+  -- ---- the key that went
+
+  effect-displaced : (o : Offered) → Effect size t c o → (k : ℕ) → o .answer ≡ Displaced k → (0 < timesHeld k t) × (KeysOnce t → timesHeld k (o .table) ≡ 0)
+  effect-displaced o (rescored i hi h a n m) k s = absurd (omega (arith, ap codeOf (sym a ∙ s)))
+  effect-displaced o (seated h r a n m) k s = absurd (omega (arith, ap codeOf (sym a ∙ s)))
+  effect-displaced o (turned-away h r a q) k s = absurd (omega (arith, ap codeOf (sym a ∙ s)))
+  effect-displaced o (displaced h r a n m) k s = (held, λ u. omega (arith, went, u k, apart (c .item .key) k t h held, hit-same k))
+    where
+      held : 0 < timesHeld k t
+      held = subst (λ (j : ℕ). 0 < timesHeld j t) (ap displacedKey (sym a ∙ s)) (root-held t (omega arith) (omega arith))
+
+      went : timesHeld k (o .table) + hit k k ≡ timesHeld k t + hit (c .item .key) k
+      went = rw s at (effect-held o (displaced h r a n m) k)
+
+  -- A displaced key was a candidate before, and is none after if no key stood there twice.
+  pub offer-displaced : (k : ℕ) → offer size t c .answer ≡ Displaced k → (0 < timesHeld k t) × (KeysOnce t → timesHeld k (offer size t c .table) ≡ 0)
+  offer-displaced = effect-displaced (offer size t c) (offer-effect size t c z e l)

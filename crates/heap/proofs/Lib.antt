@@ -1,4 +1,5 @@
 pub mod Matches
+pub mod Places
 pub mod Steps
 pub mod Cases
 pub mod Sounds

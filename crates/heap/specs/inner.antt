@@ -2,3 +2,4 @@
 pub mod Keys
 pub mod Slices
 pub mod Sound
+pub mod Telling

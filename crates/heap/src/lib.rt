@@ -2,7 +2,9 @@
 //
 // These functions are called by the other crates of this repository, which show what they require.
 mod blocks;
+mod tell;
 
+pub use tell::tell_at;
 ghost use mathlib.Core.Path.{_≡_};
 ghost use Prim.Native.Nat.{ℕ, _≤_, _<_, _*_};
 ghost use mathlib.Core.List.{List};

@@ -77,7 +77,22 @@ pub firsts-append : (xs ys : List Item) → firsts [] (xs ++ ys) ≡ firsts [] x
 unfolding hasKey
 firsts-append xs ys = firsts-then [] (itemKeys xs) xs ys (λ k. refl)
 
+-- no more first entries than entries
+pub firsts-few : (s : List ℕ) (ws : List Item) → length (firsts s ws) ≤ length ws
+unfolding firsts
+firsts-few s [] = omega arith
+firsts-few s (w ∷ ws) = go (hasKey (w .key) s) (firsts-few s ws) (firsts-few (w .key ∷ s) ws)
+  where
+    go : (b : Bool) → length (firsts s ws) ≤ length ws → length (firsts (w .key ∷ s) ws) ≤ length ws → length (cond b (firsts s ws) (w ∷ firsts (w .key ∷ s) ws)) ≤ suc (length ws)
+    go true i j = omega arith
+    go false i j = omega arith
+
 -- ---- entries of a slice
+
+pub items-many : (es : List ℕ) (n i : ℕ) → length (itemsFrom es n i) ≡ n
+unfolding itemsFrom
+items-many es zero i = refl
+items-many es (suc n) i = ap suc (items-many es n (suc i))
 
 from-drop : (es : List ℕ) (n i : ℕ) → itemsFrom (drop 4 es) n i ≡ itemsFrom es n (suc i)
 unfolding itemsFrom

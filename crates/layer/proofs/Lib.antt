@@ -4,3 +4,4 @@ pub mod Fills
 pub mod Firsts
 pub mod Gathers
 pub mod Merges
+pub mod Answers

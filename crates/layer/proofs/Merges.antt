@@ -2,7 +2,7 @@
 use mathlib.Core.Path.{_≡_, refl, sym, ap, ap₂, _∙_}
 use mathlib.Core.Bool.{Bool, _&&_}
 use mathlib.Core.List.{List, [], _∷_, _++_}
-use Prim.Native.Nat.{ℕ, _≤_}
+use Prim.Native.Nat.{ℕ, _*_, _≤_}
 use native.Mathlib.Omega.{arith}
 use lib.ListN.{length, take, length-replicate}
 use lib.IntN.{ℤ}
@@ -16,14 +16,15 @@ use Rattle.heap_moves.specs.declared.Item.{Item}
 use Rattle.heap_moves.specs.Cands.{noCand}
 use Rattle.heap_moves.proofs.Rounds.{counts-cands}
 use Rattle.heap.specs.Offer.{Table}
+use Rattle.heap.specs.Places.{places}
 use Rattle.heap.specs.inner.Slices.{tableOf}
 use Rattle.heap.proofs.Sounds.{offer-long}
 use Rattle.layer.specs.declared.Dims.{Dims}
 use Rattle.layer.specs.declared.Merged.{Merged}
 use Rattle.layer.specs.Layer.{Layer, offerTo, noTable}
 use Rattle.layer.specs.inner.Needs.{layerOf, Fits}
-use Rattle.layer.specs.Merge.{items, bothItems, offerAll, mergeLayer, mergeReads, mergeFits}
-use Rattle.layer.specs.inner.Gather.{gatheredOf, mergeTable, itemsOf}
+use Rattle.layer.specs.Merge.{items, bothItems, offerAll, mergeLayer, mergeAnswer, mergeReads, mergeFits}
+use Rattle.layer.specs.inner.Gather.{Gathered, gatheredOf, mergeTable, itemsOf}
 use Rattle.layer.proofs.Steps.{offer-few}
 use Rattle.layer.proofs.Firsts.{items-table}
 
@@ -42,17 +43,21 @@ merge-fits-are d xs ws es ns len flag xs₂ ws₂ es₂ ns₂ len₂ flag₂ = r
 
 -- ---- the merge
 
-pub merge-is : (d : Dims) (xs : List ℤ) (ws es : List ℕ) (ns : List ℤ) (len : ℕ) (xs₂ : List ℤ) (es₂ : List ℕ) (len₂ : ℕ) (xs′ : List ℤ) (ws′ es′ : List ℕ) (ns′ : List ℤ) (r : Merged)
+pub merge-is : (d : Dims) (xs : List ℤ) (ws es : List ℕ) (ns : List ℤ) (len : ℕ) (xs₂ : List ℤ) (es₂ : List ℕ) (len₂ : ℕ) (xs′ : List ℤ) (ws′ es′ : List ℕ) (ns′ : List ℤ) (list : List ℕ) (r : Merged)
     → sketchOf xs′ ws′ (d .rows) ≡ mergeSketch (d .rows) (d .cols) (sketchOf xs ws (d .rows)) (sketchOf xs₂ [] (d .rows))
-    → gatheredOf es′ ns′ r ≡ mergeTable d xs′ (itemsOf es len ++ itemsOf es₂ len₂) → len ≤ length ns
-    → (ws₂ : List ℕ) (ns₂ : List ℤ) (flag flag₂ : Bool) → len₂ ≤ length ns₂
-    → layerOf d xs′ ws′ es′ ns′ (r .len) (flag && flag₂ && leb (r .keys) (d .size)) ≡ mergeLayer d (layerOf d xs ws es ns len flag) (layerOf d xs₂ ws₂ es₂ ns₂ len₂ flag₂)
-unfolding mergeLayer mergeTable
-merge-is d xs ws es ns len xs₂ es₂ len₂ xs′ ws′ es′ ns′ r sketch table l ws₂ ns₂ flag flag₂ l₂ =
+    → gatheredOf es′ ns′ list r ≡ mergeTable d xs′ (itemsOf es len ++ itemsOf es₂ len₂) → len ≤ length ns
+    → ((ws₂ : List ℕ) (ns₂ : List ℤ) (flag flag₂ : Bool) → len₂ ≤ length ns₂
+    → layerOf d xs′ ws′ es′ ns′ (r .len) (flag && flag₂ && leb (r .keys) (d .size)) ≡ mergeLayer d (layerOf d xs ws es ns len flag) (layerOf d xs₂ ws₂ es₂ ns₂ len₂ flag₂))
+    × ((ws₂ : List ℕ) (ns₂ : List ℤ) (flag flag₂ : Bool) → len₂ ≤ length ns₂
+    → list ≡ places (2 * d .size) (mergeAnswer d (layerOf d xs ws es ns len flag) (layerOf d xs₂ ws₂ es₂ ns₂ len₂ flag₂)))
+unfolding mergeLayer mergeAnswer mergeTable
+merge-is d xs ws es ns len xs₂ es₂ len₂ xs′ ws′ es′ ns′ list r sketch table l =
     let cells : xs′ ≡ sums xs xs₂ = ap (λ (s : Sketch). s .cells) sketch in
-    let item : itemsOf es len ++ itemsOf es₂ len₂ ≡ items (tableOf es ns len) ++ items (tableOf es₂ ns₂ len₂) = ap₂ (λ (a b : List Item). a ++ b) (sym (items-table es ns len l)) (sym (items-table es₂ ns₂ len₂ l₂)) in
-    let g : gatheredOf es′ ns′ r ≡ mergeTable d (sums xs xs₂) (items (tableOf es ns len) ++ items (tableOf es₂ ns₂ len₂)) = table ∙ ap₂ (mergeTable d) cells item in
-    λ i. record { sketch = sketch i; table = g i .table; flag = flag && flag₂ && leb (g i .keys) (d .size) }
+    let g : (ns₂ : List ℤ) → len₂ ≤ length ns₂ → gatheredOf es′ ns′ list r ≡ mergeTable d (sums xs xs₂) (items (tableOf es ns len) ++ items (tableOf es₂ ns₂ len₂)) =
+    λ ns₂ l₂. table ∙ ap₂ (mergeTable d) cells (ap₂ (λ (a b : List Item). a ++ b) (sym (items-table es ns len l)) (sym (items-table es₂ ns₂ len₂ l₂))) in (
+      λ ws₂ ns₂ flag flag₂ l₂ i. record { sketch = sketch i; table = g ns₂ l₂ i .table; flag = flag && flag₂ && leb (g ns₂ l₂ i .keys) (d .size) },
+      λ ws₂ ns₂ flag flag₂ l₂. ap (λ (x : Gathered). x .list) (g ns₂ l₂),
+    )
 
 -- ---- no more candidates than seats; a layer keeps its lengths
 

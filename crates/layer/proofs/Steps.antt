@@ -1,10 +1,12 @@
 -- What the stores and the offer leave of a layer is the layer of the definition. Assumes nothing.
 use mathlib.Core.Path.{_≡_, refl, sym, ap, _∙_}
-use mathlib.Core.Bool.{Bool, true, false, _&&_}
+use mathlib.Core.Bool.{Bool, true, _&&_}
 use mathlib.Core.List.{List}
 use Prim.Native.Nat.{ℕ, _+_, _*_, _≤_}
 use native.Mathlib.Omega.{arith}
+use lib.ListN.{length-set}
 use lib.IntN.{ℤ}
+use Rattle.words.proofs.Bools.{and-true}
 use Rattle.countsketch_l2_norm.specs.Sketch.{Sketch, addCell, addRows}
 use Rattle.countsketch_l2_norm.specs.inner.Needs.{sketchOf}
 use Rattle.countsketch_l2_norm.specs.Estimate.{estimateOf}
@@ -40,10 +42,6 @@ module _ (d : Dims) (item : Item) (s : Sketch) (es : List ℕ) (ns : List ℤ) (
       let t : tableOf es′ ns′ (lenBy a len) ≡ offerTo d item (s .cells) (tableOf es ns len) .table =
       offer-table es ns (d .size) len item v es′ ns′ a words counts said ∙ ap (λ (o : Offered). o .table) same-offer in
       λ i. record { sketch = sketch i; table = t i; flag = flag && (keptBy (answered i) && every) }
-
-and-true : (a : Bool) → a && true ≡ a
-and-true true = refl
-and-true false = refl
 
 pub add-is : (d : Dims) (item : Item) (w : ℕ) (xs : List ℤ) (ws es : List ℕ) (ns : List ℤ) (len : ℕ) (xs′ : List ℤ) (ws′ es′ : List ℕ) (ns′ : List ℤ) (a : Answer) (v : ℤ)
     → sketchOf xs′ ws′ (d .rows) ≡ addRows (d .cols) (hashBy item) w (d .rows) 0 (sketchOf xs ws (d .rows)) → v ≡ estimateOf (d .rows) (d .cols) (hashBy item) xs′
@@ -115,5 +113,14 @@ add-lengths d u l f =
     record {
       cells = length-rows (d .cols) (hashBy (u .item)) (u .weight) (d .rows) 0 (l .sketch) ∙ f .cells;
       norms = length-rows-norms (d .cols) (hashBy (u .item)) (u .weight) (d .rows) 0 (l .sketch) ∙ f .norms;
+      cands = offer-long (d .size) (l .table) _ ∙ f .cands;
+    }
+
+pub delta-lengths : (d : Dims) (u : Delta) (l : Layer) → Fits d l → Fits d (deltaLayer d u l)
+unfolding deltaLayer addCell
+delta-lengths d u l f =
+    record {
+      cells = length-set (l .sketch .cells) _ _ ∙ f .cells;
+      norms = length-set (l .sketch .norms) _ _ ∙ f .norms;
       cands = offer-long (d .size) (l .table) _ ∙ f .cands;
     }

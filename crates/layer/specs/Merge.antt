@@ -10,6 +10,7 @@ use Rattle.countsketch_l2_norm.specs.Sketch.{Sketch}
 use Rattle.countsketch_l2_norm.specs.Merge.{sums, mergeSketch}
 use Rattle.heap_moves.specs.declared.Item.{Item}
 use Rattle.heap_moves.specs.Cands.{Cand}
+use Rattle.heap.specs.declared.Answer.{Answer}
 use Rattle.heap.specs.Offer.{Table}
 use Rattle.layer.specs.declared.Dims.{Dims}
 use Rattle.layer.specs.Layer.{Layer, offerTo, countsRead, noTable}
@@ -36,11 +37,20 @@ unfoldable pub offerAll : Dims → List ℤ → List Item → Table → Table
 offerAll d cells [] t = t
 offerAll d cells (w ∷ ws) t = offerAll d cells ws (offerTo d w cells t .table)
 
+-- which of the four things each offer did, in turn
+unfoldable pub offerAnswers : Dims → List ℤ → List Item → Table → List Answer
+offerAnswers d cells [] t = []
+offerAnswers d cells (w ∷ ws) t = offerTo d w cells t .answer ∷ offerAnswers d cells ws (offerTo d w cells t .table)
+
 unfoldable pub mergeLayer : Dims → Layer → Layer → Layer
 mergeLayer d a b =
     let s : Sketch = mergeSketch (d .rows) (d .cols) (a .sketch) (b .sketch) in
     let ws : List Item = bothItems (a .table) (b .table) in
     record { sketch = s; table = offerAll d (s .cells) ws (noTable (d .size)); flag = a .flag && b .flag && leb (length ws) (d .size) }
+
+-- what a merge of two layers did with each distinct key, "keys in first entry order"
+unfoldable pub mergeAnswer : Dims → Layer → Layer → List Answer
+mergeAnswer d a b = offerAnswers d (mergeSketch (d .rows) (d .cols) (a .sketch) (b .sketch) .cells) (bothItems (a .table) (b .table)) (noTable (d .size))
 
 -- a merge reads every counter and every candidate of both, and no norm
 unfoldable pub mergeReads : Layer → Layer → Bool

@@ -11,12 +11,13 @@ ghost use mathlib.Core.List.{_++_};
 ghost use Prim.Native.Nat.{ℕ, _+_, _*_, _≤_, _<_};
 ghost use lib.ListN.{length};
 ghost use Rattle.heap_moves.specs.Cands.{mostCands};
-ghost use Rattle.layer.specs.inner.Gather.{gatheredOf, mergeTable, offerOne, gather, itemsOf, keysOf, firstAt, CountersRead, Seats, Entries, Sofar};
+ghost use Rattle.layer.specs.inner.Gather.{gatheredIn, gatheredOut, mergeTable, offerOne, gather, itemsOf, keysOf, firstAt, CountersRead, Seats, Entries, Sofar};
 
-// Offers one more key, with its count.
+// Offers one more key, with its count, and tells what the offer did in the next place of the list.
 fn offer_one(
     entries: &mut [u64],
     counts: &mut [i64],
+    list: &mut [u64],
     d: Dims,
     g: Merged,
     w: Item,
@@ -25,11 +26,13 @@ fn offer_one(
     requires { ⌜ Seats d (length (now entries)) (length (now counts)) ⌝ }
     requires { ⌜ Sofar d g (2 * mostCands) ⌝ }
     requires { ⌜ CountersRead d (now counters) ⌝ }
-    ensures { λ r. ⌜ gatheredOf (now (entries .exit)) (now (counts .exit)) r ≡ offerOne d (now (counters .entry)) w (gatheredOf (now (entries .entry)) (now (counts .entry)) g) ⌝ }
+    requires { ⌜ 2 * g .keys + 2 ≤ length (now list) ⌝ }
+    ensures { λ r. ⌜ gatheredOut entries counts list r ≡ offerOne d (now (counters .entry)) w (gatheredIn entries counts list g) ⌝ }
 {
     let count = countsketch_l2_norm::count_with_hash(counters, d.rows, d.cols, w.high, w.low);
     let a = heap::offer(entries, counts, d.size, g.len, w, count);
     let len = heap::len_after(g.len, a);
+    heap::tell_at(list, g.keys, a);
     Merged {
         len,
         keys: g.keys + 1,
@@ -41,6 +44,7 @@ fn offer_one(
 fn offer_first(
     entries: &mut [u64],
     counts: &mut [i64],
+    list: &mut [u64],
     d: Dims,
     g: Merged,
     source: &[u64],
@@ -54,8 +58,9 @@ fn offer_first(
     requires { ⌜ CountersRead d (now counters) ⌝ }
     requires { ⌜ Entries (length (now source)) (i + 1) ⌝ }
     requires { ⌜ Entries (length (now before)) m ⌝ }
-    ensures { λ r. ⌜ gatheredOf (now (entries .exit)) (now (counts .exit)) r
-        ≡ firstAt d (now (counters .entry)) (now (before .entry)) m (now (source .entry)) i (gatheredOf (now (entries .entry)) (now (counts .entry)) g) ⌝ }
+    requires { ⌜ 2 * g .keys + 2 ≤ length (now list) ⌝ }
+    ensures { λ r. ⌜ gatheredOut entries counts list r
+        ≡ firstAt d (now (counters .entry)) (now (before .entry)) m (now (source .entry)) i (gatheredIn entries counts list g) ⌝ }
 {
     let w = heap_moves::item_at(source, i);
     let there = heap::find(before, m, w.key);
@@ -66,13 +71,14 @@ fn offer_first(
     if here < i {
         return g;
     }
-    offer_one(entries, counts, d, g, w, counters)
+    offer_one(entries, counts, list, d, g, w, counters)
 }
 
 // Offers the first n entries of the source, each key once, but no key of the first m of `before`.
 fn offer_firsts(
     entries: &mut [u64],
     counts: &mut [i64],
+    list: &mut [u64],
     d: Dims,
     start: Merged,
     source: &[u64],
@@ -86,24 +92,27 @@ fn offer_firsts(
     requires { ⌜ CountersRead d (now counters) ⌝ }
     requires { ⌜ Entries (length (now source)) n ⌝ }
     requires { ⌜ Entries (length (now before)) m ⌝ }
-    ensures { λ r. ⌜ (gatheredOf (now (entries .exit)) (now (counts .exit)) r
-        ≡ gather d (now (counters .entry)) (keysOf (now (before .entry)) m) (itemsOf (now (source .entry)) n) (gatheredOf (now (entries .entry)) (now (counts .entry)) start))
+    requires { ⌜ 2 * (start .keys + n) ≤ length (now list) ⌝ }
+    ensures { λ r. ⌜ (gatheredOut entries counts list r
+        ≡ gather d (now (counters .entry)) (keysOf (now (before .entry)) m) (itemsOf (now (source .entry)) n) (gatheredIn entries counts list start))
         × Sofar d r (start .keys + n) ⌝ }
 {
     let mut g = start;
     let mut i = 0;
     while i < n {
-        g = offer_first(entries, counts, d, g, source, i, before, m, counters);
+        g = offer_first(entries, counts, list, d, g, source, i, before, m, counters);
         i += 1;
     }
     g
 }
 
 // Offers the layer's own candidates, then the other's. The slices are zeroed and filled anew, so the
-// layer's entries are copied out first; no old count is read, since all are counted anew.
+// layer's entries are copied out first; no old count is read, since all are counted anew. The list has
+// a place for every key of both.
 pub fn merge_candidates(
     entries: &mut [u64],
     counts: &mut [i64],
+    list: &mut [u64],
     d: Dims,
     len: usize,
     other: &[u64],
@@ -114,17 +123,31 @@ pub fn merge_candidates(
     requires { ⌜ len ≤ d .size ⌝ }
     requires { ⌜ CountersRead d (now counters) ⌝ }
     requires { ⌜ Entries (length (now other)) «other_len» ⌝ }
-    ensures { λ r. ⌜ gatheredOf (now (entries .exit)) (now (counts .exit)) r ≡ mergeTable d (now (counters .entry)) (itemsOf (now (entries .entry)) len ++ itemsOf (now (other .entry)) «other_len») ⌝ }
+    requires { ⌜ («other_len» ≤ d .size) × (length (now list) ≡ 4 * d .size) ⌝ }
+    ensures { λ r. ⌜ gatheredOut entries counts list r ≡ mergeTable d (now (counters .entry)) (itemsOf (now (entries .entry)) len ++ itemsOf (now (other .entry)) «other_len») ⌝ }
 {
     let mut copy = [0u64; 4 * heap_moves::MAX_HEAP_SIZE];
     copy_words(&*entries, &mut copy, 4 * len);
     zero_words(entries);
     zero_counts(counts);
+    zero_words(list);
     let none = Merged { len: 0, keys: 0 };
-    let g = offer_firsts(entries, counts, d, none, &copy, len, &copy, 0, counters);
+    let g = offer_firsts(
+        entries,
+        counts,
+        list,
+        d,
+        none,
+        &copy,
+        len,
+        &copy,
+        0,
+        counters,
+    );
     offer_firsts(
         entries,
         counts,
+        list,
         d,
         g,
         other,

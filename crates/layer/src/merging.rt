@@ -6,14 +6,15 @@ use crate::candidates::merge_candidates;
 ghost use mathlib.Core.Path.{_≡_};
 ghost use mathlib.Core.Bool.{Bool, true, _&&_};
 ghost use mathlib.Core.List.{List};
-ghost use Prim.Native.Nat.{ℕ, _≤_};
+ghost use Prim.Native.Nat.{ℕ, _*_, _≤_};
 ghost use lib.ListN.{length};
 ghost use lib.IntN.{ℤ};
 ghost use lib.Dec.{leb};
 ghost use Rattle.words.specs.Num.{allIn};
+ghost use Rattle.heap.specs.Places.{places};
 ghost use Rattle.layer.specs.declared.Dims.{Dims};
 ghost use Rattle.layer.specs.inner.Needs.{layerOf, layerIn, layerOut};
-ghost use Rattle.layer.specs.Merge.{mergeLayer, mergeReads, mergeFits};
+ghost use Rattle.layer.specs.Merge.{mergeLayer, mergeAnswer, mergeReads, mergeFits};
 ghost use Rattle.layer.specs.inner.Gather.{LayerMergeReady};
 
 // Whether all that a merge reads of the two layers is in range: every counter and every candidate.
@@ -51,13 +52,14 @@ pub fn merge_fits(counters: &[i64], other_counters: &[i64]) -> bool
     countsketch_l2_norm::sums_fit(counters, other_counters)
 }
 
-// The merge: how many candidates it leaves, and how many distinct keys there were. The other's norms
-// and counts are not read.
+// The merge: how many candidates it leaves, and how many distinct keys there were; the list tells what
+// it did with each. The other's norms and counts are not read.
 pub fn merge(
     counters: &mut [i64],
     norms: &mut [u64],
     entries: &mut [u64],
     counts: &mut [i64],
+    list: &mut [u64],
     d: Dims,
     len: usize,
     other_counters: &[i64],
@@ -65,15 +67,20 @@ pub fn merge(
     other_len: usize,
 ) -> Merged
     requires { ⌜ LayerMergeReady d len «other_len» (now counters) (now norms) (now entries) (now counts) (now «other_counters») (now «other_entries») ⌝ }
+    requires { ⌜ length (now list) ≡ 4 * d .size ⌝ }
     ensures { λ r. ⌜ ((ws₂ : List ℕ) (ns₂ : List ℤ) (flag flag₂ : Bool) → «other_len» ≤ length ns₂
         → layerOut d counters norms entries counts (r .len) (flag && flag₂ && leb (r .keys) (d .size))
         ≡ mergeLayer d (layerIn d counters norms entries counts len flag)
         (layerOf d (now («other_counters» .entry)) ws₂ (now («other_entries» .entry)) ns₂ «other_len» flag₂)) ⌝ }
+    ensures { λ r. ⌜ ((ws₂ : List ℕ) (ns₂ : List ℤ) (flag flag₂ : Bool) → «other_len» ≤ length ns₂
+        → now (list .exit) ≡ places (2 * d .size) (mergeAnswer d (layerIn d counters norms entries counts len flag)
+        (layerOf d (now («other_counters» .entry)) ws₂ (now («other_entries» .entry)) ns₂ «other_len» flag₂))) ⌝ }
 {
     countsketch_l2_norm::merge(counters, norms, other_counters, d.rows, d.cols);
     merge_candidates(
         entries,
         counts,
+        list,
         d,
         len,
         other_entries,

@@ -15,9 +15,11 @@ use Rattle.heap_moves.specs.Cands.{Cand}
 use Rattle.heap_moves.specs.Flat.{candsOf, entriesOf, countsOf}
 use Rattle.heap_moves.proofs.Rounds.{entries-cands, counts-cands, cands-entries, length-entries, length-counts}
 use Rattle.header.specs.declared.Header.{Header}
+use Rattle.header.specs.Header.{Headed}
 use Rattle.layout.specs.State.{State}
 use Rattle.layout.specs.Slices.{Lent, cellsIn, normsIn, candsIn, lengthsOk, lentOk, view, flat}
 use Rattle.layout.specs.inner.Needs.{Standing}
+use Rattle.layout.proofs.Lengths.{long-view}
 use Rattle.layout.proofs.Replaced.{Sized}
 
 -- nothing is lost, where each norm word is below 2 ^ 64
@@ -37,6 +39,13 @@ flat-view r z w = λ i. record { head = r .head; counters = r .counters; norms =
 -- so the slices are known from the state that they show
 pub lent-is : (r : Lent) (s : State) → Standing r → ((k : ℕ) → getD (r .norms) k 0 < wordSize) → view r ≡ s → r ≡ flat s
 lent-is r s z w e = sym (flat-view r z w) ∙ ap flat e
+
+-- a lent state that stands, with 19 lengths and flags, shows a state of its shape's lengths
+pub sized-view : (r : Lent) → Standing r → Headed (r .head) → Sized (view r)
+unfolding view
+sized-view r z h =
+    let v = long-view r z in
+    record { counters = v .counters; norms = v .norms; cands = v .cands; flags = h .flags; lens = h .lens; few = z .accepted .few }
 
 -- ---- a state, laid flat
 

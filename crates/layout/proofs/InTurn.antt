@@ -1,18 +1,17 @@
 -- Layers of a lent state replaced one after the other: what is left to do gives the answer, and what is left is as it was. Assumes nothing.
 use mathlib.Core.Path.{_≡_, refl, sym, ap, _∙_, subst}
 use mathlib.Core.Bool.{Bool, true}
-use Prim.Native.Nat.{ℕ, suc, _+_, _-_, _≤_, _<_}
+use Prim.Native.Nat.{ℕ, suc, _+_, _≤_, _<_}
 use native.Mathlib.Omega.{arith}
 use native.Mathlib.Numerals.{add-one}
 use lib.ListN.{length}
-use Rattle.words.proofs.Bools.{and-left, and-right}
 use Rattle.header.specs.declared.Shape.{Shape}
 use Rattle.layer.specs.Layer.{Layer}
 use Rattle.layer.specs.inner.Needs.{Fits}
 use Rattle.layout.specs.State.{State, dimsAt, layerAt, putLayer, overLayers, allLayers}
 use Rattle.layout.specs.Slices.{Lent, view}
 use Rattle.layout.specs.inner.Needs.{Standing}
-use Rattle.layout.proofs.States.{all-later}
+use Rattle.layout.proofs.States.{at-put-other, all-at}
 use Rattle.layout.proofs.Lengths.{long-view}
 
 -- of many layers of r₀ from the first on, those before layer l are replaced in r
@@ -21,7 +20,7 @@ pub record InTurn (f : ℕ → Layer → Layer) (many first : ℕ) (r₀ r : Len
   pub standing : Standing r
   pub shape : r .head .shape ≡ r₀ .head .shape
   pub goes : (n : ℕ) → n + l ≡ many + first → overLayers f n l (view r) ≡ overLayers f many first (view r₀)
-  pub passes : (n : ℕ) → n + l ≡ many + first → (p : ℕ → Layer → Bool) → allLayers p many first (view r₀) ≡ true → allLayers p n l (view r) ≡ true
+  pub ahead : (m : ℕ) → l ≤ m → m < many + first → layerAt (view r) m ≡ layerAt (view r₀) m
 
 pub in-turn-start : (f : ℕ → Layer → Layer) (many first : ℕ) (r : Lent) → Standing r → InTurn f many first r r first
 in-turn-start f many first r z =
@@ -30,7 +29,7 @@ in-turn-start f many first r z =
       standing = z;
       shape = refl;
       goes = λ n q. let e : n ≡ many = omega arith in ap (λ (k : ℕ). overLayers f k first (view r)) e;
-      passes = λ n q p a. let e : n ≡ many = omega arith in ap (λ (k : ℕ). allLayers p k first (view r)) e ∙ a;
+      ahead = λ m h k. refl;
     }
 
 module _ {f : ℕ → Layer → Layer} {many first : ℕ} {r₀ r : Lent} {l : ℕ} (v : InTurn f many first r₀ r l) where
@@ -52,12 +51,13 @@ module _ {f : ℕ → Layer → Layer} {many first : ℕ} {r₀ r : Lent} {l : �
     pub in-turn-inside : l < r .head .shape .layers
     in-turn-inside = subst (λ (sh : Shape). l < sh .layers) (sym (v .shape)) (omega arith)
 
+    -- the next layer is as it was at the start
+    pub in-turn-next : layerAt (view r) l ≡ layerAt (view r₀) l
+    in-turn-next = v .ahead l (omega arith) h
+
     -- a test that every layer passed at the start
-    pub in-turn-test : (p : ℕ → Layer → Bool) → allLayers p many first (view r₀) ≡ true → p l (layerAt (view r) l) ≡ true
-    unfolding allLayers
-    in-turn-test p a =
-        let n = many + first - (l + 1) in
-        and-left (p l (layerAt (view r) l)) (allLayers p n (suc l) (view r)) (v .passes (suc n) (omega arith) p a)
+    pub in-turn-test : first ≤ l → (p : ℕ → Layer → Bool) → allLayers p many first (view r₀) ≡ true → p l (layerAt (view r) l) ≡ true
+    in-turn-test c p a = ap (p l) in-turn-next ∙ all-at p many first (view r₀) l c h a
 
     -- layer l is replaced
     pub in-turn-on : (y : Layer) → y ≡ f l (layerAt (view r) l) → Fits (dimsAt (r .head .shape) l) y → (u : Lent) → view u ≡ putLayer (view r) l y → Standing u → InTurn f many first r₀ u (l + 1)
@@ -68,8 +68,8 @@ module _ {f : ℕ → Layer → Layer} {many first : ℕ} {r₀ r : Lent} {l : �
           standing = z;
           shape = ap (λ (s : State). s .head .shape) e ∙ v .shape;
           goes = λ n q. rw (add-one l, e ∙ ap (putLayer (view r) l) is) (v .goes (suc n) (omega arith));
-          passes = λ n q p a.
-              rw (add-one l, e)
-              (all-later p n (suc l) (view r) (long-view r (v .standing)) l y (omega arith) (subst (λ (sh : Shape). suc l + n ≤ sh .layers) (sym (v .shape)) (omega arith)) in-turn-inside fits
-              ∙ and-right (p l (layerAt (view r) l)) (allLayers p n (suc l) (view r)) (v .passes (suc n) (omega arith) p a));
+          ahead = λ m k q.
+              ap (λ (s : State). layerAt s m) e
+              ∙ at-put-other (view r) (long-view r (v .standing)) l m y in-turn-inside (subst (λ (sh : Shape). m < sh .layers) (sym (v .shape)) (omega arith)) (λ z. omega (arith, z)) fits
+              ∙ v .ahead m (omega arith) q;
         }

@@ -8,4 +8,7 @@ pub mod Handed
 pub mod Replaced
 pub mod Flatten
 pub mod Judged
+pub mod ListCalls
+pub mod Telling
+pub mod Deciding
 pub mod Fresh

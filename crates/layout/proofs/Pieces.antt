@@ -42,7 +42,7 @@ pub record Piece {A : Type 0} (a e o n most : ℕ) (xs : List A) : Type 0 where
   pub is : part a (e - a) xs ≡ part o n xs
   pub put : (ys : List A) → putPart a (e - a) xs ys ≡ putPart o n xs ys
 
-piece : {A : Type 0} (o n most : ℕ) (xs : List A) → o + n ≤ length xs → o ≤ most → Piece o (o + n) o n most xs
+pub piece : {A : Type 0} (o n most : ℕ) (xs : List A) → o + n ≤ length xs → o ≤ most → Piece o (o + n) o n most xs
 piece o n most xs h k = record { ordered = omega arith; inside = h; small = k; is = ap (λ (m : ℕ). part o m xs) long; put = λ ys. ap (λ (m : ℕ). putPart o m xs ys) long }
   where
     long : o + n - o ≡ n

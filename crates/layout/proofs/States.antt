@@ -1,14 +1,15 @@
 -- Reading a layer of a state after layers were put. Assumes nothing.
-use mathlib.Core.Path.{_≡_, refl, ap, ap₂}
+use mathlib.Core.Path.{_≡_, refl, subst}
 use mathlib.Core.Logic.{_≢_}
 use Prim.Native.Nat.{ℕ, zero, suc, _+_, _*_, _≤_, _<_}
 use native.Mathlib.Omega.{arith}
-use native.Mathlib.Decide.{decLt}
+use native.Mathlib.Decide.{decLt, ℕ-discrete}
 use mathlib.Core.Bool.{Bool, true, false, _&&_}
 use mathlib.Core.List.{List}
 use lib.ListN.{length}
 use lib.Seq.{getD-set-other}
 use lib.IntN.{ℤ}
+use Rattle.words.proofs.Bools.{and-left, and-right}
 use Rattle.words.proofs.Parts.{length-part, put-before, put-after}
 use Rattle.heap_moves.specs.Cands.{Cand}
 use Rattle.header.specs.declared.Shape.{Shape}
@@ -72,14 +73,16 @@ module _ (s : State) (z : Long s) where
           (put-after (candOff sh l) (sh .«heap_size») (candOff sh m) (sh .«heap_size») (s .cands) (y .table .cands) (off-step (λ i. dimsAt sh i .size) l m (omega arith)) (cand-room l hl) (f .cands))
           (getD-set-other (s .head .lens) l m (y .table .len) 0 ne) (getD-set-other (s .head .flags) l m (y .flag) false ne)
 
--- ---- tests of later layers do not see what was put
+-- ---- a test that all of many layers pass
 
-pub all-later : (p : ℕ → Layer → Bool) (k i : ℕ) (s : State) → Long s → (l : ℕ) (y : Layer) → l < i → i + k ≤ s .head .shape .layers → l < s .head .shape .layers → Fits (dimsAt (s .head .shape) l) y
-    → allLayers p k i (putLayer s l y) ≡ allLayers p k i s
+pub all-at : (p : ℕ → Layer → Bool) (k i : ℕ) (s : State) (l : ℕ) → i ≤ l → l < k + i → allLayers p k i s ≡ true → p l (layerAt s l) ≡ true
 unfolding allLayers
-all-later p zero i s z l y h r q f = refl
-all-later p (suc k) i s z l y h r q f =
-    ap₂ _&&_ (ap (p i) (at-put-other s z l i y q (omega arith) (λ e. omega (arith, e)) f)) (all-later p k (suc i) s z l y (omega arith) (omega arith) q f)
+all-at p zero i s l h q e = absurd (omega arith)
+all-at p (suc k) i s l h q e = go (ℕ-discrete i l) (λ z. all-at p k (suc i) s l z (omega arith) (and-right (p i (layerAt s i)) (allLayers p k (suc i) s) e))
+  where
+    go : Dec (i ≡ l) → (suc i ≤ l → p l (layerAt s l) ≡ true) → p l (layerAt s l) ≡ true
+    go (yes z) later = subst (λ (m : ℕ). p m (layerAt s m) ≡ true) z (and-left (p i (layerAt s i)) (allLayers p k (suc i) s) e)
+    go (no z) later = later (omega (arith, z))
 
 -- ---- a scan over layers
 pub layers-step : (p : ℕ → Layer → Bool) (s : State) (k l : ℕ) → allLayers p (suc k) l s ≡ p l (layerAt s l) && allLayers p k (suc l) s

@@ -1,3 +1,4 @@
+pub mod Answers
 pub mod Lending
 pub mod Outcomes
 pub mod Records

@@ -1,11 +1,13 @@
 // Where layers stand in the slices that a caller lends, and hashes in a key's record. For the crates of
 // this repository, which show first that the shape is accepted.
+mod lists;
 mod parts;
 
 use header::Header;
 use header::Shape;
 use heap_moves::Item;
 use layer::Dims;
+pub use lists::zero_places;
 pub use parts::cells_at;
 pub use parts::norms_at;
 pub use parts::seats_at;

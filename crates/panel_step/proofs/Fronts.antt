@@ -1,19 +1,25 @@
 -- The requests, from what the calls on the front parts answer. Assumes nothing.
-use Prim.Native.Nat.{ℕ, _*_}
+use Prim.Native.Nat.{ℕ, _*_, _≤_}
+use native.Mathlib.Omega.{arith}
 use mathlib.Core.Path.{_≡_, refl, ap, _∙_}
 use mathlib.Core.List.{List}
-use borrow.Author.Tests.{eq-eqb, ne-eqb}
+use borrow.Author.Tests.{eq-eqb, ne-eqb, not-false}
 use lib.ListN.{length, take, take-append-drop}
 use lib.Seq.{length-take-le}
 use lib.IntN.{ℤ}
 use Rattle.header.specs.declared.Shape.{Shape}
 use Rattle.header.specs.declared.Header.{Header}
-use Rattle.header.specs.Shape.{shapeRefusal}
-use Rattle.layout.specs.Slices.{Lent, lent, cellsIn, normsIn, candsIn, lengthsOk, freshLent, extentOf}
+use Rattle.header.specs.Shape.{maxLayers, shapeRefusal}
+use Rattle.header.specs.Header.{headerOk}
+use Rattle.header.proofs.Ranges.{ranged-of}
+use Rattle.layout.specs.Slices.{Lent, lent, cellsIn, normsIn, candsIn, lengthsOk, view, flat, freshLent, extentOf}
 use Rattle.layout.specs.Outcomes.{Outcome, Left, left, leftBy}
 use Rattle.layout.specs.declared.Extent.{Extent}
+use Rattle.layout.proofs.Judged.{judged}
+use Rattle.layout.proofs.ListCalls.{list-long}
 use Rattle.univmon.specs.declared.Kind.the-variants as kind
-use Rattle.univmon.specs.Calls.{newCall, updateCall}
+use Rattle.univmon.specs.Updates.{updateTests, updated}
+use Rattle.univmon.specs.Calls.{newCall, updateCall, updateListCall}
 use Rattle.panel_step.specs.Panel.{inUse, putBack, refusalIn, shapeCall, backBy, addCall}
 use Rattle.panel_step.proofs.Rooms.{Fit, fit-of}
 
@@ -59,6 +65,16 @@ has-started r sh e l z i h =
 pub no-shape : (r : Lent) (words : List ℕ) (w : ℤ) → (refusalIn r (r .head .shape) ≡ 0 → ⊥) → left 13 r ≡ addCall r words w
 unfolding addCall
 no-shape r words w k = rw (ne-eqb (refusalIn r (r .head .shape)) 0 k)
+
+-- the list of what an update did is the program's own: two words for each of the most layers that a header in range has
+pub own-list : (r : Lent) (words : List ℕ) (w : ℤ) → updateListCall kind.Standard r words w (2 * maxLayers) ≡ updateCall kind.Standard r words w
+unfolding updateListCall updateCall updateTests
+own-list r words w = list-long (2 * r .head .shape .layers) (2 * maxLayers) (updateCall kind.Standard r words w) long
+  where
+    long : (t : Lent) → updateCall kind.Standard r words w ≡ Outcome.yes t → 2 * r .head .shape .layers ≤ 2 * maxLayers
+    long t e =
+        let off = judged (updateTests kind.Standard r words w) (flat (updated kind.Standard (view r) words w)) t e .1 in
+        omega (arith, ranged-of (r .head) (not-false (headerOk (r .head)) (off .0)) .accepted .few)
 
 -- l is what the update left of the parts in use
 pub has-added : (r : Lent) (words : List ℕ) (w : ℤ) (e : Extent) (l : Left) → refusalIn r (r .head .shape) ≡ 0 → e ≡ extentOf (r .head .shape)

@@ -67,7 +67,7 @@ pub fn start(
     )
 }
 
-// A standard update with a record and a weight, or 13 before a shape.
+// A standard update with a record and a weight, or 13 before a shape. The list of what it did is its own.
 pub fn add(
     header: Header,
     counters: &mut [i64],
@@ -97,6 +97,7 @@ pub fn add(
     let sums = e.norms;
     let quads = e.words;
     let seats = e.seats;
+    let mut list = [0u64; 2 * Shape::MAX_LAYERS];
     univmon::update_weighted(
         header,
         &mut counters[..cells],
@@ -105,6 +106,7 @@ pub fn add(
         &mut counts[..seats],
         record,
         weight,
+        &mut list,
     )
 }
 

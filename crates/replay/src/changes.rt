@@ -1,7 +1,8 @@
 // The calls that change a relay. Each says the refusal's number, whether what is left passes the state check,
-// and a digest of it all.
+// and a digest of it all, with the list that the call was lent.
 use crate::Call;
 use crate::asked::ask;
+use crate::digest::of_words;
 use crate::digest::say;
 use crate::digest::whole;
 use crate::heads::HEAD_WORDS;
@@ -16,7 +17,9 @@ use crate::shelf::KEPT_RECORDS;
 use crate::shelf::LENT_COUNTERS;
 use crate::shelf::LENT_COUNTS;
 use crate::shelf::LENT_ENTRIES;
+use crate::shelf::LENT_LIST;
 use crate::shelf::LENT_NORMS;
+use crate::shelf::LIST_WORDS;
 use crate::shelf::NORM_WORDS;
 use crate::shelf::NORMS;
 use crate::shelf::RECORD_WORDS;
@@ -60,6 +63,16 @@ pub fn record_at(a: u64) -> usize {
     (a % KEPT_RECORDS) as usize * RECORD_WORDS + RECORDS
 }
 
+// What a list holds before its call, so that every word that is written or left can be told: the greatest
+// number, and down from it.
+fn mark(list: &mut [u64]) {
+    let mut i = 0;
+    while i < list.len() {
+        list[i] = 0xffff_ffff_ffff_ffff - i as u64;
+        i += 1;
+    }
+}
+
 // 2, 3: a standard and a terminal update. 4: a delta. The call gives the number of a kept record, and how many
 // words of it are lent.
 fn recorded(
@@ -69,6 +82,7 @@ fn recorded(
     norms: &mut [u64],
     entries: &mut [u64],
     counts: &mut [i64],
+    list: &mut [u64],
     shelf: &[u64],
 ) -> Answered {
     let mut record = [0u64; LONGEST];
@@ -88,6 +102,7 @@ fn recorded(
             call.e as usize,
             count_of(call.f),
             fidelity(call.g),
+            list,
         );
     }
     let weight = vectors::signed(call.c);
@@ -100,9 +115,10 @@ fn recorded(
             counts,
             words,
             weight,
+            list,
         );
     }
-    univmon::update_weighted(h, counters, norms, entries, counts, words, weight)
+    univmon::update_weighted(h, counters, norms, entries, counts, words, weight, list)
 }
 
 // 9: merges the second relay into the one at work.
@@ -112,6 +128,7 @@ fn merge(
     norms: &mut [u64],
     entries: &mut [u64],
     counts: &mut [i64],
+    list: &mut [u64],
     shelf: &[u64],
 ) -> Answered {
     let c = lent(shelf, SECOND, LENT_COUNTERS, CELLS);
@@ -137,23 +154,26 @@ fn merge(
         &other_norms[..w],
         &other_entries[..e],
         &other_counts[..k],
+        list,
     )
 }
 
-// Fills the lent slices from the shelf and makes a call on them. 1: `new`. 5, 6, 7: the calls on a header alone.
-// 8: `clear`.
+// Fills the lent slices from the shelf, marks the list and makes a call on them. 1: `new`. 5, 6, 7: the calls on
+// a header alone. 8: `clear`.
 fn on_lent(
     call: Call,
     counters: &mut [i64],
     norms: &mut [u64],
     entries: &mut [u64],
     counts: &mut [i64],
+    list: &mut [u64],
     shelf: &[u64],
 ) -> Answered {
     take_signed(shelf, COUNTERS, counters);
     copy(shelf, NORMS, norms, 0, NORM_WORDS);
     copy(shelf, ENTRIES, entries, 0, ENTRY_WORDS);
     take_signed(shelf, COUNTS, counts);
+    mark(list);
     let h = header_of(shelf, 0);
     let op = call.op;
     match op {
@@ -171,8 +191,8 @@ fn on_lent(
         6 => univmon::mark_layer_candidates_incomplete(h, call.a as usize),
         7 => univmon::mark_candidates_incomplete(h),
         8 => univmon::clear(h, counters, norms, entries, counts),
-        9 => merge(h, counters, norms, entries, counts, shelf),
-        _ => recorded(call, h, counters, norms, entries, counts, shelf),
+        9 => merge(h, counters, norms, entries, counts, list, shelf),
+        _ => recorded(call, h, counters, norms, entries, counts, list, shelf),
     }
 }
 
@@ -182,16 +202,19 @@ pub fn run(call: Call, shelf: &mut [u64]) {
     let w = lent(&*shelf, 0, LENT_NORMS, NORM_WORDS);
     let e = lent(&*shelf, 0, LENT_ENTRIES, ENTRY_WORDS);
     let k = lent(&*shelf, 0, LENT_COUNTS, SEATS);
+    let n = lent(&*shelf, WORDS, LENT_LIST, LIST_WORDS);
     let mut counters = [0i64; CELLS];
     let mut norms = [0u64; NORM_WORDS];
     let mut entries = [0u64; ENTRY_WORDS];
     let mut counts = [0i64; SEATS];
+    let mut list = [0u64; LIST_WORDS];
     let out = on_lent(
         call,
         &mut counters[..c],
         &mut norms[..w],
         &mut entries[..e],
         &mut counts[..k],
+        &mut list[..n],
         &*shelf,
     );
     put_signed(&counters, shelf, COUNTERS, c);
@@ -200,5 +223,6 @@ pub fn run(call: Call, shelf: &mut [u64]) {
     put_signed(&counts, shelf, COUNTS, k);
     let words = words_of(out.header);
     copy(&words, 0, shelf, 0, HEAD_WORDS);
-    say(out.refusal, ask(call.op, &*shelf), whole(&*shelf));
+    let digest = of_words(whole(&*shelf), &list, 0, n);
+    say(out.refusal, ask(call.op, &*shelf), digest);
 }

@@ -11,11 +11,12 @@ use crate::shelf::LENT_NORMS;
 use crate::shelf::NORMS;
 use crate::shelf::get;
 
-fn of_words(start: u64, shelf: &[u64], at: usize, n: usize) -> u64 {
+// The digest of n words from place `at` on, behind those that have the digest `start`.
+pub fn of_words(start: u64, words: &[u64], at: usize, n: usize) -> u64 {
     let mut d = start;
     let mut i = 0;
     while i < n {
-        d = vectors::mixed(d, get(shelf, at, i));
+        d = vectors::mixed(d, get(words, at, i));
         i += 1;
     }
     d

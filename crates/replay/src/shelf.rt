@@ -58,6 +58,12 @@ pub const WORDS: usize = RECORDS + KEPT_RECORDS as usize * RECORD_WORDS;
 
 pub const CALL_WORDS: usize = 48;
 
+// The eighth of them is how many words of a list the call is lent, 0 for the calls that are lent none. The greatest
+// list is a merge's, as long as the entries, and some words more.
+pub const LENT_LIST: usize = 7;
+
+pub const LIST_WORDS: usize = ENTRY_WORDS + 16;
+
 pub const ALL: usize = WORDS + CALL_WORDS;
 
 // The word i places behind place `at`; 0 past the end.

@@ -1,12 +1,13 @@
 -- What a call on relays that are as their books say is answered with: the number that the books say. Assumes nothing.
 use mathlib.Core.Path.{_≡_, refl, ap, ap₂, _∙_, sym, subst}
-use Prim.Native.Nat.{ℕ}
-use mathlib.Core.Bool.{Bool, true, false, not}
+use Prim.Native.Nat.{ℕ, _≤_}
+use native.Mathlib.Omega.{arith}
+use mathlib.Core.Bool.{Bool, true, false, cond, not}
 use mathlib.Core.List.{List, [], _∷_, _++_}
 use lib.ListN.{length}
 use lib.IntN.{ℤ, pos, negsuc}
-use lib.Dec.{eqb}
-use borrow.Author.Tests.{eqb-true, eqb-false}
+use lib.Dec.{eqb, ltb}
+use borrow.Author.Tests.{eq-eqb, ne-eqb, eqb-true, eqb-false}
 use Rattle.words.specs.Tests.{number, numbered}
 use Rattle.words.proofs.Bools.{never}
 use Rattle.words.proofs.Tests.{Off, off-number, number-rest, number-alone}
@@ -20,13 +21,16 @@ use Rattle.header.proofs.Bounds.{totals-within}
 use Rattle.layout.specs.Records.{recordLength}
 use Rattle.layout.specs.Slices.{Lent, view, flat}
 use Rattle.layout.specs.Outcomes.{Outcome, judge, lentTests}
+use Rattle.layout.specs.Answers.{listCall}
 use Rattle.layout.proofs.Judged.{passed, refused}
+use Rattle.layout.proofs.ListCalls.{list-long}
 use Rattle.univmon.specs.declared.Kind.{Kind}
 use Rattle.univmon.specs.Updates.{modeOf, sentTests, updateTests, updated}
-use Rattle.univmon.specs.Calls.{updateCall}
-use Rattle.univmon_merge.specs.Merges.{pairTests, mergeTests, merged, mergeCall}
+use Rattle.univmon.specs.Calls.{updateCall, updateListCall}
+use Rattle.univmon_merge.specs.Merges.{pairTests, mergeTests, merged, mergeCall, mergeListCall}
 use Rattle.shared_streams.specs.Books.{Book, bookMode}
-use Rattle.shared_streams.specs.Ledger.{feedTests, feedNumber, joinTests, joinNumber, Answers}
+use Rattle.shared_streams.specs.Relays.{Feed, updating}
+use Rattle.shared_streams.specs.Ledger.{feedTests, feedNumber, joinTests, joinNumber, listNumber, feedPlaces, joinPlaces, answeredWith, joinedWith, Answers}
 use Rattle.shared_streams.proofs.Relays.{RelayBy}
 use Rattle.shared_streams.proofs.Calls.{LentBy, lent-view, lent-off, update-sent, merge-paired, shapes-same}
 
@@ -41,6 +45,16 @@ judge-answers ts t n h e = go (eqb (number ts) 0) refl
 -- where the first tests are off, and the last ones are off if those between are, those between give the number
 between : (us ts vs : List (Bool × ℕ)) → numbered ts ≡ true → Off us → (Off ts → Off vs) → number (us ++ (ts ++ vs)) ≡ number ts
 between us ts vs h o f = number-rest us (ts ++ vs) o ∙ number-alone ts vs h f
+
+-- with a list a call is answered as without one, or with 16
+list-answers : (least asked n : ℕ) → least ≡ asked → (o : Outcome) (m : ℕ) → Answers o m → Answers (listCall least n o) (listNumber asked n m)
+unfolding listNumber
+list-answers least asked n e (Outcome.no k) m p = rw (ne-eqb m 0 (p .1)) p
+list-answers least asked n e (Outcome.yes t) m p = rw (eq-eqb m 0 p, e) (go (ltb n asked))
+  where
+    go : (b : Bool) → Answers (cond b (Outcome.no 16) (Outcome.yes t)) (cond b 16 0)
+    go true = (refl, λ z. omega (arith, z))
+    go false = refl
 
 -- ---- an update
 
@@ -66,6 +80,12 @@ feed-answers sh v b r x k words w =
     by-book =
         ap (λ (z : Shape). number ((not (eqb (length words) (recordLength (z .layers))), 12) ∷ beginTests (record { shape = z; totals = r .head .totals; mode = r .head .mode }) w (modeOf k))) (by .shape)
         ∙ ap₂ (λ (m : Mode) (t : Totals). number ((not (eqb (length words) (recordLength (sh .layers))), 12) ∷ beginTests (record { shape = sh; totals = t; mode = m }) w (modeOf k))) (by .mode) (by .totals)
+
+pub feed-list-answers : (sh : Shape) → shapeRefusal sh ≡ 0 → (b : Book) (r : Lent) → LentBy sh b r → (f : Feed) → Answers (updating .act f r) (answeredWith sh b f)
+unfolding updateListCall view
+feed-list-answers sh v b r x f =
+    list-answers (feedPlaces (r .head .shape)) (feedPlaces sh) (length (f .list)) (ap feedPlaces (lent-view sh b r x .shape)) (updateCall (f .kind) r (f .words) (f .weight))
+    (feedNumber sh b (f .kind) (f .words) (f .weight)) (feed-answers sh v b r x (f .kind) (f .words) (f .weight))
 
 -- ---- a merge
 
@@ -97,3 +117,15 @@ join-answers sh v a b r t x y =
     by-books =
         ap₂ (λ (m n : Mode). number ((clash m n, 6) ∷ totalsTests (r .head .totals) (t .head .totals))) (by .mode) (to .mode)
         ∙ ap₂ (λ (m n : Totals). number ((clash (bookMode a) (bookMode b), 6) ∷ totalsTests m n)) (by .totals) (to .totals)
+
+pub join-list-answers : (sh : Shape) → shapeRefusal sh ≡ 0 → (a b : Book) (r t : Lent) → LentBy sh a r → LentBy sh b t → (list : List ℕ)
+    → Answers (mergeListCall r t (length list)) (joinedWith sh a b list)
+unfolding mergeListCall view
+join-list-answers sh v a b r t x y list =
+    list-answers (joinPlaces (r .head .shape)) (joinPlaces sh) (length list) (ap joinPlaces (lent-view sh a r x .shape)) (mergeCall r t) (joinNumber a b) (join-answers sh v a b r t x y)
+
+-- with a list that is long enough it is the same call
+pub merge-long : (sh : Shape) (a : Book) (r t : Lent) → LentBy sh a r → (list : List ℕ) → joinPlaces sh ≤ length list → mergeListCall r t (length list) ≡ mergeCall r t
+unfolding mergeListCall view
+merge-long sh a r t x list h =
+    list-long (joinPlaces (r .head .shape)) (length list) (mergeCall r t) (λ u e. subst (λ (z : Shape). joinPlaces z ≤ length list) (sym (lent-view sh a r x .shape)) h)

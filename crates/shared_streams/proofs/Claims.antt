@@ -29,7 +29,7 @@ use Rattle.layout.proofs.Replaced.{Sized}
 use Rattle.univmon.specs.declared.Kind.{Kind}
 use Rattle.univmon.specs.declared.Kind.the-variants as kind
 use Rattle.univmon.specs.Updates.{modeOf}
-use Rattle.univmon.specs.Calls.{updateCall, lentUpdateCall}
+use Rattle.univmon.specs.Calls.{updateCall, lentUpdateCall, updateListCall, lentUpdateListCall}
 use Rattle.sums.specs.Terminal.{terminalSum, heavy}
 use Rattle.sums.specs.Layers.{standardSum}
 use Rattle.sums.specs.declared.G.the-variants as g
@@ -49,7 +49,7 @@ use Rattle.shared_streams.proofs.Values.{holds-by}
 use Rattle.shared_streams.proofs.Same.{holds-reordered, same-values}
 use Rattle.shared_streams.proofs.Calls.{LentBy, lent-view, lent-off, lent-fresh}
 use Rattle.shared_streams.proofs.Takes.{takes-all}
-use Rattle.shared_streams.proofs.Acceptance.{feed-answers}
+use Rattle.shared_streams.proofs.Acceptance.{feed-list-answers}
 use Rattle.shared_streams.proofs.Sent.{Hashed, hashed, botBy, sent-times}
 use Rattle.shared_streams.proofs.Standard.{standard-counts}
 use Rattle.shared_streams.proofs.Terminal.{terminal-counts}
@@ -140,9 +140,9 @@ formed-by sh v b s r =
       pastFlags = r .pastFlags;
     }
 
-lent-same : (k : Kind) (r : Lent) (words : List ℕ) (w : ℤ) → Headed (r .head) → lentUpdateCall k r words w ≡ updateCall k r words w
-unfolding lentUpdateCall updateCall
-lent-same k r words w h = rw (eq-eqb (length (r .head .lens)) maxLayers (h .lens), eq-eqb (length (r .head .flags)) maxLayers (h .flags)) refl
+lent-same : (k : Kind) (r : Lent) (words : List ℕ) (w : ℤ) (n : ℕ) → Headed (r .head) → lentUpdateListCall k r words w n ≡ updateListCall k r words w n
+unfolding lentUpdateListCall updateListCall lentUpdateCall updateCall
+lent-same k r words w n h = rw (eq-eqb (length (r .head .lens)) maxLayers (h .lens), eq-eqb (length (r .head .flags)) maxLayers (h .flags)) refl
 
 -- ---- a fresh relay that takes the book in any order
 
@@ -170,8 +170,8 @@ module _ (sh : Shape) (v : shapeRefusal sh ≡ 0) (r : Relay) (x : LentBy sh (r 
         holds = subst (Holds sh (r .book)) (sym (x .is)) (holds-by sh (r .book) (x .state) (x .by));
         mode = ap (λ (z : Lent). z .head .mode) (x .is) ∙ x .by .mode;
         alone = alone;
-        feeds = feed-answers sh v (r .book) (r .lends) x;
-        lent = λ k words w. lent-same k (r .lends) words w (subst (λ (z : Lent). Headed (z .head)) (sym (x .is)) (headed-by (x .state) (x .by .sized)));
+        feeds = feed-list-answers sh v (r .book) (r .lends) x;
+        lent = λ f. lent-same (f .kind) (r .lends) (f .words) (f .weight) (length (f .list)) (subst (λ (z : Lent). Headed (z .head)) (sym (x .is)) (headed-by (x .state) (x .by .sized)));
         answered = ap (λ (a : Answer). a .refusal) call;
         counted = λ one few.
             record {

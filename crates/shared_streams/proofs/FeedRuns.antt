@@ -15,7 +15,8 @@ use Rattle.words.proofs.Lists.{all-append, all-left, all-right}
 use Rattle.header.specs.declared.Shape.{Shape}
 use Rattle.layout.specs.Slices.{Lent, freshLent}
 use Rattle.layout.specs.Outcomes.{Outcome}
-use Rattle.univmon_merge.specs.Merges.{mergeCall}
+use Rattle.layout.proofs.ListCalls.{list-yes}
+use Rattle.univmon_merge.specs.Merges.{mergeCall, mergeListCall}
 use Rattle.shared_streams.specs.Feeds.{Way, Relay, Call, feed, join, freshRelay, start, relayAt, retirements, live, joinable, names, fed, joinedBy, retire, joinedTo, ifAccepted, called, step, run, entered, accepted}
 
 -- what a book says of a header and slices, and that calls keep it
@@ -77,7 +78,7 @@ module _ {A E : Type 0} (way : Way A E) (sh : Shape) (By : List E → Lent → T
   -- ---- one call
 
   call-good : (rs : List (Relay E)) (c : Call A) → names (retirements rs) c ≡ true → All P (entered way sh rs c) → Every By P sh rs → Every By P sh (called way sh rs c)
-  unfolding called
+  unfolding called mergeListCall
   call-good rs (feed i a) n p h = set-good rs i (fed r e (way .act a (r .lends))) h (one (way .act a (r .lends)) refl p)
     where
       r : Relay E
@@ -92,7 +93,7 @@ module _ {A E : Type 0} (way : Way A E) (sh : Shape) (By : List E → Lent → T
       one : (o : Outcome) → way .act a (relayAt sh rs i .lends) ≡ o → All P (ifAccepted (way .enter a) o) → Good By P (fed (relayAt sh rs i) (way .enter a) o)
       one (Outcome.no m) q z = own
       one (Outcome.yes t) q z = record { lent = keeps .fed a (r .book) (r .lends) t (own .lent) q; all = all-append P (r .book) (e ∷ []) (own .all) z }
-  call-good rs (join i j) n p h = one (mergeCall (a .lends) (b .lends)) refl
+  call-good rs (join i j list) n p h = one (mergeListCall (a .lends) (b .lends) (length list)) refl
     where
       a : Relay E
       a = relayAt sh rs i
@@ -106,14 +107,14 @@ module _ {A E : Type 0} (way : Way A E) (sh : Shape) (By : List E → Lent → T
       second : Good By P (relayAt sh rs j)
       second = h j (live-lt rs j (pair rs i j n .second))
 
-      whole : (t : Lent) → mergeCall (relayAt sh rs i .lends) (relayAt sh rs j .lends) ≡ Outcome.yes t → Good By P (joinedBy (relayAt sh rs i) (relayAt sh rs j) t)
+      whole : (t : Lent) → mergeListCall (relayAt sh rs i .lends) (relayAt sh rs j .lends) (length list) ≡ Outcome.yes t → Good By P (joinedBy (relayAt sh rs i) (relayAt sh rs j) t)
       whole t q =
           record {
-            lent = keeps .joined (a .book) (b .book) (a .lends) (b .lends) t (first .lent) (second .lent) q;
+            lent = keeps .joined (a .book) (b .book) (a .lends) (b .lends) t (first .lent) (second .lent) (list-yes _ (length list) (mergeCall (a .lends) (b .lends)) t q .0);
             all = all-append P (a .book) (b .book) (first .all) (second .all);
           }
 
-      one : (o : Outcome) → mergeCall (relayAt sh rs i .lends) (relayAt sh rs j .lends) ≡ o → Every By P sh (joinedTo rs i j (relayAt sh rs i) (relayAt sh rs j) o)
+      one : (o : Outcome) → mergeListCall (relayAt sh rs i .lends) (relayAt sh rs j .lends) (length list) ≡ o → Every By P sh (joinedTo rs i j (relayAt sh rs i) (relayAt sh rs j) o)
       one (Outcome.no m) q = h
       one (Outcome.yes t) q = set-good (set rs j (retire b)) i (joinedBy a b t) (set-good rs j (retire b) h (record { lent = second .lent; all = second .all })) (whole t q)
 
@@ -147,7 +148,7 @@ module _ {A E : Type 0} (way : Way A E) (sh : Shape) where
       go : (b : Bool) → length (cond b (called way sh rs (feed i a)) rs) ≡ length rs
       go true = simp length-set
       go false = refl
-  step-length rs (join i j) = let c : Call A = join i j in go (names (retirements rs) c) (mergeCall (relayAt sh rs i .lends) (relayAt sh rs j .lends))
+  step-length rs (join i j list) = let c : Call A = join i j list in go (names (retirements rs) c) (mergeListCall (relayAt sh rs i .lends) (relayAt sh rs j .lends) (length list))
     where
       go : (b : Bool) (o : Outcome) → length (cond b (joinedTo rs i j (relayAt sh rs i) (relayAt sh rs j) o) rs) ≡ length rs
       go true (Outcome.no m) = refl

@@ -3,7 +3,7 @@ use mathlib.Core.Path.{_≡_, refl, sym, ap, ap₂, _∙_, subst}
 use Prim.Native.Nat.{ℕ}
 use mathlib.Core.Bool.{Bool, true, false, cond}
 use mathlib.Core.List.{List, [], _∷_, _++_, map}
-use lib.ListN.{set, replicate, List·getD-map}
+use lib.ListN.{length, set, replicate, List·getD-map}
 use lib.Dec.{eqb}
 use borrow.Author.Tests.{eq-eqb, ne-eqb}
 use Rattle.words.specs.Lists.{All}
@@ -11,16 +11,16 @@ use Rattle.words.proofs.Lists.{map-set, map-replicate}
 use Rattle.header.specs.declared.Shape.{Shape}
 use Rattle.header.specs.Shape.{shapeRefusal}
 use Rattle.layout.specs.Outcomes.{Outcome}
-use Rattle.univmon_merge.specs.Merges.{mergeCall}
+use Rattle.univmon_merge.specs.Merges.{mergeListCall}
 use Rattle.shared_streams.specs.Books.{Update, Book}
 use Rattle.shared_streams.specs.Feeds.{freshRelay, start, relayAt, feed, join, retirements, joinable, names, fed, joinedTo, called, ifAccepted}
 use Rattle.shared_streams.specs.Feeds as feeds
 use Rattle.shared_streams.specs.Relays.{Feed, updating, Relay, Call, step, run, accepted}
-use Rattle.shared_streams.specs.Ledger.{answeredWith, joinNumber, Answers, Account, opened, accountOf, accountAt, withEntry, united, booked, gone, bookStep, ledger, books, acceptedOne, acceptedAll}
+use Rattle.shared_streams.specs.Ledger.{answeredWith, joinedWith, Answers, Account, opened, accountOf, accountAt, withEntry, united, booked, gone, bookStep, ledger, books, acceptedOne, acceptedAll}
 use Rattle.shared_streams.proofs.FeedRuns.{live-lt, pair, step-good, start-good}
 use Rattle.shared_streams.proofs.Runs.{kept-by, Every}
 use Rattle.shared_streams.proofs.Calls.{LentBy}
-use Rattle.shared_streams.proofs.Acceptance.{feed-answers, join-answers}
+use Rattle.shared_streams.proofs.Acceptance.{feed-list-answers, join-list-answers}
 
 map-map : (rs : List Relay) → gone (map accountOf rs) ≡ retirements rs
 map-map [] = refl
@@ -57,15 +57,16 @@ module _ (sh : Shape) (v : shapeRefusal sh ≡ 0) where
       → Answers (updating .act f (relayAt sh rs i .lends)) (answeredWith sh (accountAt (map accountOf rs) i .book) f)
   feeds-by rs h i f q =
       subst (λ (a : Account). Answers (updating .act f (relayAt sh rs i .lends)) (answeredWith sh (a .book) f)) (sym (account-at rs i))
-      (feed-answers sh v (relayAt sh rs i .book) (relayAt sh rs i .lends) (h i (live-lt rs i q) .lent) (f .kind) (f .words) (f .weight))
+      (feed-list-answers sh v (relayAt sh rs i .book) (relayAt sh rs i .lends) (h i (live-lt rs i q) .lent) f)
 
-  joins : (rs : List Relay) → Every Any sh rs → (i j : ℕ) → joinable (retirements rs) i j ≡ true
-      → Answers (mergeCall (relayAt sh rs i .lends) (relayAt sh rs j .lends)) (joinNumber (accountAt (map accountOf rs) i .book) (accountAt (map accountOf rs) j .book))
-  joins rs h i j q =
-      subst (λ (n : ℕ). Answers (mergeCall (relayAt sh rs i .lends) (relayAt sh rs j .lends)) n)
-      (sym (ap₂ (λ (a b : Account). joinNumber (a .book) (b .book)) (account-at rs i) (account-at rs j)))
-      (join-answers sh v (relayAt sh rs i .book) (relayAt sh rs j .book) (relayAt sh rs i .lends) (relayAt sh rs j .lends)
-      (h i (live-lt rs i (pair rs i j q .first)) .lent) (h j (live-lt rs j (pair rs i j q .second)) .lent))
+  joins : (rs : List Relay) → Every Any sh rs → (i j : ℕ) (list : List ℕ) → joinable (retirements rs) i j ≡ true
+      → Answers (mergeListCall (relayAt sh rs i .lends) (relayAt sh rs j .lends) (length list))
+      (joinedWith sh (accountAt (map accountOf rs) i .book) (accountAt (map accountOf rs) j .book) list)
+  joins rs h i j list q =
+      subst (λ (n : ℕ). Answers (mergeListCall (relayAt sh rs i .lends) (relayAt sh rs j .lends) (length list)) n)
+      (sym (ap₂ (λ (a b : Account). joinedWith sh (a .book) (b .book) list) (account-at rs i) (account-at rs j)))
+      (join-list-answers sh v (relayAt sh rs i .book) (relayAt sh rs j .book) (relayAt sh rs i .lends) (relayAt sh rs j .lends)
+      (h i (live-lt rs i (pair rs i j q .first)) .lent) (h j (live-lt rs j (pair rs i j q .second)) .lent) list)
 
   called-accounts : (rs : List Relay) → Every Any sh rs → (c : Call) → names (retirements rs) c ≡ true → map accountOf (called updating sh rs c) ≡ booked sh (map accountOf rs) c
   unfolding called booked
@@ -75,15 +76,15 @@ module _ (sh : Shape) (v : shapeRefusal sh ≡ 0) where
       let n : ℕ = answeredWith sh (accountAt (map accountOf rs) i .book) f in
       map-set accountOf rs i (fed r e (updating .act f (r .lends)))
       ∙ ap (λ (a : Account). set (map accountOf rs) i a) (fed-account r e (updating .act f (r .lends)) n (feeds-by rs h i f q) ∙ ap (λ (a : Account). withEntry n a e) (sym (account-at rs i)))
-  called-accounts rs h (join i j) q =
-      let n : ℕ = joinNumber (accountAt (map accountOf rs) i .book) (accountAt (map accountOf rs) j .book) in
-      joined-accounts rs i j (relayAt sh rs i) (relayAt sh rs j) (mergeCall (relayAt sh rs i .lends) (relayAt sh rs j .lends)) n (joins rs h i j q)
+  called-accounts rs h (join i j list) q =
+      let n : ℕ = joinedWith sh (accountAt (map accountOf rs) i .book) (accountAt (map accountOf rs) j .book) list in
+      joined-accounts rs i j (relayAt sh rs i) (relayAt sh rs j) (mergeListCall (relayAt sh rs i .lends) (relayAt sh rs j .lends) (length list)) n (joins rs h i j list q)
       ∙ ap₂ (united n (map accountOf rs) i j) (sym (account-at rs i)) (sym (account-at rs j))
 
   called-accepted : (rs : List Relay) → Every Any sh rs → (c : Call) → names (retirements rs) c ≡ true → feeds.entered updating sh rs c ≡ acceptedOne sh (map accountOf rs) c
   called-accepted rs h (feed i f) q =
       entry-of (updating .enter f) (updating .act f (relayAt sh rs i .lends)) (answeredWith sh (accountAt (map accountOf rs) i .book) f) (feeds-by rs h i f q)
-  called-accepted rs h (join i j) q = refl
+  called-accepted rs h (join i j list) q = refl
 
   -- a choice by whether the call may be listed: relays and their accounts make it alike
   listed-alike : {A : Type 0} (rs : List Relay) (c : Call) (x y d e : A) → (names (retirements rs) c ≡ true → x ≡ y) → d ≡ e

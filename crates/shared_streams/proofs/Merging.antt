@@ -16,15 +16,15 @@ use Rattle.header.specs.Totals.{addTotals}
 use Rattle.header.proofs.Bounds.{Within, totals-off}
 use Rattle.layout.specs.Slices.{Lent}
 use Rattle.layout.specs.Outcomes.{Outcome}
-use Rattle.univmon_merge.specs.Merges.{mergeCall}
+use Rattle.univmon_merge.specs.Merges.{mergeCall, mergeListCall}
 use Rattle.shared_streams.specs.Books.{Update, Book, Among, OneMode, weightOf, totalsOf}
 use Rattle.shared_streams.specs.Feeds.{freshRelay, feed, join, start, relayAt, retirements, joinable, names, fed, joinedBy, retire, joinedTo, called, ifAccepted, entered}
 use Rattle.shared_streams.specs.Feeds as feeds
 use Rattle.shared_streams.specs.Relays.{updating, Relay, Call, step, run, accepted}
-use Rattle.shared_streams.specs.Ledger.{joinTests, joinNumber, Answers}
+use Rattle.shared_streams.specs.Ledger.{joinTests, joinNumber, joinPlaces, Answers}
 use Rattle.shared_streams.specs.SharedStreams.{Premises}
 use Rattle.shared_streams.proofs.BookLaws.{books-clear, weight-append, no-weight}
-use Rattle.shared_streams.proofs.Acceptance.{join-answers}
+use Rattle.shared_streams.proofs.Acceptance.{join-answers, merge-long}
 use Rattle.shared_streams.proofs.FeedRuns.{Pair, live-lt, live-not, pair, run-length}
 use Rattle.shared_streams.proofs.Runs.{Good, run-by}
 
@@ -86,7 +86,7 @@ module _ (size : Book → ℕ) (empty : size [] ≡ 0) (append : (a b : Book) �
         go (Outcome.yes t) =
             let s : Relay = record { lends = t; book = r .book ++ (e ∷ []); retired = r .retired } in
             omega (arith, append (r .book) (e ∷ []), live-own r (live-not rs sh i n), live-own s (live-not rs sh i n), set-total rs i s (freshRelay sh) (live-lt rs i n))
-    call-total rs (join i j) n = go (mergeCall (a .lends) (b .lends))
+    call-total rs (join i j list) n = go (mergeListCall (a .lends) (b .lends) (length list))
       where
         a : Relay
         a = relayAt sh rs i
@@ -198,7 +198,11 @@ module _ (sh : Shape) (v : shapeRefusal sh ≡ 0) (n : ℕ) (calls : List Call) 
   unfolding joinNumber
   none = number-off (joinTests a b) (books-clear a b one, totals-off (totalsOf a) (totalsOf b) within)
 
-  pub no-merge-refused : (u : Lent) × (mergeCall (relayAt sh (run sh (start sh n) calls) i .lends) (relayAt sh (run sh (start sh n) calls) j .lends) ≡ Outcome.yes u)
-  no-merge-refused =
+  took : (u : Lent) × (mergeCall (relayAt sh (run sh (start sh n) calls) i .lends) (relayAt sh (run sh (start sh n) calls) j .lends) ≡ Outcome.yes u)
+  took =
       accepts (mergeCall (relayAt sh rs i .lends) (relayAt sh rs j .lends))
       (subst (Answers (mergeCall (relayAt sh rs i .lends) (relayAt sh rs j .lends))) none (join-answers sh v a b (relayAt sh rs i .lends) (relayAt sh rs j .lends) (x .lent) (y .lent)))
+
+  pub no-merge-refused : (list : List ℕ) → joinPlaces sh ≤ length list
+      → (u : Lent) × (mergeListCall (relayAt sh (run sh (start sh n) calls) i .lends) (relayAt sh (run sh (start sh n) calls) j .lends) (length list) ≡ Outcome.yes u)
+  no-merge-refused list h = (took .0, merge-long sh a (relayAt sh rs i .lends) (relayAt sh rs j .lends) (x .lent) list h ∙ took .1)

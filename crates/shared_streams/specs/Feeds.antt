@@ -8,7 +8,7 @@ use lib.Dec.{ltb, eqb}
 use Rattle.header.specs.declared.Shape.{Shape}
 use Rattle.layout.specs.Slices.{Lent, freshLent}
 use Rattle.layout.specs.Outcomes.{Outcome}
-use Rattle.univmon_merge.specs.Merges.{mergeCall}
+use Rattle.univmon_merge.specs.Merges.{mergeListCall}
 
 -- how relays are fed: what is asked of one (A), and what an accepted one enters into its book (E)
 pub record Way (A E : Type 0) : Type 0 where
@@ -21,10 +21,10 @@ pub record Relay (E : Type 0) : Type 0 where
   pub book : List E
   pub retired : Bool
 
--- what is asked of relay i; a merge of a second relay into a first
+-- what is asked of relay i; a merge of a second relay into a first, with the list that it is lent
 pub data Call (A : Type 0) : Type 0 where
   feed : ℕ → A → Call A
-  join : ℕ → ℕ → Call A
+  join : ℕ → ℕ → List ℕ → Call A
 
 module _ {E : Type 0} (sh : Shape) where
   -- "Each relay starts as an accepted `new` of the one shape left it." and its book "starts empty"
@@ -54,7 +54,7 @@ joinable gone i j = live gone i && live gone j && not (eqb i j)
 -- a call that may be listed: it names relays that are not retired, and not one relay twice
 abbrev pub names : {A : Type 0} → List Bool → Call A → Bool
 names gone (feed i a) = live gone i
-names gone (join i j) = joinable gone i j
+names gone (join i j list) = joinable gone i j
 
 -- ---- what a call leaves; "Accepted means that no refusal of these papers applies": the outcome is `yes`
 
@@ -85,7 +85,8 @@ module _ {A E : Type 0} (way : Way A E) (sh : Shape) where
   -- the relays after a call
   unfoldable pub called : List (Relay E) → Call A → List (Relay E)
   called rs (feed i a) = set rs i (fed (relayAt sh rs i) (way .enter a) (way .act a (relayAt sh rs i .lends)))
-  called rs (join i j) = joinedTo rs i j (relayAt sh rs i) (relayAt sh rs j) (mergeCall (relayAt sh rs i .lends) (relayAt sh rs j .lends))
+  called rs (join i j list) =
+      joinedTo rs i j (relayAt sh rs i) (relayAt sh rs j) (mergeListCall (relayAt sh rs i .lends) (relayAt sh rs j .lends) (length list))
 
   -- a call that may not be listed changes nothing
   abbrev pub step : List (Relay E) → Call A → List (Relay E)
@@ -104,7 +105,7 @@ module _ {A E : Type 0} (way : Way A E) (sh : Shape) where
   -- what an accepted call enters into a book; a merge enters nothing new
   abbrev pub entered : List (Relay E) → Call A → List E
   entered rs (feed i a) = ifAccepted (way .enter a) (way .act a (relayAt sh rs i .lends))
-  entered rs (join i j) = []
+  entered rs (join i j list) = []
 
   -- all that the accepted calls of a list entered
   unfoldable pub accepted : List (Relay E) → List (Call A) → List E

@@ -1,12 +1,12 @@
 -- The books of a list of calls from the list alone: no header and no slice is asked.
 -- "Each relay has a book, its stream, made from the calls' arguments and from whether each was accepted."
-use Prim.Native.Nat.{ℕ}
+use Prim.Native.Nat.{ℕ, _*_}
 use mathlib.Core.Path.{_≡_}
 use mathlib.Core.Bool.{Bool, true, false, cond}
 use mathlib.Core.List.{List, [], _∷_, _++_, map}
 use lib.ListN.{length, getD, set, replicate}
 use lib.IntN.{ℤ}
-use lib.Dec.{eqb}
+use lib.Dec.{eqb, ltb}
 use Rattle.words.specs.Tests.{number}
 use Rattle.header.specs.declared.Shape.{Shape}
 use Rattle.header.specs.declared.Scalars.{Scalars}
@@ -33,8 +33,19 @@ feedTests sh b k words w = recordTest sh (length words) ∷ beginTests (scalarsB
 unfoldable pub feedNumber : Shape → Book → Kind → List ℕ → ℤ → ℕ
 feedNumber sh b k words w = number (feedTests sh b k words w)
 
+-- "A shorter list is 16, last.": with a list of n words, where `least` are asked for and m is what the call is answered with but for its list
+unfoldable pub listNumber : ℕ → ℕ → ℕ → ℕ
+listNumber least n m = cond (eqb m 0) (cond (ltb n least) 16 0) m
+
+-- the words of an update's list, and of a merge's
+abbrev pub feedPlaces : Shape → ℕ
+feedPlaces sh = 2 * sh .layers
+
+abbrev pub joinPlaces : Shape → ℕ
+joinPlaces sh = 4 * sh .«heap_size» * sh .layers
+
 abbrev pub answeredWith : Shape → Book → Feed → ℕ
-answeredWith sh b f = feedNumber sh b (f .kind) (f .words) (f .weight)
+answeredWith sh b f = listNumber (feedPlaces sh) (length (f .list)) (feedNumber sh b (f .kind) (f .words) (f .weight))
 
 -- a merge of a second relay into a first, both of one shape: 6 "mode mixed in .. merge", 7 and 14
 abbrev pub joinTests : Book → Book → List (Bool × ℕ)
@@ -42,6 +53,9 @@ joinTests a b = (clash (bookMode a) (bookMode b), 6) ∷ totalsTests (totalsOf a
 
 unfoldable pub joinNumber : Book → Book → ℕ
 joinNumber a b = number (joinTests a b)
+
+abbrev pub joinedWith : Shape → Book → Book → List ℕ → ℕ
+joinedWith sh a b list = listNumber (joinPlaces sh) (length list) (joinNumber a b)
 
 -- a call with that outcome is refused with n, which is not 0; or it is accepted, and n is 0
 abbrev pub Answers : Outcome → ℕ → Type 0
@@ -77,7 +91,7 @@ united n xs i j a b =
 
 unfoldable pub booked : Shape → List Account → Call → List Account
 booked sh xs (feed i f) = set xs i (withEntry (answeredWith sh (accountAt xs i .book) f) (accountAt xs i) (updating .enter f))
-booked sh xs (join i j) = united (joinNumber (accountAt xs i .book) (accountAt xs j .book)) xs i j (accountAt xs i) (accountAt xs j)
+booked sh xs (join i j list) = united (joinedWith sh (accountAt xs i .book) (accountAt xs j .book) list) xs i j (accountAt xs i) (accountAt xs j)
 
 -- who is retired
 abbrev pub gone : List Account → List Bool
@@ -99,7 +113,7 @@ books sh n calls = ledger sh (replicate n opened) calls
 
 abbrev pub acceptedOne : Shape → List Account → Call → Book
 acceptedOne sh xs (feed i f) = cond (eqb (answeredWith sh (accountAt xs i .book) f) 0) (updating .enter f ∷ []) []
-acceptedOne sh xs (join i j) = []
+acceptedOne sh xs (join i j list) = []
 
 unfoldable pub acceptedAll : Shape → List Account → List Call → Book
 acceptedAll sh xs [] = []

@@ -160,11 +160,11 @@ pub over-whole : (f : ℕ → Layer → Layer) (k l : ℕ) (s : State) → Whole
 over-whole f k l s w room g =
     record {
       sized = o .sized;
-      shape = ap shapeRefusal (o .shape) ∙ w .shape;
-      totals = subst Within (sym (o .totals)) (w .totals);
-      pastLens = λ m h. o .pastLens m (here m h) ∙ w .pastLens m (here m h);
-      pastFlags = λ m h. o .pastFlags m (here m h) ∙ w .pastFlags m (here m h);
-      layers = subst (λ (sh : Shape). (m : ℕ) → m < sh .layers → Whole (dimsAt sh m) (layerAt t m)) (sym (o .shape)) (λ m h. at m h (decLt m l) (decLt m (l + k)));
+      shape = ap shapeRefusal (o .head .shape) ∙ w .shape;
+      totals = subst Within (sym (o .head .totals)) (w .totals);
+      pastLens = λ m h. o .head .pastLens m (here m h) ∙ w .pastLens m (here m h);
+      pastFlags = λ m h. o .head .pastFlags m (here m h) ∙ w .pastFlags m (here m h);
+      layers = subst (λ (sh : Shape). (m : ℕ) → m < sh .layers → Whole (dimsAt sh m) (layerAt t m)) (sym (o .head .shape)) (λ m h. at m h (decLt m l) (decLt m (l + k)));
     }
   where
     t : State
@@ -177,7 +177,7 @@ over-whole f k l s w room g =
     o = over f k l s (w .sized) room (λ m p q. new m p q .fits)
 
     here : (m : ℕ) → overLayers f k l s .head .shape .layers ≤ m → s .head .shape .layers ≤ m
-    here m h = subst (λ (sh : Shape). sh .layers ≤ m) (o .shape) h
+    here m h = subst (λ (sh : Shape). sh .layers ≤ m) (o .head .shape) h
 
     at : (m : ℕ) → m < s .head .shape .layers → Dec (m < l) → Dec (m < l + k) → Whole (dimsAt (s .head .shape) m) (layerAt (overLayers f k l s) m)
     at m h (yes p) q = subst (Whole (dimsAt (s .head .shape) m)) (sym (o .before m p h)) (w .layers m h)

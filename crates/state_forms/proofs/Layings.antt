@@ -5,7 +5,7 @@ use mathlib.Core.List.{List, [], _∷_, _++_, append-assoc}
 use Prim.Native.Nat.{ℕ, suc, _+_, _-_, _*_, _≤_, _<_}
 use native.Mathlib.Nat.{suc-mul}
 use lib.IntN.{ℤ, pos}
-use lib.ListN.{length, getD, set, take, drop, replicate, length-append, length-replicate, drop-of-length-le}
+use lib.ListN.{length, getD, set, take, drop, length-append, drop-of-length-le}
 use lib.Seq.{sets, length-sets, sets-eq, set-out, drop-cons, drop-drop, getD-take, length-take-le, take-append-seam}
 use native.Mathlib.Omega.{arith}
 use native.Mathlib.Numerals.{add-one}
@@ -45,13 +45,12 @@ byte-in l i b = record { text = refl; place = omega arith }
 pub byte-out : (l : List ℕ) (i b : ℕ) → length l ≤ i → LaidText l i (b ∷ []) l (i + 1)
 byte-out l i b h = record { text = sym (set-out l i b h); place = omega arith }
 
--- a text that was put at the start of n bytes
-pub put-part : (n : ℕ) (a o : List ℕ) (k : ℕ) → length a ≤ n → o ≡ sets (replicate n 0) 0 a → k ≡ 0 + length a → take k o ≡ a
-put-part n a o k h e f =
-    let bs : List ℕ = replicate n 0 in
-    let z : 0 + length a ≤ length bs = omega (arith, length-replicate {A = ℕ} n 0) in
+-- a text that was put at the start of a list with room for it
+pub put-part : (l a o : List ℕ) (k : ℕ) → length a ≤ length l → o ≡ sets l 0 a → k ≡ 0 + length a → take k o ≡ a
+put-part l a o k h e f =
+    let z : 0 + length a ≤ length l = omega arith in
     let y : k ≡ length a = omega (arith, f) in
-    rw (y, e, sets-eq a bs 0 z) (take-append-seam a (drop (0 + length a) bs))
+    rw (y, e, sets-eq a l 0 z) (take-append-seam a (drop (0 + length a) l))
 
 -- ---- a loop: what is left, laid from here on, gives the whole
 

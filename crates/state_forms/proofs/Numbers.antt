@@ -1,4 +1,4 @@
--- Words, decimals and signedDec decimals are exact formats. Assumes nothing.
+-- Words, decimals and signed decimals are exact formats. Assumes nothing.
 use mathlib.Core.Path.{_≡_, refl, sym, ap, subst, _∙_}
 use mathlib.Core.Bool.{Bool, true, false, cond}
 use mathlib.Core.List.{List, [], _∷_, _++_, append-assoc}

@@ -32,7 +32,7 @@ bracket-stops = refl
 
 -- ---- ` (C V)`
 
-abbrev InR : ℤ → Type 0
+abbrev pub InR : ℤ → Type 0
 InR z = inRange z ≡ true
 
 pub cell-exact : Exact Any cellFormat

@@ -11,8 +11,9 @@ use Rattle.state_forms.specs.Grammar.{keyFormat, keysR}
 use Rattle.state_lines.specs.inner.Places.{forget, howMany}
 use Rattle.state_forms.proofs.Exactness.{never-got, got-left}
 
-abbrev pub same : List Cand → List Cand
-same cs = cs
+-- what is put is the values themselves
+abbrev pub same : {A : Type 0} → List A → List A
+same xs = xs
 
 module _ (l : ℕ) (s : List ℕ) where
   pub no-key : (n : ℕ) → isPrefix (bytesOf "(key ") s ≡ false → keysR l n s ≡ got [] s

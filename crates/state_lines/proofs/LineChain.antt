@@ -2,13 +2,13 @@
 use mathlib.Core.Path.{_≡_, sym, ap, _∙_}
 use mathlib.Core.Bool.{true, false}
 use mathlib.Core.List.{List, [], _∷_}
-use Prim.Native.Nat.{ℕ, suc, _+_, _-_, _≤_, _<_}
+use Prim.Native.Nat.{ℕ, suc, _+_, _-_, _≤_}
 use native.Mathlib.Omega.{arith}
 use lib.Dec.{eqb, leb}
 use lib.ListN.{length, drop}
 use lib.Seq.{drop-drop, drop-append-seam}
 use Rattle.words.specs.Num.{top}
-use Rattle.text.specs.Words.{bytesOf, isPrefix}
+use Rattle.text.specs.Words.{bytesOf}
 use Rattle.text.specs.Decimals.{dec, fieldAt}
 use Rattle.text.specs.declared.decimals.Num.the-variants as N
 use Rattle.text.proofs.DecReads.{field-reads}
@@ -17,17 +17,11 @@ use Rattle.state_forms.specs.Formats.{Got, got, bad, thenRead, wordR, numR}
 use Rattle.state_forms.specs.Grammar.{numLine, headFormat, flagFormat}
 use Rattle.state_forms.proofs.Exactness.{goes-on}
 use Rattle.state_forms.proofs.Rows.{space-stops}
-use Rattle.state_lines.proofs.Spots.{word-room}
 use Rattle.state_lines.specs.inner.Places.{rowHeadR}
 
 pub stays-bad : {A B : Type 0} (g : Got A) (f : A → List ℕ → Got B) → g ≡ bad → thenRead g f ≡ bad
 unfolding thenRead
 stays-bad g f e = rw e
-
--- a word that is not empty ends within the text
-pub word-ends : (w s : List ℕ) (i : ℕ) → 0 < length w → isPrefix w (drop i s) ≡ true → i + length w ≤ length s
-word-ends [] s i h e = absurd (omega arith)
-word-ends (b ∷ w) s i h e = word-room b w s i e
 
 module _ (w : List ℕ) (most : ℕ) (s : List ℕ) where
   pub line-0 : wordR w s ≡ bad → numLine w most .read s ≡ bad

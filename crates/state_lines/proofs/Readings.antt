@@ -15,11 +15,8 @@ use Rattle.state_forms.specs.Formats.{Got, got, bad}
 use Rattle.state_forms.specs.Sparse.{sparseR}
 use Rattle.state_forms.specs.Grammar.{cellFormat, cellListing}
 use Rattle.state_lines.specs.inner.Places.{forget}
+use Rattle.state_lines.proofs.KeyWalk.{same}
 use Rattle.state_lines.proofs.Walks.{StopsBad, Unread, unread-start, unread-none, unread-bad, unread-out, unread-on}
-
--- the counters are the values themselves
-abbrev pub same : List ℤ → List ℤ
-same xs = xs
 
 abbrev pub CellsLeft : Got (List ℤ) → List ℤ → ℕ → List ℕ → ℕ → List ℤ → ℕ → ℕ → Type 0
 CellsLeft whole l₀ i₀ s cols l i c = Unread cellListing same whole l₀ i₀ s cols l i c

@@ -1,8 +1,8 @@
 -- Readings at places: what the crate `text` reads at a place is what a format reads of the rest of the text. Assumes nothing.
 use mathlib.Core.Path.{_≡_, refl, sym, ap, _∙_}
 use mathlib.Core.Bool.{Bool, true, false, cond, not, _&&_}
-use mathlib.Core.List.{List, _∷_}
-use Prim.Native.Nat.{ℕ, suc, _+_, _≤_}
+use mathlib.Core.List.{List}
+use Prim.Native.Nat.{ℕ, suc, _+_, _≤_, _<_}
 use lib.IntN.{ℤ}
 use lib.ListN.{length, drop, length-drop, length-append}
 use lib.Seq.{drop-drop}
@@ -30,9 +30,9 @@ pub word-off : (w s : List ℕ) (i : ℕ) → isPrefix w (drop i s) ≡ false �
 unfolding wordR
 word-off w s i e = rw e
 
--- a word that stands at a place ends within the text
-pub word-room : (b : ℕ) (w s : List ℕ) (i : ℕ) → isPrefix (b ∷ w) (drop i s) ≡ true → i + suc (length w) ≤ length s
-word-room b w s i e = omega (arith, length-drop i s, ap length (word-is (b ∷ w) (drop i s) e), length-append (b ∷ w) (drop (length (b ∷ w)) (drop i s)))
+-- a word that is not empty ends within the text
+pub word-ends : (w s : List ℕ) (i : ℕ) → 0 < length w → isPrefix w (drop i s) ≡ true → i + length w ≤ length s
+word-ends w s i h e = omega (arith, h, length-drop i s, ap length (word-is w (drop i s) e), length-append w (drop (length w) (drop i s)))
 
 module _ (stop : ℕ) (d : isDigit stop ≡ false) (s : List ℕ) (i : ℕ) where
   pub field-here : (n j : ℕ) → fieldAt s i stop ≡ N.At n j → numR stop (drop i s) ≡ got n (drop j s)

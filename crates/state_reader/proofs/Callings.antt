@@ -35,9 +35,8 @@ use Rattle.layout.specs.Outcomes.{left}
 use Rattle.state_text.specs.Calls.{unread, afterOthers, afterFirst, readCall}
 use Rattle.state_text.proofs.PageLaws.{page-whole}
 use Rattle.state_text.proofs.Alike.{alike}
-use Rattle.state_text.proofs.Built.{pages-at}
+use Rattle.state_text.proofs.Built.{pages-at, each}
 use Rattle.state_text.proofs.Restored.{small}
-use Rattle.state_reader.proofs.Keepings.{each}
 
 -- ---- the other lines
 
@@ -144,12 +143,15 @@ module _ (sh : Shape) (v : shapeRefusal sh ≡ 0) (hd : ℕ × (ℕ × ℕ)) whe
         let b = over-any (withHead (newState sh) head-by) base-sized refl in
         alike (overLayers (each sh ps) (sh .layers) 0 (withHead (newState sh) head-by)) (overLayers (each sh ps) (sh .layers) 0 (view (lent head-by xs ws es ns))) (b .sized) (a .sized)
         (record {
-          shape = a .shape ∙ sym (b .shape);
-          totals = a .totals ∙ sym (b .totals);
-          mode = a .mode ∙ sym (b .mode);
-          layers = λ i h. let g : i < sh .layers = subst (λ (x : Shape). i < x .layers) (b .shape) h in a .inside i (omega arith) (omega arith) ∙ sym (b .inside i (omega arith) (omega arith));
-          pastLens = λ i h. let g : sh .layers ≤ i = subst (λ (x : Shape). x .layers ≤ i) (b .shape) h in a .pastLens i g ∙ sym (b .pastLens i g);
-          pastFlags = λ i h. let g : sh .layers ≤ i = subst (λ (x : Shape). x .layers ≤ i) (b .shape) h in a .pastFlags i g ∙ sym (b .pastFlags i g);
+          head =
+              record {
+                shape = a .head .shape ∙ sym (b .head .shape);
+                totals = a .head .totals ∙ sym (b .head .totals);
+                mode = a .head .mode ∙ sym (b .head .mode);
+                pastLens = λ i h. let g : sh .layers ≤ i = subst (λ (x : Shape). x .layers ≤ i) (b .head .shape) h in a .head .pastLens i g ∙ sym (b .head .pastLens i g);
+                pastFlags = λ i h. let g : sh .layers ≤ i = subst (λ (x : Shape). x .layers ≤ i) (b .head .shape) h in a .head .pastFlags i g ∙ sym (b .head .pastFlags i g);
+              };
+          layers = λ i h. let g : i < sh .layers = subst (λ (x : Shape). i < x .layers) (b .head .shape) h in a .inside i (omega arith) (omega arith) ∙ sym (b .inside i (omega arith) (omega arith));
         })
 
 -- the slices after an accepted reading

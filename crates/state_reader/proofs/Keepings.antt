@@ -6,7 +6,6 @@ use native.Mathlib.Omega.{arith}
 use native.Mathlib.Numerals.{add-one}
 use lib.ListN.{getD, drop}
 use Rattle.header.specs.declared.Shape.{Shape}
-use Rattle.layer.specs.Layer.{Layer}
 use Rattle.layer.specs.declared.Dims.{Dims}
 use Rattle.layer.specs.inner.Needs.{Fits, Housed}
 use Rattle.layout.specs.State.{rowsAt, colsAt, dimsAt, putLayer, overLayers}
@@ -18,12 +17,10 @@ use Rattle.state_forms.specs.Grammar.{Page, Frame, pageFormat, pagesR}
 use Rattle.state_forms.proofs.Exactness.{got-value, got-left, steps}
 use Rattle.state_text.specs.Pages.{dimsOf, frameOf, layerFrom, noPage}
 use Rattle.state_text.proofs.PageLaws.{page-whole}
+use Rattle.state_text.proofs.Built.{each}
 use Rattle.state_text.proofs.Restored.{small}
 use Rattle.state_reader.specs.inner.Paged.{Legible}
 use Rattle.state_reader.proofs.PageSteps.{page-in}
-
-abbrev pub each : Shape → List Page → ℕ → Layer → Layer
-each sh ps l y = layerFrom (dimsOf sh) (getD ps l noPage)
 
 drop-is : (l : ℕ) (ps : List Page) (p : Page) (qs : List Page) → drop l ps ≡ p ∷ qs → (getD ps l noPage ≡ p) × (drop (suc l) ps ≡ qs)
 drop-is zero [] p qs e = let z : _≡_ {A = ℕ} 0 1 = cc in absurd (omega arith)

@@ -2,7 +2,7 @@
 use mathlib.Core.Path.{_≡_, refl, sym, ap, _∙_}
 use mathlib.Core.Bool.{Bool, false}
 use mathlib.Core.List.{List}
-use Prim.Native.Nat.{ℕ, zero, suc, _+_, _*_, _≤_, _<_}
+use Prim.Native.Nat.{ℕ, zero, suc, _+_, _*_, _<_}
 use native.Mathlib.Omega.{arith}
 use native.Mathlib.Decide.{decLt}
 use lib.ListN.{length, getD, take}
@@ -16,7 +16,7 @@ use Rattle.header.specs.declared.Mode.{Mode}
 use Rattle.header.specs.declared.Totals.{Totals}
 use Rattle.layer.specs.Layer.{Layer}
 use Rattle.layout.specs.State.{State, dimsAt, layerAt, cellOff, normOff, candOff}
-use Rattle.layout.proofs.Replaced.{Sized}
+use Rattle.layout.proofs.Replaced.{Sized, SameHead}
 
 -- two lists that agree in each of the parts that they are made of
 module _ {A : Type 0} (off size : ℕ → ℕ) (start : off 0 ≡ 0) (step : (l : ℕ) → off (suc l) ≡ off l + size l) (xs ys : List A) where
@@ -28,12 +28,8 @@ module _ {A : Type 0} (off size : ℕ → ℕ) (start : off 0 ≡ 0) (step : (l 
   by-parts n a b h = sym (take-all (off n) xs (omega (arith, a))) ∙ fronts n h ∙ take-all (off n) ys (omega (arith, b))
 
 pub record SameParts (s t : State) : Type 0 where
-  pub shape : t .head .shape ≡ s .head .shape
-  pub totals : t .head .totals ≡ s .head .totals
-  pub mode : t .head .mode ≡ s .head .mode
+  pub head : SameHead s t
   pub layers : (m : ℕ) → m < s .head .shape .layers → layerAt t m ≡ layerAt s m
-  pub pastLens : (m : ℕ) → s .head .shape .layers ≤ m → getD (t .head .lens) m 0 ≡ getD (s .head .lens) m 0
-  pub pastFlags : (m : ℕ) → s .head .shape .layers ≤ m → getD (t .head .flags) m false ≡ getD (s .head .flags) m false
 
 whole-path : {a a′ : Shape} {w w′ : Totals} {ns ns′ : List ℕ} {fs fs′ : List Bool} {m m′ : Mode} {c c′ : List ℤ} {n n′ : List ℕ} {k k′ : List Cand} → a ≡ a′ → w ≡ w′ → ns ≡ ns′ → fs ≡ fs′ → m ≡ m′ → c ≡ c′ → n ≡ n′ → k ≡ k′
     → _≡_ {A = State} (record { head = record { shape = a; totals = w; lens = ns; flags = fs; mode = m }; counters = c; norms = n; cands = k })
@@ -48,22 +44,22 @@ module _ (s t : State) (z : Sized s) (y : Sized t) (a : SameParts s t) where
   unfolding layerAt cellOff sumBelow
   same-counters =
       by-parts (cellOff sh) (λ m. dimsAt sh m .rows * dimsAt sh m .cols) refl (λ l. refl) (t .counters) (s .counters) (sh .layers)
-      (y .counters ∙ ap (λ (q : Shape). cellOff q (q .layers)) (a .shape)) (z .counters)
-      (λ m h. sym (ap (λ (q : Shape). part (cellOff q m) (dimsAt q m .rows * dimsAt q m .cols) (t .counters)) (a .shape)) ∙ ap (λ (q : Layer). q .sketch .cells) (a .layers m h))
+      (y .counters ∙ ap (λ (q : Shape). cellOff q (q .layers)) (a .head .shape)) (z .counters)
+      (λ m h. sym (ap (λ (q : Shape). part (cellOff q m) (dimsAt q m .rows * dimsAt q m .cols) (t .counters)) (a .head .shape)) ∙ ap (λ (q : Layer). q .sketch .cells) (a .layers m h))
 
   same-norms : t .norms ≡ s .norms
   unfolding layerAt normOff sumBelow
   same-norms =
       by-parts (normOff sh) (λ m. dimsAt sh m .rows) refl (λ l. refl) (t .norms) (s .norms) (sh .layers)
-      (y .norms ∙ ap (λ (q : Shape). normOff q (q .layers)) (a .shape)) (z .norms)
-      (λ m h. sym (ap (λ (q : Shape). part (normOff q m) (dimsAt q m .rows) (t .norms)) (a .shape)) ∙ ap (λ (q : Layer). q .sketch .norms) (a .layers m h))
+      (y .norms ∙ ap (λ (q : Shape). normOff q (q .layers)) (a .head .shape)) (z .norms)
+      (λ m h. sym (ap (λ (q : Shape). part (normOff q m) (dimsAt q m .rows) (t .norms)) (a .head .shape)) ∙ ap (λ (q : Layer). q .sketch .norms) (a .layers m h))
 
   same-cands : t .cands ≡ s .cands
   unfolding layerAt candOff sumBelow
   same-cands =
       by-parts (candOff sh) (λ m. dimsAt sh m .size) refl (λ l. refl) (t .cands) (s .cands) (sh .layers)
-      (y .cands ∙ ap (λ (q : Shape). candOff q (q .layers)) (a .shape)) (z .cands)
-      (λ m h. sym (ap (λ (q : Shape). part (candOff q m) (dimsAt q m .size) (t .cands)) (a .shape)) ∙ ap (λ (q : Layer). q .table .cands) (a .layers m h))
+      (y .cands ∙ ap (λ (q : Shape). candOff q (q .layers)) (a .head .shape)) (z .cands)
+      (λ m h. sym (ap (λ (q : Shape). part (candOff q m) (dimsAt q m .size) (t .cands)) (a .head .shape)) ∙ ap (λ (q : Layer). q .table .cands) (a .layers m h))
 
   same-lens : t .head .lens ≡ s .head .lens
   unfolding layerAt
@@ -71,7 +67,7 @@ module _ (s t : State) (z : Sized s) (y : Sized t) (a : SameParts s t) where
     where
       one : (m : ℕ) → Dec (m < sh .layers) → getD (t .head .lens) m 0 ≡ getD (s .head .lens) m 0
       one m (yes h) = ap (λ (q : Layer). q .table .len) (a .layers m h)
-      one m (no h) = a .pastLens m (omega arith)
+      one m (no h) = a .head .pastLens m (omega arith)
 
   same-flags : t .head .flags ≡ s .head .flags
   unfolding layerAt
@@ -79,7 +75,7 @@ module _ (s t : State) (z : Sized s) (y : Sized t) (a : SameParts s t) where
     where
       one : (m : ℕ) → Dec (m < sh .layers) → getD (t .head .flags) m false ≡ getD (s .head .flags) m false
       one m (yes h) = ap (λ (q : Layer). q .flag) (a .layers m h)
-      one m (no h) = a .pastFlags m (omega arith)
+      one m (no h) = a .head .pastFlags m (omega arith)
 
   pub alike : t ≡ s
-  alike = whole-path (a .shape) (a .totals) same-lens same-flags (a .mode) same-counters same-norms same-cands
+  alike = whole-path (a .head .shape) (a .head .totals) same-lens same-flags (a .head .mode) same-counters same-norms same-cands

@@ -58,12 +58,13 @@ pages-are s (suc k) l (p ∷ ps) e h =
 
 -- ---- the state of a text
 
+-- each layer as its page says
+abbrev pub each : Shape → List Page → ℕ → Layer → Layer
+each sh ps l y = layerFrom (dimsOf sh) (getD ps l noPage)
+
 module _ (sh : Shape) (v : shapeRefusal sh ≡ 0) (d : Others) (i : othersFormat (frameOf (dimsOf sh)) (sh .layers) .In d) where
   base : State
   base = withHead (newState sh) (headFrom (newState sh .head) (d .0))
-
-  each : ℕ → Layer → Layer
-  each l y = layerFrom (dimsOf sh) (getD (d .1) l noPage)
 
   within : Within (record { weight = d .0 .0; updates = d .0 .1 .0 })
   within = record { light = leb-true (d .0 .0) top (i .0 .0 .1); few = leb-true (d .0 .1 .0) top (i .0 .1 .0 .1) }
@@ -78,28 +79,27 @@ module _ (sh : Shape) (v : shapeRefusal sh ≡ 0) (d : Others) (i : othersFormat
   layer-of : (m : ℕ) → m < sh .layers → Whole (dimsOf sh) (layerFrom (dimsOf sh) (getD (d .1) m noPage))
   layer-of m h = page-whole (dimsOf sh) 0 (getD (d .1) m noPage) (page-of m h)
 
-  built-over : Over each (sh .layers) 0 base (stateFrom sh d)
-  unfolding base each stateFrom newState freshHeader rowsAt colsAt
-  built-over = over each (sh .layers) 0 base (base-whole .sized) (omega arith) (λ m p q. layer-of m (omega arith) .fits)
+  built-over : Over (each sh (d .1)) (sh .layers) 0 base (stateFrom sh d)
+  unfolding base stateFrom newState freshHeader rowsAt colsAt
+  built-over = over (each sh (d .1)) (sh .layers) 0 base (base-whole .sized) (omega arith) (λ m p q. layer-of m (omega arith) .fits)
 
   pub built-whole : WholeState (stateFrom sh d)
-  unfolding base each stateFrom newState freshHeader rowsAt colsAt
-  built-whole = over-whole each (sh .layers) 0 base base-whole (omega arith) (λ m p q x. layer-of m (omega arith))
+  unfolding base stateFrom newState freshHeader rowsAt colsAt
+  built-whole = over-whole (each sh (d .1)) (sh .layers) 0 base base-whole (omega arith) (λ m p q x. layer-of m (omega arith))
 
   pub built-shape : stateFrom sh d .head .shape ≡ sh
   unfolding base newState freshHeader
-  built-shape = built-over .shape
+  built-shape = built-over .head .shape
 
   pub built-totals : stateFrom sh d .head .totals ≡ record { weight = d .0 .0; updates = d .0 .1 .0 }
   unfolding base
-  built-totals = built-over .totals
+  built-totals = built-over .head .totals
 
   pub built-mode : stateFrom sh d .head .mode ≡ modeBy (d .0 .1 .1)
   unfolding base
-  built-mode = built-over .mode
+  built-mode = built-over .head .mode
 
   pub built-layer : (m : ℕ) → m < sh .layers → layerAt (stateFrom sh d) m ≡ layerFrom (dimsOf sh) (getD (d .1) m noPage)
-  unfolding each
   built-layer m h = built-over .inside m (omega arith) (omega arith)
 
   built-pages : let t = stateFrom sh d in pagesOf t (t .head .shape .layers) 0 ≡ d .1

@@ -19,12 +19,10 @@ use Rattle.heap_moves.specs.inner.Order.{Rest}
 use Rattle.heap.specs.Offer.{Table}
 use Rattle.heap.specs.inner.Sound.{Sound}
 use Rattle.state_forms.specs.Grammar.{RowIn, rowsOf, joinRows}
+use Rattle.state_forms.proofs.Rows.{InR}
 use Rattle.state_text.specs.Pages.{tableFrom}
 
 -- ---- tests over lists
-
-abbrev InR : ℤ → Type 0
-InR z = inRange z ≡ true
 
 all-of : (xs : List ℤ) → allIn xs ≡ true → All InR xs
 unfolding allIn

@@ -39,8 +39,8 @@ module _ (d : Dims) (y : Layer) (w : Whole d y) where
       let t = table-back (d .size) (y .table) (w .table) in
       layer-path c (ap (λ (z : List ℤ). rowNorms (d .cols) z (d .rows) 0) c ∙ sym (w .norms)) (ap (λ z. z .cands) t) (ap (λ z. z .len) t) refl
 
-  pub page-in : (l : ℕ) → ((i : ℕ) → i < y .table .len → WordsOf (getD (y .table .cands) i noCand)) → pageFormat (frameOf d) l .In (pageOf d y)
-  page-in l k =
+  pub page-of-in : (l : ℕ) → ((i : ℕ) → i < y .table .len → WordsOf (getD (y .table .cands) i noCand)) → pageFormat (frameOf d) l .In (pageOf d y)
+  page-of-in l k =
       let cs = take (y .table .len) (y .table .cands) in
       let n : length cs ≡ y .table .len = length-take-le (y .table .len) (y .table .cands) (omega (arith, w .table .used, w .table .long)) in (
         (

@@ -5,8 +5,8 @@ use mathlib.Core.List.{List}
 use Prim.Native.Nat.{ℕ, _+_, _*_, _≤_, _<_}
 use native.Mathlib.Omega.{arith}
 use native.Mathlib.Decide.{decLt}
-use lib.ListN.{length, getD, take, drop}
-use lib.Seq.{sets, sets-eq, take-append-seam}
+use lib.ListN.{length, getD, take}
+use lib.Seq.{sets}
 use lib.Dec.{eqb, ltb}
 use lib.IntN.{ℤ}
 use borrow.Author.Tests.{eq-eqb, eqb-true, le-leb, le-ltb, ltb-false}
@@ -34,11 +34,12 @@ use Rattle.state_forms.specs.Formats.{Got, got, bad}
 use Rattle.state_forms.specs.Grammar.{Frame, firstFormat, othersFormat}
 use Rattle.state_forms.specs.Whole.{First, Others, othersR}
 use Rattle.state_forms.proofs.Exactness.{got-value}
+use Rattle.state_forms.proofs.Layings.{put-part}
 use Rattle.state_forms.proofs.Docs.{first-back, others-back, doc-only}
 use Rattle.state_text.specs.Pages.{pageOf, layerFrom, frameOf, firstOf, shapeFrom, dimsOf, othersOf, textOf, stateFrom}
 use Rattle.state_text.specs.Calls.{copied, notCopied, writeCall, unread, afterOthers, afterFirst, readCall}
 use Rattle.state_text.specs.Restored.{Checked, SameLengths, RestoredExactly, WrittenFor, OnlyWritten, TextsDiffer, CarriedHome, WrittenAgain}
-use Rattle.state_text.proofs.PageLaws.{WordsOf, page-back, page-in}
+use Rattle.state_text.proofs.PageLaws.{WordsOf, page-back, page-of-in}
 use Rattle.state_text.proofs.Alike.{alike}
 use Rattle.state_text.proofs.Built.{page-at, pages-long, pages-in, built-whole, built-shape, built-totals, built-mode, built-layer, built-text}
 
@@ -125,7 +126,7 @@ module _ (r : Lent) (b : Checked r) where
     ),
     (
       pages-long (view r) (sh .layers) 0,
-      pages-in k (view r) (sh .layers) 0 (λ m x y. page-in (dimsOf sh) (layerAt (view r) m) (whole .layers m (omega arith)) m (layer-words m (omega arith))),
+      pages-in k (view r) (sh .layers) 0 (λ m x y. page-of-in (dimsOf sh) (layerAt (view r) m) (whole .layers m (omega arith)) m (layer-words m (omega arith))),
     ),
   )
 
@@ -140,12 +141,15 @@ module _ (r : Lent) (b : Checked r) where
       let s = built-shape sh good d others-in in
       alike (view r) (stateFrom sh d) (whole .sized) (n .sized)
       (record {
-        shape = s;
-        totals = built-totals sh good d others-in;
-        mode = built-mode sh good d others-in ∙ mode-back (r .head .mode);
+        head =
+            record {
+              shape = s;
+              totals = built-totals sh good d others-in;
+              mode = built-mode sh good d others-in ∙ mode-back (r .head .mode);
+              pastLens = λ m h. n .pastLens m (omega (arith, h, ap (λ (q : Shape). q .layers) s)) ∙ sym (whole .pastLens m h);
+              pastFlags = λ m h. n .pastFlags m (omega (arith, h, ap (λ (q : Shape). q .layers) s)) ∙ sym (whole .pastFlags m h);
+            };
         layers = λ m h. built-layer sh good d others-in m h ∙ ap (layerFrom (dimsOf sh)) (page-at (view r) (sh .layers) 0 m h ∙ zero-plus m) ∙ page-back (dimsOf sh) (layerAt (view r) m) (whole .layers m h);
-        pastLens = λ m h. n .pastLens m (omega (arith, h, ap (λ (q : Shape). q .layers) s)) ∙ sym (whole .pastLens m h);
-        pastFlags = λ m h. n .pastFlags m (omega (arith, h, ap (λ (q : Shape). q .layers) s)) ∙ sym (whole .pastFlags m h);
       })
     where
       zero-plus : (m : ℕ) → pageOf (dimsOf sh) (layerAt (view r) (0 + m)) ≡ pageOf (dimsOf sh) (layerAt (view r) m)
@@ -198,8 +202,7 @@ module _ (r : Lent) (out : List ℕ) (ok : stateOk r ≡ true) where
   pub text-left : writeCall r out .answer .refusal ≡ 0 → take (writeCall r out .answer .bytes) (writeCall r out .out) ≡ t
   text-left e =
       let h = zero-room e in
-      let z : 0 + length t ≤ length out = omega arith in
-      rw (room-writes h, sets-eq t out 0 z) (take-append-seam t (drop (0 + length t) out))
+      rw (room-writes h) (put-part out t (sets out 0 t) (length t) h refl (omega arith))
 
 pub carried-home : CarriedHome
 carried-home r q out b l e = ap (λ (t : List ℕ). readCall t q) (text-left r out (b .passing .ok) e) ∙ restored r b q l

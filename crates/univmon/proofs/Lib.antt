@@ -3,3 +3,4 @@ pub mod Sending
 pub mod Sends
 pub mod Updating
 pub mod Touched
+pub mod Told

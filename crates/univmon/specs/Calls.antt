@@ -1,5 +1,5 @@
 -- The public calls: what each answers, and what it leaves of the header and the slices that it is lent.
-use Prim.Native.Nat.{ℕ}
+use Prim.Native.Nat.{ℕ, _*_}
 use mathlib.Core.Bool.{Bool, false, cond, not}
 use mathlib.Core.List.{List, [], _∷_, _++_}
 use lib.ListN.{length, set, replicate}
@@ -15,6 +15,7 @@ use Rattle.header.specs.Totals.{setWeight}
 use Rattle.header.specs.Header.{zeroHeader, withTotals, withMode, withFlags, settled, clash, headerOk}
 use Rattle.layout.specs.Slices.{Lent, lent, lengthsOk, view, flat, freshLent}
 use Rattle.layout.specs.Outcomes.{Outcome, judge, Left, left, lentTests}
+use Rattle.layout.specs.Answers.{listCall}
 use Rattle.univmon.specs.declared.Kind.{Kind}
 use Rattle.univmon.specs.Updates.{updateTests, updated}
 
@@ -36,6 +37,13 @@ placeTests h = (not (eqb (length (h .lens)) maxLayers), 9) ∷ (not (eqb (length
 
 unfoldable pub lentUpdateCall : Kind → Lent → List ℕ → ℤ → Outcome
 lentUpdateCall k r words w = judge (placeTests (r .head) ++ updateTests k r words w) (flat (updated k (view r) words w))
+
+-- both with a list of n words: "one place a layer", of two words
+unfoldable pub updateListCall : Kind → Lent → List ℕ → ℤ → ℕ → Outcome
+updateListCall k r words w n = listCall (2 * r .head .shape .layers) n (updateCall k r words w)
+
+unfoldable pub lentUpdateListCall : Kind → Lent → List ℕ → ℤ → ℕ → Outcome
+lentUpdateListCall k r words w n = listCall (2 * r .head .shape .layers) n (lentUpdateCall k r words w)
 
 -- "`clear` zeroes every slice", and the header is a fresh one
 unfoldable pub clearCall : Lent → Outcome

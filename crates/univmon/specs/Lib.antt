@@ -1,3 +1,4 @@
 pub mod Calls
+pub mod Told
 pub mod Updates
 pub mod inner

@@ -9,11 +9,13 @@ use Rattle.header.specs.Shape.{bottomOf}
 use Rattle.header.specs.Totals.{updateTotals}
 use Rattle.header.specs.Header.{scalarsOf, begun, beginTests}
 use Rattle.header.specs.declared.Shape.{Shape}
-use Rattle.layer.specs.Layer.{Layer, LayerUpdate, layerUpdate, addLayer, addReads, addFits}
-use Rattle.layout.specs.State.{State, shapeOf, dimsAt, overLayers, allLayers, withHead}
+use Rattle.heap.specs.declared.Answer.{Answer}
+use Rattle.layer.specs.Layer.{Layer, LayerUpdate, layerUpdate, addLayer, addAnswer, addReads, addFits}
+use Rattle.layout.specs.State.{State, shapeOf, dimsAt, layerAt, overLayers, allLayers, withHead}
 use Rattle.layout.specs.Slices.{Lent, view}
 use Rattle.layout.specs.Records.{bottomWord, itemAt}
 use Rattle.layout.specs.Outcomes.{recordTests}
+use Rattle.layout.specs.Answers.{touchedPlaces}
 use Rattle.univmon.specs.declared.Kind.{Kind}
 use Rattle.univmon.specs.declared.Kind.the-variants as kind
 
@@ -21,7 +23,7 @@ use Rattle.univmon.specs.declared.Kind.the-variants as kind
 abbrev pub layerUpdateAt : List ℕ → ℕ → ℕ → LayerUpdate
 layerUpdateAt words w l = layerUpdate (itemAt words l) w
 
--- at layer l of a shape: whether what it reads is in range, whether it fits, and what it leaves
+-- at layer l of a shape: whether what it reads is in range, whether it fits, what it leaves, and which of the four things it did
 abbrev pub readsAt : Shape → List ℕ → ℕ → ℕ → Layer → Bool
 readsAt sh words w l y = addReads (dimsAt sh l) (layerUpdateAt words w l) y
 
@@ -30,6 +32,9 @@ fitsAt sh words w l y = addFits (dimsAt sh l) (layerUpdateAt words w l) y
 
 abbrev pub addsAt : Shape → List ℕ → ℕ → ℕ → Layer → Layer
 addsAt sh words w l y = addLayer (dimsAt sh l) (layerUpdateAt words w l) y
+
+abbrev pub answerAt : State → List ℕ → ℕ → ℕ → Answer
+answerAt s words w l = addAnswer (dimsAt (shapeOf s) l) (layerUpdateAt words w l) (layerAt s l)
 
 abbrev pub modeOf : Kind → Mode
 modeOf kind.Standard = mode.Standard
@@ -53,6 +58,10 @@ unfoldable pub updated : Kind → State → List ℕ → ℤ → State
 updated k s words w =
     overLayers (addsAt (shapeOf s) words (natAbs w)) (manySent k (bottomBy s words)) (firstSent k (bottomBy s words))
     (withHead s (begun (s .head) (updateTotals (natAbs w)) (modeOf k)))
+
+-- the list of an update: what each layer that it is sent to did, as that layer stood before the call
+unfoldable pub updateAnswers : Kind → State → List ℕ → ℤ → List ℕ
+updateAnswers k s words w = touchedPlaces (answerAt s words (natAbs w)) (manySent k (bottomBy s words)) (firstSent k (bottomBy s words)) (shapeOf s .layers)
 
 -- of many layers from the first on: 9 for what is read, 11
 abbrev pub layersTests : Shape → List ℕ → ℕ → ℕ → ℕ → State → List (Bool × ℕ)

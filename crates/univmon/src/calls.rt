@@ -8,12 +8,16 @@ use header::Answered;
 use header::Header;
 ghost use mathlib.Core.Path.{_≡_};
 ghost use Prim.Native.Nat.{ℕ};
+ghost use lib.ListN.{length};
+ghost use Rattle.layout.specs.Slices.{view};
 ghost use Rattle.layout.specs.Outcomes.{left, leftAfter};
+ghost use Rattle.layout.specs.Answers.{listLeft};
 ghost use Rattle.layout.specs.Lending.{lentIn, lentOut};
 ghost use Rattle.univmon.specs.declared.Kind.the-variants as kind;
-ghost use Rattle.univmon.specs.Calls.{updateCall};
+ghost use Rattle.univmon.specs.Updates.{updateAnswers};
+ghost use Rattle.univmon.specs.Calls.{updateListCall};
 
-// An update of either kind, on any arguments: 9, 12, 5, 6, 7, 14, 9, 11. The lent lengths and flags
+// An update of either kind, on any arguments: 9, 12, 5, 6, 7, 14, 9, 11, 16. The lent lengths and flags
 // are put back after a refusal too: a refused update has not changed them, so no second copy is kept.
 fn update_held(
     kind: Kind,
@@ -24,9 +28,12 @@ fn update_held(
     counts: &mut [i64],
     record: &[u64],
     weight: i64,
+    list: &mut [u64],
 ) -> Answered
     ensures { λ r. ⌜ left (r .refusal) (lentOut (r .header) counters norms entries counts)
-        ≡ leftAfter (λ s. updateCall kind s (now («record» .entry)) weight) (lentIn header counters norms entries counts) ⌝ }
+        ≡ leftAfter (λ s. updateListCall kind s (now («record» .entry)) weight (length (now (list .entry)))) (lentIn header counters norms entries counts) ⌝ }
+    ensures { λ r. ⌜ now (list .exit)
+        ≡ listLeft (r .refusal) (updateAnswers kind (view (lentIn header counters norms entries counts)) (now («record» .entry)) weight) (now (list .entry)) ⌝ }
 {
     let begun = header.begin_update(weight, mode_of(kind));
     let mut lens = header.lens;
@@ -43,6 +50,7 @@ fn update_held(
         counts,
         record,
         weight,
+        list,
     );
     if refusal != 0 {
         return Answered {
@@ -66,9 +74,12 @@ pub fn update_weighted(
     counts: &mut [i64],
     record: &[u64],
     weight: i64,
+    list: &mut [u64],
 ) -> Answered
     ensures { λ r. ⌜ left (r .refusal) (lentOut (r .header) counters norms entries counts)
-        ≡ leftAfter (λ s. updateCall kind.Standard s (now («record» .entry)) weight) (lentIn header counters norms entries counts) ⌝ }
+        ≡ leftAfter (λ s. updateListCall kind.Standard s (now («record» .entry)) weight (length (now (list .entry)))) (lentIn header counters norms entries counts) ⌝ }
+    ensures { λ r. ⌜ now (list .exit)
+        ≡ listLeft (r .refusal) (updateAnswers kind.Standard (view (lentIn header counters norms entries counts)) (now («record» .entry)) weight) (now (list .entry)) ⌝ }
 {
     update_held(
         Kind::Standard,
@@ -79,6 +90,7 @@ pub fn update_weighted(
         counts,
         record,
         weight,
+        list,
     )
 }
 
@@ -91,9 +103,12 @@ pub fn update_weighted_terminal(
     counts: &mut [i64],
     record: &[u64],
     weight: i64,
+    list: &mut [u64],
 ) -> Answered
     ensures { λ r. ⌜ left (r .refusal) (lentOut (r .header) counters norms entries counts)
-        ≡ leftAfter (λ s. updateCall kind.Terminal s (now («record» .entry)) weight) (lentIn header counters norms entries counts) ⌝ }
+        ≡ leftAfter (λ s. updateListCall kind.Terminal s (now («record» .entry)) weight (length (now (list .entry)))) (lentIn header counters norms entries counts) ⌝ }
+    ensures { λ r. ⌜ now (list .exit)
+        ≡ listLeft (r .refusal) (updateAnswers kind.Terminal (view (lentIn header counters norms entries counts)) (now («record» .entry)) weight) (now (list .entry)) ⌝ }
 {
     update_held(
         Kind::Terminal,
@@ -104,5 +119,6 @@ pub fn update_weighted_terminal(
         counts,
         record,
         weight,
+        list,
     )
 }

@@ -8,11 +8,15 @@ use header::AnsweredLent;
 use header::Scalars;
 ghost use mathlib.Core.Path.{_≡_};
 ghost use Prim.Native.Nat.{ℕ};
+ghost use lib.ListN.{length};
 ghost use Rattle.header.specs.Lending.{headIn, headOut};
+ghost use Rattle.layout.specs.Slices.{view};
 ghost use Rattle.layout.specs.Outcomes.{left, leftAfter};
+ghost use Rattle.layout.specs.Answers.{listLeft};
 ghost use Rattle.layout.specs.Lending.{lentIn, lentOut};
 ghost use Rattle.univmon.specs.declared.Kind.the-variants as kind;
-ghost use Rattle.univmon.specs.Calls.{lentUpdateCall};
+ghost use Rattle.univmon.specs.Updates.{updateAnswers};
+ghost use Rattle.univmon.specs.Calls.{lentUpdateListCall};
 
 // An update of either kind, on any arguments.
 fn update_lent(
@@ -26,9 +30,12 @@ fn update_lent(
     counts: &mut [i64],
     record: &[u64],
     weight: i64,
+    list: &mut [u64],
 ) -> AnsweredLent
     ensures { λ r. ⌜ left (r .refusal) (lentOut (headOut (r .scalars) lens flags) counters norms entries counts)
-        ≡ leftAfter (λ s. lentUpdateCall kind s (now («record» .entry)) weight) (lentIn (headIn scalars lens flags) counters norms entries counts) ⌝ }
+        ≡ leftAfter (λ s. lentUpdateListCall kind s (now («record» .entry)) weight (length (now (list .entry)))) (lentIn (headIn scalars lens flags) counters norms entries counts) ⌝ }
+    ensures { λ r. ⌜ now (list .exit)
+        ≡ listLeft (r .refusal) (updateAnswers kind (view (lentIn (headIn scalars lens flags) counters norms entries counts)) (now («record» .entry)) weight) (now (list .entry)) ⌝ }
 {
     let begun = scalars.begin_update(weight, mode_of(kind));
     let refusal = update(
@@ -43,6 +50,7 @@ fn update_lent(
         counts,
         record,
         weight,
+        list,
     );
     if refusal != 0 {
         return AnsweredLent { refusal, scalars };
@@ -61,9 +69,12 @@ pub fn update_weighted_lent(
     counts: &mut [i64],
     record: &[u64],
     weight: i64,
+    list: &mut [u64],
 ) -> AnsweredLent
     ensures { λ r. ⌜ left (r .refusal) (lentOut (headOut (r .scalars) lens flags) counters norms entries counts)
-        ≡ leftAfter (λ s. lentUpdateCall kind.Standard s (now («record» .entry)) weight) (lentIn (headIn scalars lens flags) counters norms entries counts) ⌝ }
+        ≡ leftAfter (λ s. lentUpdateListCall kind.Standard s (now («record» .entry)) weight (length (now (list .entry)))) (lentIn (headIn scalars lens flags) counters norms entries counts) ⌝ }
+    ensures { λ r. ⌜ now (list .exit)
+        ≡ listLeft (r .refusal) (updateAnswers kind.Standard (view (lentIn (headIn scalars lens flags) counters norms entries counts)) (now («record» .entry)) weight) (now (list .entry)) ⌝ }
 {
     update_lent(
         Kind::Standard,
@@ -76,6 +87,7 @@ pub fn update_weighted_lent(
         counts,
         record,
         weight,
+        list,
     )
 }
 
@@ -90,9 +102,12 @@ pub fn update_weighted_terminal_lent(
     counts: &mut [i64],
     record: &[u64],
     weight: i64,
+    list: &mut [u64],
 ) -> AnsweredLent
     ensures { λ r. ⌜ left (r .refusal) (lentOut (headOut (r .scalars) lens flags) counters norms entries counts)
-        ≡ leftAfter (λ s. lentUpdateCall kind.Terminal s (now («record» .entry)) weight) (lentIn (headIn scalars lens flags) counters norms entries counts) ⌝ }
+        ≡ leftAfter (λ s. lentUpdateListCall kind.Terminal s (now («record» .entry)) weight (length (now (list .entry)))) (lentIn (headIn scalars lens flags) counters norms entries counts) ⌝ }
+    ensures { λ r. ⌜ now (list .exit)
+        ≡ listLeft (r .refusal) (updateAnswers kind.Terminal (view (lentIn (headIn scalars lens flags) counters norms entries counts)) (now («record» .entry)) weight) (now (list .entry)) ⌝ }
 {
     update_lent(
         Kind::Terminal,
@@ -105,5 +120,6 @@ pub fn update_weighted_terminal_lent(
         counts,
         record,
         weight,
+        list,
     )
 }

@@ -7,16 +7,20 @@ use header::Mode;
 use header::Scalars;
 use header::Shape;
 use layout::lengths_match;
+use layout::zero_places;
 ghost use mathlib.Core.Path.{_≡_};
 ghost use Prim.Native.Nat.{ℕ, _≤_};
+ghost use lib.ListN.{length};
 ghost use lib.IntN.{natAbs};
 ghost use Rattle.words.specs.Num.{top};
 ghost use Rattle.words.specs.Tests.{number};
 ghost use Rattle.header.specs.Lending.{headIn, headNow, headOut};
+ghost use Rattle.layout.specs.Slices.{view};
 ghost use Rattle.layout.specs.Outcomes.{left};
+ghost use Rattle.layout.specs.Answers.{listLeft};
 ghost use Rattle.layout.specs.Lending.{lentIn, lentNow, lentOut};
-ghost use Rattle.univmon.specs.Updates.{modeOf, firstSent};
-ghost use Rattle.univmon.specs.inner.Needs.{JudgeReady, KeyReady, soundTests, sentBy, keySent, sentAfter};
+ghost use Rattle.univmon.specs.Updates.{modeOf, firstSent, updateAnswers};
+ghost use Rattle.univmon.specs.inner.Needs.{JudgeReady, KeyReady, soundTests, sentBy, toldBy, keySent, keyTold, sentAfter};
 
 pub fn mode_of(kind: Kind) -> Mode
     ensures { λ r. ⌜ r ≡ modeOf kind ⌝ }
@@ -70,7 +74,8 @@ fn sound_refusal(
     0
 }
 
-// The layers that a key reaches are judged, and sent to if all is well: 9, 11.
+// The layers that a key reaches are judged, then the list's length: 9, 11, 16. If all is well the layers
+// are sent to; the places of all others in the list become zeros.
 fn send_judged(
     h: Scalars,
     lens: &mut [usize],
@@ -83,10 +88,13 @@ fn send_judged(
     weight: u64,
     first: usize,
     many: usize,
+    list: &mut [u64],
 ) -> u64
     requires { ⌜ JudgeReady (lentNow (headNow h lens flags) counters norms entries counts) (now «record») weight many first ⌝ }
     ensures { λ r. ⌜ left r (lentOut (headOut h lens flags) counters norms entries counts)
-        ≡ sentBy (now («record» .entry)) weight many first (lentIn (headIn h lens flags) counters norms entries counts) ⌝ }
+        ≡ sentBy (now («record» .entry)) weight many first (length (now (list .entry))) (lentIn (headIn h lens flags) counters norms entries counts) ⌝ }
+    ensures { λ r. ⌜ now (list .exit)
+        ≡ listLeft r (toldBy (now («record» .entry)) weight many first (lentIn (headIn h lens flags) counters norms entries counts)) (now (list .entry)) ⌝ }
 {
     let refusal = judge_layers(
         h,
@@ -104,6 +112,11 @@ fn send_judged(
     if refusal != 0 {
         return refusal;
     }
+    let layers = h.shape.layers;
+    if list.len() < 2 * layers {
+        return 16;
+    }
+    zero_places(list, layers);
     send(
         h,
         lens,
@@ -116,11 +129,12 @@ fn send_judged(
         weight,
         first,
         many,
+        list,
     );
     0
 }
 
-// A key goes to the layers that its bottom hash says: 9, 11.
+// A key goes to the layers that its bottom hash says: 9, 11, 16.
 fn send_key(
     kind: Kind,
     h: Scalars,
@@ -132,10 +146,13 @@ fn send_key(
     counts: &mut [i64],
     record: &[u64],
     weight: u64,
+    list: &mut [u64],
 ) -> u64
     requires { ⌜ KeyReady (lentNow (headNow h lens flags) counters norms entries counts) (now «record») weight ⌝ }
     ensures { λ r. ⌜ left r (lentOut (headOut h lens flags) counters norms entries counts)
-        ≡ keySent kind (now («record» .entry)) weight (lentIn (headIn h lens flags) counters norms entries counts) ⌝ }
+        ≡ keySent kind (now («record» .entry)) weight (length (now (list .entry))) (lentIn (headIn h lens flags) counters norms entries counts) ⌝ }
+    ensures { λ r. ⌜ now (list .exit)
+        ≡ listLeft r (keyTold kind (now («record» .entry)) weight (lentIn (headIn h lens flags) counters norms entries counts)) (now (list .entry)) ⌝ }
 {
     let bottom = header::bottom_of(record[1], h.shape.layers);
     let first = first_sent(kind, bottom);
@@ -152,11 +169,12 @@ fn send_key(
         weight,
         first,
         many,
+        list,
     )
 }
 
 // All of an update but its beginning; `begins` is the number that the beginning is refused with, or 0.
-// Answers 9, 12, then `begins`, then 9, 11.
+// Answers 9, 12, then `begins`, then 9, 11, 16.
 pub fn update(
     kind: Kind,
     scalars: Scalars,
@@ -169,10 +187,13 @@ pub fn update(
     counts: &mut [i64],
     record: &[u64],
     weight: i64,
+    list: &mut [u64],
 ) -> u64
     requires { ⌜ (begins ≡ 0 → natAbs weight ≤ top) ⌝ }
     ensures { λ r. ⌜ left r (lentOut (headOut scalars lens flags) counters norms entries counts)
-        ≡ sentAfter kind begins (now («record» .entry)) weight (lentIn (headIn scalars lens flags) counters norms entries counts) ⌝ }
+        ≡ sentAfter kind begins (now («record» .entry)) weight (length (now (list .entry))) (lentIn (headIn scalars lens flags) counters norms entries counts) ⌝ }
+    ensures { λ r. ⌜ now (list .exit)
+        ≡ listLeft r (updateAnswers kind (view (lentIn (headIn scalars lens flags) counters norms entries counts)) (now («record» .entry)) weight) (now (list .entry)) ⌝ }
 {
     let refusal = sound_refusal(
         scalars,
@@ -201,5 +222,6 @@ pub fn update(
         counts,
         record,
         words::magnitude(weight),
+        list,
     )
 }

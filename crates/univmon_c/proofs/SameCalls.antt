@@ -9,8 +9,8 @@ use Rattle.header.specs.Header.{modeNumber}
 use Rattle.header.proofs.Modes.{mode-back}
 use Rattle.layout.specs.Slices.{Lent, lent}
 use Rattle.layout.specs.Outcomes.{Outcome, leftBy}
-use Rattle.univmon.specs.Calls.{updateCall, lentUpdateCall}
-use Rattle.univmon_merge.specs.Merges.{mergeCall}
+use Rattle.univmon.specs.Calls.{updateListCall, lentUpdateListCall}
+use Rattle.univmon_merge.specs.Merges.{mergeListCall}
 use Rattle.state_text.specs.Calls.{writeCall}
 use Rattle.univmon_c.specs.Crossing.{isMode}
 use Rattle.univmon_c.specs.Calls.{ofLent, crossed, changeBy, mergeBy, crossedCopy, writeBy}
@@ -42,8 +42,8 @@ write-same r out = rw (is-mode (r .head .mode)) (ap (λ (z : Lent). crossedCopy 
 pub from-c : FromC
 from-c r =
     record {
-      update = λ k words w. change-same (λ s. updateCall k s words w) r;
-      lent = λ k words w. change-same (λ s. lentUpdateCall k s words w) r;
+      update = λ k words w n. change-same (λ s. updateListCall k s words w n) r;
+      lent = λ k words w n. change-same (λ s. lentUpdateListCall k s words w n) r;
       write = write-same r;
-      merge = merge-same mergeCall r;
+      merge = λ t n. merge-same (λ s u. mergeListCall s u n) r t;
     }

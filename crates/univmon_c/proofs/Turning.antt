@@ -11,7 +11,7 @@ use Rattle.header.specs.declared.Answered.{Answered}
 use Rattle.layout.specs.Slices.{Lent}
 use Rattle.layout.specs.Outcomes.{Outcome, Left, left, leftBy}
 use Rattle.univmon.specs.declared.Kind.{Kind}
-use Rattle.univmon.specs.Calls.{lentUpdateCall}
+use Rattle.univmon.specs.Calls.{lentUpdateListCall}
 use Rattle.estimates.specs.declared.Answer.{Answer}
 use Rattle.estimates.specs.declared.PanelAnswer.{PanelAnswer}
 use Rattle.estimates.specs.Calls.{refusedBy, noPanel}
@@ -42,12 +42,12 @@ withShape sh t =
     cLent (cHeader (record { shape = sh; totals = t .head .totals; mode = t .head .mode; flags = t .head .flags; lens = t .head .lens })) (t .counters) (t .norms) (t .entries) (t .counts)
 
 -- the shape is C's own
-pub stepped : (k : Kind) (words : List ℕ) (w : ℤ) (r : CLent) → r .head .mode ≤ 2 → (n : ℕ) (t : Lent)
-    → left n t ≡ leftBy (lentOf r) (lentUpdateCall k (lentOf r) words w) → cLeft n (withShape (lentOf r .head .shape) t) ≡ changeBy true (λ s. lentUpdateCall k s words w) r
-stepped k words w r h n t e = ap (λ (sh : Shape). cLeft n (withShape sh t)) (sym same) ∙ changed true (λ s. lentUpdateCall k s words w) r h refl n t e
+pub stepped : (k : Kind) (words : List ℕ) (w : ℤ) (m : ℕ) (r : CLent) → r .head .mode ≤ 2 → (n : ℕ) (t : Lent)
+    → left n t ≡ leftBy (lentOf r) (lentUpdateListCall k (lentOf r) words w m) → cLeft n (withShape (lentOf r .head .shape) t) ≡ changeBy true (λ s. lentUpdateListCall k s words w m) r
+stepped k words w m r h n t e = ap (λ (sh : Shape). cLeft n (withShape sh t)) (sym same) ∙ changed true (λ s. lentUpdateListCall k s words w m) r h refl n t e
   where
     same : t .head .shape ≡ lentOf r .head .shape
-    same = ap (λ (l : Left). l .lends .head .shape) e ∙ update-shape k (lentOf r) words w
+    same = ap (λ (l : Left). l .lends .head .shape) e ∙ update-shape k (lentOf r) words w m
 
 pub merge-no-mode : (f : Lent → Lent → Outcome) (r t : CLent) → 2 < r .head .mode → cLeft 9 r ≡ mergeBy f r t
 unfolding mergeBy

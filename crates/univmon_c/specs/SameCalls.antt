@@ -8,8 +8,8 @@ use lib.IntN.{ℤ}
 use Rattle.layout.specs.Slices.{Lent}
 use Rattle.layout.specs.Outcomes.{leftBy}
 use Rattle.univmon.specs.declared.Kind.{Kind}
-use Rattle.univmon.specs.Calls.{updateCall, lentUpdateCall}
-use Rattle.univmon_merge.specs.Merges.{mergeCall}
+use Rattle.univmon.specs.Calls.{updateListCall, lentUpdateListCall}
+use Rattle.univmon_merge.specs.Merges.{mergeListCall}
 use Rattle.state_text.specs.Calls.{writeCall}
 use Rattle.univmon_c.specs.Calls.{lentOf, ofLent, crossed, changeBy, mergeBy, crossedCopy, writeBy}
 
@@ -19,10 +19,12 @@ ThereAndBack = (r : Lent) → lentOf (ofLent r) ≡ r
 
 -- on r as C has it, an update by value, one with lengths and flags lent, the writing of its text and a merge of any other state are the library's own calls
 pub record SameCalls (r : Lent) : Type 0 where
-  pub update : (k : Kind) (words : List ℕ) (w : ℤ) → changeBy true (λ s. updateCall k s words w) (ofLent r) ≡ crossed (leftBy r (updateCall k r words w))
-  pub lent : (k : Kind) (words : List ℕ) (w : ℤ) → changeBy true (λ s. lentUpdateCall k s words w) (ofLent r) ≡ crossed (leftBy r (lentUpdateCall k r words w))
+  pub update : (k : Kind) (words : List ℕ) (w : ℤ) (n : ℕ)
+      → changeBy true (λ s. updateListCall k s words w n) (ofLent r) ≡ crossed (leftBy r (updateListCall k r words w n))
+  pub lent : (k : Kind) (words : List ℕ) (w : ℤ) (n : ℕ)
+      → changeBy true (λ s. lentUpdateListCall k s words w n) (ofLent r) ≡ crossed (leftBy r (lentUpdateListCall k r words w n))
   pub write : (out : List ℕ) → writeBy writeCall (ofLent r) out ≡ crossedCopy (writeCall r out)
-  pub merge : (t : Lent) → mergeBy mergeCall (ofLent r) (ofLent t) ≡ crossed (leftBy r (mergeCall r t))
+  pub merge : (t : Lent) (n : ℕ) → mergeBy (λ s u. mergeListCall s u n) (ofLent r) (ofLent t) ≡ crossed (leftBy r (mergeListCall r t n))
 
 abbrev pub FromC : Type 0
 FromC = (r : Lent) → SameCalls r

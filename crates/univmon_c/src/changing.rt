@@ -10,13 +10,17 @@ use crate::crossing::header_of;
 ghost use mathlib.Core.Path.{_≡_};
 ghost use mathlib.Core.Bool.{Bool, true};
 ghost use Prim.Native.Nat.{ℕ};
+ghost use lib.ListN.{length};
 ghost use Rattle.header.specs.Shape.{shapeRefusal, bottomLayer};
+ghost use Rattle.layout.specs.Slices.{view};
+ghost use Rattle.layout.specs.Answers.{listLeft};
 ghost use Rattle.univmon.specs.declared.Kind.the-variants as kind;
-ghost use Rattle.univmon.specs.Calls.{newCall, updateCall, clearCall, weightCall, markCall, markLayerCall};
-ghost use Rattle.univmon_delta.specs.Deltas.{arrival, deltaCall};
-ghost use Rattle.univmon_merge.specs.Merges.{mergeCall};
+ghost use Rattle.univmon.specs.Updates.{updateAnswers};
+ghost use Rattle.univmon.specs.Calls.{newCall, updateListCall, clearCall, weightCall, markCall, markLayerCall};
+ghost use Rattle.univmon_delta.specs.Deltas.{arrival, deltaAnswers, deltaListCall};
+ghost use Rattle.univmon_merge.specs.Merges.{mergeAnswers, mergeListCall};
 ghost use Rattle.univmon_c.specs.Crossing.{isFidelity, fidelityOf, cBottom};
-ghost use Rattle.univmon_c.specs.Calls.{cLeft, crossed, changeBy, mergeBy, headBy};
+ghost use Rattle.univmon_c.specs.Calls.{lentOf, cLeft, crossed, changeBy, mergeBy, headBy};
 ghost use Rattle.univmon_c.specs.Lending.{cLentIn, cLentOut};
 
 // The greatest number that is a fidelity.
@@ -105,15 +109,18 @@ pub extern "C" fn univmon_update_weighted(
     counts: &mut [i64],
     record: &[u64],
     weight: i64,
+    list: &mut [u64],
 ) -> CAnswered
     ensures { λ r. ⌜ cLeft (r .refusal) (cLentOut (r .header) counters norms entries counts)
-        ≡ changeBy true (λ s. updateCall kind.Standard s (now («record» .entry)) weight) (cLentIn header counters norms entries counts) ⌝ }
+        ≡ changeBy true (λ s. updateListCall kind.Standard s (now («record» .entry)) weight (length (now (list .entry)))) (cLentIn header counters norms entries counts) ⌝ }
+    ensures { λ r. ⌜ now (list .exit)
+        ≡ listLeft (r .refusal) (updateAnswers kind.Standard (view (lentOf (cLentIn header counters norms entries counts))) (now («record» .entry)) weight) (now (list .entry)) ⌝ }
 {
     if LAST_MODE < header.mode {
         return CAnswered { refusal: 9, header };
     }
     let h = header_of(header);
-    c_answered(univmon::update_weighted(h, counters, norms, entries, counts, record, weight))
+    c_answered(univmon::update_weighted(h, counters, norms, entries, counts, record, weight, list))
 }
 
 // The key goes to its bottom layer only.
@@ -126,9 +133,12 @@ pub extern "C" fn univmon_update_weighted_terminal(
     counts: &mut [i64],
     record: &[u64],
     weight: i64,
+    list: &mut [u64],
 ) -> CAnswered
     ensures { λ r. ⌜ cLeft (r .refusal) (cLentOut (r .header) counters norms entries counts)
-        ≡ changeBy true (λ s. updateCall kind.Terminal s (now («record» .entry)) weight) (cLentIn header counters norms entries counts) ⌝ }
+        ≡ changeBy true (λ s. updateListCall kind.Terminal s (now («record» .entry)) weight (length (now (list .entry)))) (cLentIn header counters norms entries counts) ⌝ }
+    ensures { λ r. ⌜ now (list .exit)
+        ≡ listLeft (r .refusal) (updateAnswers kind.Terminal (view (lentOf (cLentIn header counters norms entries counts))) (now («record» .entry)) weight) (now (list .entry)) ⌝ }
 {
     if LAST_MODE < header.mode {
         return CAnswered { refusal: 9, header };
@@ -142,6 +152,7 @@ pub extern "C" fn univmon_update_weighted_terminal(
         counts,
         record,
         weight,
+        list,
     ))
 }
 
@@ -160,10 +171,13 @@ pub extern "C" fn univmon_apply_delta(
     col: usize,
     count: i32,
     fidelity: u64,
+    list: &mut [u64],
 ) -> CAnswered
     ensures { λ r. ⌜ cLeft (r .refusal) (cLentOut (r .header) counters norms entries counts)
-        ≡ changeBy (isFidelity fidelity) (λ s. deltaCall s (now («record» .entry)) (arrival layer row col count (fidelityOf fidelity)))
+        ≡ changeBy (isFidelity fidelity) (λ s. deltaListCall s (now («record» .entry)) (arrival layer row col count (fidelityOf fidelity)) (length (now (list .entry))))
         (cLentIn header counters norms entries counts) ⌝ }
+    ensures { λ r. ⌜ now (list .exit)
+        ≡ listLeft (r .refusal) (deltaAnswers (view (lentOf (cLentIn header counters norms entries counts))) (now («record» .entry)) (arrival layer row col count (fidelityOf fidelity))) (now (list .entry)) ⌝ }
 {
     if LAST_MODE < header.mode {
         return CAnswered { refusal: 9, header };
@@ -185,6 +199,7 @@ pub extern "C" fn univmon_apply_delta(
         col,
         count,
         f,
+        list,
     ))
 }
 
@@ -203,10 +218,14 @@ pub extern "C" fn univmon_merge(
     other_norms: &[u64],
     other_entries: &[u64],
     other_counts: &[i64],
+    list: &mut [u64],
 ) -> CAnswered
     ensures { λ r. ⌜ cLeft (r .refusal) (cLentOut (r .header) counters norms entries counts)
-        ≡ mergeBy mergeCall (cLentIn header counters norms entries counts)
+        ≡ mergeBy (λ s t. mergeListCall s t (length (now (list .entry)))) (cLentIn header counters norms entries counts)
         (cLentIn other «other_counters» «other_norms» «other_entries» «other_counts») ⌝ }
+    ensures { λ r. ⌜ now (list .exit)
+        ≡ listLeft (r .refusal) (mergeAnswers (view (lentOf (cLentIn header counters norms entries counts)))
+        (view (lentOf (cLentIn other «other_counters» «other_norms» «other_entries» «other_counts»)))) (now (list .entry)) ⌝ }
 {
     if LAST_MODE < header.mode {
         return CAnswered { refusal: 9, header };
@@ -227,6 +246,7 @@ pub extern "C" fn univmon_merge(
         other_norms,
         other_entries,
         other_counts,
+        list,
     ))
 }
 

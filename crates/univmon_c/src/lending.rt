@@ -8,9 +8,13 @@ use crate::crossing::scalars_of;
 ghost use mathlib.Core.Path.{_≡_};
 ghost use mathlib.Core.Bool.{Bool, true};
 ghost use Prim.Native.Nat.{ℕ};
+ghost use lib.ListN.{length};
+ghost use Rattle.layout.specs.Slices.{view};
+ghost use Rattle.layout.specs.Answers.{listLeft};
 ghost use Rattle.univmon.specs.declared.Kind.the-variants as kind;
-ghost use Rattle.univmon.specs.Calls.{lentUpdateCall};
-ghost use Rattle.univmon_c.specs.Calls.{cLeft, changeBy};
+ghost use Rattle.univmon.specs.Updates.{updateAnswers};
+ghost use Rattle.univmon.specs.Calls.{lentUpdateListCall};
+ghost use Rattle.univmon_c.specs.Calls.{lentOf, cLeft, changeBy};
 ghost use Rattle.univmon_c.specs.Lending.{cHeadIn, cHeadOut, cLentIn, cLentOut};
 
 // The key goes to layers 0 to its bottom layer.
@@ -28,9 +32,12 @@ pub extern "C" fn univmon_update_weighted_lent(
     counts: &mut [i64],
     record: &[u64],
     weight: i64,
+    list: &mut [u64],
 ) -> CStep
     ensures { λ r. ⌜ cLeft (r .refusal) (cLentOut (cHeadOut shape (r .weight) (r .updates) (r .mode) lens flags) counters norms entries counts)
-        ≡ changeBy true (λ s. lentUpdateCall kind.Standard s (now («record» .entry)) weight) (cLentIn (cHeadIn shape «total_weight» «total_updates» mode lens flags) counters norms entries counts) ⌝ }
+        ≡ changeBy true (λ s. lentUpdateListCall kind.Standard s (now («record» .entry)) weight (length (now (list .entry)))) (cLentIn (cHeadIn shape «total_weight» «total_updates» mode lens flags) counters norms entries counts) ⌝ }
+    ensures { λ r. ⌜ now (list .exit)
+        ≡ listLeft (r .refusal) (updateAnswers kind.Standard (view (lentOf (cLentIn (cHeadIn shape «total_weight» «total_updates» mode lens flags) counters norms entries counts))) (now («record» .entry)) weight) (now (list .entry)) ⌝ }
 {
     if LAST_MODE < mode {
         return CStep {
@@ -51,6 +58,7 @@ pub extern "C" fn univmon_update_weighted_lent(
         counts,
         record,
         weight,
+        list,
     ))
 }
 
@@ -69,9 +77,12 @@ pub extern "C" fn univmon_update_weighted_terminal_lent(
     counts: &mut [i64],
     record: &[u64],
     weight: i64,
+    list: &mut [u64],
 ) -> CStep
     ensures { λ r. ⌜ cLeft (r .refusal) (cLentOut (cHeadOut shape (r .weight) (r .updates) (r .mode) lens flags) counters norms entries counts)
-        ≡ changeBy true (λ s. lentUpdateCall kind.Terminal s (now («record» .entry)) weight) (cLentIn (cHeadIn shape «total_weight» «total_updates» mode lens flags) counters norms entries counts) ⌝ }
+        ≡ changeBy true (λ s. lentUpdateListCall kind.Terminal s (now («record» .entry)) weight (length (now (list .entry)))) (cLentIn (cHeadIn shape «total_weight» «total_updates» mode lens flags) counters norms entries counts) ⌝ }
+    ensures { λ r. ⌜ now (list .exit)
+        ≡ listLeft (r .refusal) (updateAnswers kind.Terminal (view (lentOf (cLentIn (cHeadIn shape «total_weight» «total_updates» mode lens flags) counters norms entries counts))) (now («record» .entry)) weight) (now (list .entry)) ⌝ }
 {
     if LAST_MODE < mode {
         return CStep {
@@ -92,5 +103,6 @@ pub extern "C" fn univmon_update_weighted_terminal_lent(
         counts,
         record,
         weight,
+        list,
     ))
 }

@@ -1,23 +1,29 @@
 -- What a delta leaves by the number that it is refused with. Assumes nothing.
-use mathlib.Core.Path.{_≡_, refl, sym, _∙_}
-use mathlib.Core.Bool.{not}
+use mathlib.Core.Path.{_≡_, refl, sym, ap, _∙_}
+use mathlib.Core.Bool.{Bool, not}
 use mathlib.Core.List.{List, _∷_, _++_}
-use Prim.Native.Nat.{ℕ}
-use lib.ListN.{length}
+use Prim.Native.Nat.{ℕ, _*_, _≤_, _<_}
+use native.Mathlib.Omega.{arith}
+use lib.ListN.{length, drop, replicate}
 use lib.Dec.{eqb}
-use borrow.Author.Tests.{eqb-true, leb-false, not-false}
+use borrow.Author.Tests.{eqb-true, leb-false, ltb-false, not-false, lt-ltb, le-ltb}
 use Rattle.words.specs.Tests.{number}
-use Rattle.words.proofs.Tests.{off-number, number-first}
+use Rattle.words.proofs.Tests.{Off, off-number, number-off, number-first, number-rest, off-first, off-rest}
+use Rattle.heap.specs.inner.Telling.{tellAt}
 use Rattle.header.specs.declared.Mode.{Mode}
 use Rattle.header.specs.Header.{withMode, settled}
-use Rattle.layer.specs.Delta.{deltaLayer, deltaReads, deltaFits}
+use Rattle.layer.specs.Delta.{deltaLayer, deltaAnswer, deltaReads, deltaFits}
 use Rattle.layout.specs.State.{dimsAt, layerAt, putLayer}
 use Rattle.layout.specs.Slices.{Lent, lent, view, flat}
-use Rattle.layout.specs.Outcomes.{left, leftBy, lentTests}
+use Rattle.layout.specs.Outcomes.{judge, left, leftBy, lentTests}
+use Rattle.layout.specs.Answers.{listLeft}
+use Rattle.layout.specs.inner.Telling.{listTests, tellLayers}
 use Rattle.layout.specs.Records.{recordLength}
 use Rattle.layout.proofs.Lengths.{standing-of}
 use Rattle.layout.proofs.Judged.{left-refused, left-done}
-use Rattle.univmon_delta.specs.Deltas.{Arrival, deltaBy, counterTests, deltaTestsAt, deltaTests, arrived, deltaCall}
+use Rattle.layout.proofs.ListCalls.{list-judge}
+use Rattle.layout.proofs.Telling.{tell-is, length-layers, told-touched, list-told}
+use Rattle.univmon_delta.specs.Deltas.{Arrival, deltaBy, counterTests, deltaTestsAt, deltaTests, arrived, deltaAnswers, deltaCall, deltaListCall}
 use Rattle.univmon_delta.specs.inner.Needs.{Arrives}
 
 module _ (r : Lent) (words : List ℕ) (a : Arrival) where
@@ -28,16 +34,6 @@ module _ (r : Lent) (words : List ℕ) (a : Arrival) where
       e
       ∙ sym (number-first (lentTests r)
       ((not (eqb (length words) (recordLength (r .head .shape .layers))), 12) ∷ (counterTests (r .head .shape) a ++ deltaTestsAt (dimsAt (r .head .shape) (a .layer)) (deltaBy a words) (layerAt (view r) (a .layer)))) (λ z. h (e ∙ z)))
-
-  -- refused: the number, and nothing changed
-  pub call-refused : (n : ℕ) → n ≡ number (deltaTests r words a) → (n ≡ 0 → ⊥) → left n r ≡ leftBy r (deltaCall r words a)
-  unfolding deltaCall
-  call-refused n e k = left-refused (deltaTests r words a) r _ n e k
-
-  -- done
-  pub call-done : number (deltaTests r words a) ≡ 0 → left 0 (flat (arrived (view r) words a)) ≡ leftBy r (deltaCall r words a)
-  unfolding deltaCall deltaTests
-  call-done z = left-done (deltaTests r words a) r _ refl z
 
   -- what is not refused may be made, in whatever mode; the tests look neither at the mode nor at the fidelity
   pub arrives-of : (m : Mode) → number (deltaTests r words a) ≡ 0
@@ -65,3 +61,61 @@ module _ (r : Lent) (words : List ℕ) (a : Arrival) where
       ≡ arrived (view r) words a
   unfolding arrived view layerAt
   arrived-is = refl
+
+  -- ---- with a list of n words: 16 behind the other tests
+
+  module _ (n : ℕ) where
+    abbrev tests : List (Bool × ℕ)
+    tests = deltaTests r words a
+
+    abbrev room : List (Bool × ℕ)
+    room = listTests (2 * r .head .shape .layers) n
+
+    pub first-number : (m : ℕ) → m ≡ number tests → (m ≡ 0 → ⊥) → m ≡ number (tests ++ room)
+    first-number m e h = e ∙ sym (number-first tests room (λ z. h (e ∙ z)))
+
+    off : number tests ≡ 0 → Off tests
+    unfolding deltaTests
+    off z = off-number tests refl z
+
+    pub short-number : number tests ≡ 0 → n < 2 * r .head .shape .layers → 16 ≡ number (tests ++ room)
+    short-number z h = sym (number-rest tests room (off z) ∙ rw (lt-ltb n (2 * r .head .shape .layers) h))
+
+    pub long-number : number tests ≡ 0 → 2 * r .head .shape .layers ≤ n → 0 ≡ number (tests ++ room)
+    long-number z h = sym (number-rest tests room (off z) ∙ rw (le-ltb n (2 * r .head .shape .layers) h))
+
+    -- where nothing is refused, the list has a place for each layer
+    all-off : number (tests ++ room) ≡ 0 → Off (tests ++ room)
+    unfolding deltaTests
+    all-off z = off-number (tests ++ room) refl z
+
+    pub none-refused : number (tests ++ room) ≡ 0 → (number tests ≡ 0) × (2 * r .head .shape .layers ≤ n)
+    none-refused z = (number-off tests (off-first tests room (all-off z)), ltb-false n _ (off-rest tests room (all-off z) .0))
+
+    call-is : deltaListCall r words a n ≡ judge (tests ++ room) (flat (arrived (view r) words a))
+    unfolding deltaListCall deltaCall
+    call-is = list-judge (2 * r .head .shape .layers) n tests (flat (arrived (view r) words a))
+
+    -- refused: the number, and nothing changed
+    pub call-refused : (m : ℕ) → m ≡ number (tests ++ room) → (m ≡ 0 → ⊥) → left m r ≡ leftBy r (deltaListCall r words a n)
+    call-refused m e k = left-refused (tests ++ room) r _ m e k ∙ ap (leftBy r) (sym call-is)
+
+    -- done
+    pub call-done : number (tests ++ room) ≡ 0 → left 0 (flat (arrived (view r) words a)) ≡ leftBy r (deltaListCall r words a n)
+    unfolding deltaTests
+    call-done z = left-done (tests ++ room) r _ refl z ∙ ap (leftBy r) (sym call-is)
+
+  -- what the list tells: zeros first, then the layer's place
+  pub call-told : (list out : List ℕ) → number (deltaTests r words a) ≡ 0
+      → out ≡ tellAt (replicate (2 * r .head .shape .layers) 0 ++ drop (2 * r .head .shape .layers) list) (a .layer) (deltaAnswer (dimsAt (r .head .shape) (a .layer)) (deltaBy a words) (layerAt (view r) (a .layer)))
+      → out ≡ listLeft 0 (deltaAnswers (view r) words a) list
+  unfolding deltaAnswers tellLayers view
+  call-told list out z e =
+      let b = arrives-of (r .head .mode) z .placed .inside in
+      list-told (2 * r .head .shape .layers) (deltaAnswers (view r) words a) list out (length-layers 1 _ (r .head .shape .layers) 0)
+      (e ∙ tell-is _ (a .layer) _ ∙ told-touched (λ l. deltaAnswer (dimsAt (r .head .shape) l) (deltaBy a words) (layerAt (view r) l)) 1 (a .layer) (r .head .shape .layers) list (omega (arith, b)))
+
+  -- the mode is not looked at
+  pub same-layer : (m : Mode) (l : ℕ) → layerAt (view (lent (withMode (r .head) m) (r .counters) (r .norms) (r .entries) (r .counts))) l ≡ layerAt (view r) l
+  unfolding view layerAt
+  same-layer m l = refl

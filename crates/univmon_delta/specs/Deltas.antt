@@ -1,5 +1,5 @@
 -- A delta: "A delta's count has 32 bits, signed; it is accepted in terminal mode too, and an unset mode becomes standard."
-use Prim.Native.Nat.{ℕ}
+use Prim.Native.Nat.{ℕ, _*_}
 use mathlib.Core.Bool.{Bool, true, false, not}
 use mathlib.Core.List.{List, [], _∷_, _++_}
 use lib.IntN.{ℤ}
@@ -8,11 +8,12 @@ use Rattle.header.specs.Header.{withMode, settled}
 use Rattle.header.specs.declared.Shape.{Shape}
 use Rattle.layer.specs.declared.Dims.{Dims}
 use Rattle.layer.specs.Layer.{Layer}
-use Rattle.layer.specs.Delta.{Delta, deltaLayer, deltaReads, deltaFits}
+use Rattle.layer.specs.Delta.{Delta, deltaLayer, deltaAnswer, deltaReads, deltaFits}
 use Rattle.layout.specs.State.{State, shapeOf, rowsAt, colsAt, dimsAt, layerAt, putLayer, withHead}
 use Rattle.layout.specs.Records.{itemAt}
 use Rattle.layout.specs.Slices.{Lent, view, flat}
 use Rattle.layout.specs.Outcomes.{Outcome, judge, recordTests}
+use Rattle.layout.specs.Answers.{touchedPlaces, listCall}
 use Rattle.univmon_delta.specs.declared.Fidelity.{Fidelity}
 use Rattle.univmon_delta.specs.declared.Fidelity.the-variants as fidelity
 
@@ -39,6 +40,10 @@ unfoldable pub arrived : State → List ℕ → Arrival → State
 arrived s words a =
     putLayer (withHead s (withMode (s .head) (settled (s .head .mode)))) (a .layer) (deltaLayer (dimsAt (shapeOf s) (a .layer)) (deltaBy a words) (layerAt s (a .layer)))
 
+-- the list of a delta: what its layer did, as it stood before the call
+unfoldable pub deltaAnswers : State → List ℕ → Arrival → List ℕ
+deltaAnswers s words a = touchedPlaces (λ l. deltaAnswer (dimsAt (shapeOf s) l) (deltaBy a words) (layerAt s l)) 1 (a .layer) (shapeOf s .layers)
+
 -- 8 "layer, row or column outside the shape"
 abbrev pub counterTests : Shape → Arrival → List (Bool × ℕ)
 counterTests sh a = (leb (sh .layers) (a .layer), 8) ∷ (leb (rowsAt sh (a .layer)) (a .row), 8) ∷ (leb (colsAt sh (a .layer)) (a .col), 8) ∷ []
@@ -55,3 +60,7 @@ deltaTests r words a =
 
 unfoldable pub deltaCall : Lent → List ℕ → Arrival → Outcome
 deltaCall r words a = judge (deltaTests r words a) (flat (arrived (view r) words a))
+
+-- with a list of n words: "one place a layer", of two words
+unfoldable pub deltaListCall : Lent → List ℕ → Arrival → ℕ → Outcome
+deltaListCall r words a n = listCall (2 * r .head .shape .layers) n (deltaCall r words a)

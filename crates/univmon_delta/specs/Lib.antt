@@ -1,2 +1,3 @@
 pub mod Deltas
+pub mod Told
 pub mod inner

@@ -11,22 +11,28 @@ use layout::lent_refusal;
 use layout::norms_at;
 use layout::seats_at;
 use layout::span_of;
+use layout::zero_places;
 ghost use mathlib.Core.Path.{_≡_};
 ghost use mathlib.Core.Bool.{Bool, true, _&&_};
-ghost use Prim.Native.Nat.{ℕ, _<_};
+ghost use mathlib.Core.List.{_++_};
+ghost use Prim.Native.Nat.{ℕ, _+_, _*_, _≤_, _<_};
+ghost use lib.ListN.{length};
 ghost use Rattle.words.specs.Tests.{number};
 ghost use Rattle.heap.specs.Offer.{keptBy};
+ghost use Rattle.heap.specs.inner.Telling.{tellAt};
 ghost use Rattle.header.specs.Header.{withMode, settled};
-ghost use Rattle.layer.specs.Delta.{deltaLayer};
+ghost use Rattle.layer.specs.Delta.{deltaLayer, deltaAnswer};
 ghost use Rattle.layer.specs.inner.Needs.{delta};
 ghost use Rattle.layout.specs.State.{dimsAt, layerAt, putLayer};
 ghost use Rattle.layout.specs.Slices.{view};
 ghost use Rattle.layout.specs.Records.{itemAt};
 ghost use Rattle.layout.specs.Outcomes.{left, leftAfter};
+ghost use Rattle.layout.specs.Answers.{listLeft};
 ghost use Rattle.layout.specs.inner.Needs.{Standing};
+ghost use Rattle.layout.specs.inner.Telling.{listTests};
 ghost use Rattle.layout.specs.Lending.{lentIn, lentNow, lentOut};
 ghost use Rattle.univmon_delta.specs.declared.Fidelity.{Fidelity};
-ghost use Rattle.univmon_delta.specs.Deltas.{everyInsert, deltaTestsAt, deltaTests, deltaCall, arrival};
+ghost use Rattle.univmon_delta.specs.Deltas.{everyInsert, deltaTestsAt, deltaTests, deltaAnswers, deltaListCall, arrival};
 ghost use Rattle.univmon_delta.specs.inner.Needs.{Placed, Arrives};
 
 // How much of the stream reached a relay that is fed by deltas.
@@ -97,7 +103,8 @@ fn judge_delta(
     11
 }
 
-// Makes the delta on its layer, once it is judged.
+// Makes the delta on its layer, once it is judged; the layer's place in the list tells what the offer of
+// the key did.
 fn deliver(
     h: Header,
     counters: &mut [i64],
@@ -110,13 +117,18 @@ fn deliver(
     col: usize,
     count: i64,
     every: bool,
+    list: &mut [u64],
 ) -> Header
     requires { ⌜ Arrives (lentNow h counters norms entries counts) (now «record») l row col count ⌝ }
+    requires { ⌜ 2 * l + 2 ≤ length (now list) ⌝ }
     ensures { λ r. ⌜ view (lentOut r counters norms entries counts)
         ≡ putLayer (view (lentIn h counters norms entries counts)) l
         (deltaLayer (dimsAt (h .shape) l) (delta row col count (itemAt (now («record» .entry)) l) every)
         (layerAt (view (lentIn h counters norms entries counts)) l)) ⌝ }
     ensures { λ r. ⌜ Standing (lentOut r counters norms entries counts) ⌝ }
+    ensures { λ r. ⌜ now (list .exit) ≡ tellAt (now (list .entry)) l
+        (deltaAnswer (dimsAt (h .shape) l) (delta row col count (itemAt (now («record» .entry)) l) every)
+        (layerAt (view (lentIn h counters norms entries counts)) l)) ⌝ }
 {
     let shape = h.shape;
     let s = span_of(shape, l);
@@ -144,10 +156,12 @@ fn deliver(
         count,
         item,
     );
+    heap::tell_at(list, l, answer);
     h.touched(l, heap::len_after(len, answer), kept_all(answer, every))
 }
 
-// The number that a delta is refused with, 0 for none: 9, 12, 8, then 9 and 11 for its layer.
+// The number that a delta with a list of so many words is refused with, 0 for none: 9, 12, 8, then 9 and
+// 11 for its layer, then 16.
 fn delta_refusal(
     h: Header,
     counters: &[i64],
@@ -159,8 +173,9 @@ fn delta_refusal(
     row: usize,
     col: usize,
     count: i64,
+    list: usize,
 ) -> u64
-    ensures { λ r. ⌜ ((f : Fidelity) → r ≡ number (deltaTests (lentIn h counters norms entries counts) (now («record» .entry)) (arrival l row col count f))) ⌝ }
+    ensures { λ r. ⌜ ((f : Fidelity) → r ≡ number (deltaTests (lentIn h counters norms entries counts) (now («record» .entry)) (arrival l row col count f) ++ listTests (2 * h .shape .layers) list)) ⌝ }
 {
     let unfit = lent_refusal(h, counters, norms, entries, counts);
     if unfit != 0 {
@@ -180,7 +195,7 @@ fn delta_refusal(
     if d.cols <= col {
         return 8;
     }
-    judge_delta(
+    let unready = judge_delta(
         h,
         counters,
         norms,
@@ -191,7 +206,14 @@ fn delta_refusal(
         row,
         col,
         count,
-    )
+    );
+    if unready != 0 {
+        return unready;
+    }
+    if list < 2 * shape.layers {
+        return 16;
+    }
+    unready
 }
 
 // The header that a delta begins with: an unset mode becomes standard, and nothing is added up.
@@ -202,7 +224,7 @@ fn begin_delta(h: Header) -> Header
     h.with_mode(header::join(mode, Mode::Standard))
 }
 
-// A delta on one counter of one layer, and the offer of its key there: 9, 12, 8, 9, 11.
+// A delta on one counter of one layer, and the offer of its key there: 9, 12, 8, 9, 11, 16.
 pub fn apply_delta(
     header: Header,
     counters: &mut [i64],
@@ -215,9 +237,12 @@ pub fn apply_delta(
     col: usize,
     count: i32,
     fidelity: Fidelity,
+    list: &mut [u64],
 ) -> Answered
     ensures { λ r. ⌜ left (r .refusal) (lentOut (r .header) counters norms entries counts)
-        ≡ leftAfter (λ s. deltaCall s (now («record» .entry)) (arrival layer row col count fidelity)) (lentIn header counters norms entries counts) ⌝ }
+        ≡ leftAfter (λ s. deltaListCall s (now («record» .entry)) (arrival layer row col count fidelity) (length (now (list .entry)))) (lentIn header counters norms entries counts) ⌝ }
+    ensures { λ r. ⌜ now (list .exit)
+        ≡ listLeft (r .refusal) (deltaAnswers (view (lentIn header counters norms entries counts)) (now («record» .entry)) (arrival layer row col count fidelity)) (now (list .entry)) ⌝ }
 {
     let n = count as i64;
     let refusal = delta_refusal(
@@ -231,12 +256,14 @@ pub fn apply_delta(
         row,
         col,
         n,
+        list.len(),
     );
     if refusal != 0 {
         return Answered { refusal, header };
     }
     let begun = begin_delta(header);
     let every = every_insert(fidelity);
+    zero_places(list, header.shape.layers);
     Answered {
         refusal: 0,
         header: deliver(
@@ -251,6 +278,7 @@ pub fn apply_delta(
             col,
             n,
             every,
+            list,
         ),
     }
 }

@@ -1,3 +1,4 @@
 pub mod Pairing
 pub mod Pairings
 pub mod MergeCalls
+pub mod Told

@@ -2,9 +2,10 @@
 use mathlib.Core.Path.{_≡_, refl, sym, ap, _∙_}
 use mathlib.Core.Bool.{Bool, _&&_}
 use mathlib.Core.List.{List, _++_}
-use Prim.Native.Nat.{ℕ, zero, suc}
+use Prim.Native.Nat.{ℕ, zero, suc, _*_, _≤_}
 use native.Mathlib.Omega.{arith}
-use borrow.Author.Tests.{not-false}
+use lib.ListN.{length}
+use borrow.Author.Tests.{not-false, ltb-false}
 use Rattle.words.specs.Tests.{number}
 use Rattle.words.proofs.Tests.{Off, number-off, off-number, number-first, number-rest, off-first, off-rest}
 use Rattle.header.specs.declared.Mode.{Mode}
@@ -15,11 +16,16 @@ use Rattle.header.specs.Header.{begun}
 use Rattle.layer.specs.Layer.{Layer}
 use Rattle.layout.specs.State.{layerAt, overLayers, allLayers}
 use Rattle.layout.specs.Slices.{Lent, lent, view, flat}
-use Rattle.layout.specs.Outcomes.{left, leftBy, lentTests}
+use Rattle.layout.specs.Outcomes.{judge, left, leftBy, lentTests}
+use Rattle.layout.specs.Answers.{layerPlaces, listLeft}
+use Rattle.layout.specs.inner.Telling.{listTests, tellLayers}
 use Rattle.layout.proofs.Judged.{left-refused, left-done}
+use Rattle.layout.proofs.ListCalls.{list-judge}
+use Rattle.layout.proofs.Telling.{told-all, list-told, length-layers}
 use Rattle.layout.proofs.Lengths.{stands-of}
-use Rattle.univmon_merge.specs.Merges.{headsTests, pairTests, mergeTests, merged, mergeCall}
-use Rattle.univmon_merge.specs.inner.Pairs.{Paired, MergesReady, readsWith, fitsWith, mergesWith}
+use Rattle.univmon_merge.specs.Merges.{headsTests, pairTests, mergeTests, merged, mergeAnswers, mergeCall, mergeListCall}
+use Rattle.univmon_merge.specs.inner.Pairs.{Paired, MergesReady, readsWith, fitsWith, mergesWith, answersWith}
+use Rattle.univmon_merge.proofs.Pairing.{four}
 
 -- ---- the headers
 
@@ -71,28 +77,62 @@ module _ (r t : Lent) where
               inside = omega arith;
             }
 
+  -- ---- the list, behind the others
+
+  abbrev pub least : ℕ
+  least = 4 * r .head .shape .«heap_size» * r .head .shape .layers
+
+  pub tests-refused : (m n : ℕ) → n ≡ number (mergeTests r t) → (n ≡ 0 → ⊥) → n ≡ number (mergeTests r t ++ listTests least m)
+  tests-refused m n e h = e ∙ sym (number-first (mergeTests r t) (listTests least m) (λ z. h (e ∙ z)))
+
+  pub list-number : (m : ℕ) → number (mergeTests r t) ≡ 0 → number (mergeTests r t ++ listTests least m) ≡ number (listTests least m)
+  unfolding mergeTests
+  list-number m z = number-rest (mergeTests r t) (listTests least m) (off-number (mergeTests r t) refl z)
+
   -- ---- the call
 
+  listed : (m : ℕ) → mergeListCall r t m ≡ judge (mergeTests r t ++ listTests least m) (flat (merged (view r) (view t)))
+  unfolding mergeListCall mergeCall
+  listed m = list-judge least m (mergeTests r t) (flat (merged (view r) (view t)))
+
   -- refused: the number, and nothing changed
-  pub merge-refused : (n : ℕ) → n ≡ number (mergeTests r t) → (n ≡ 0 → ⊥) → left n r ≡ leftBy r (mergeCall r t)
-  unfolding mergeCall
-  merge-refused n e k = left-refused (mergeTests r t) r (flat (merged (view r) (view t))) n e k
+  pub merge-refused : (m n : ℕ) → n ≡ number (mergeTests r t ++ listTests least m) → (n ≡ 0 → ⊥) → left n r ≡ leftBy r (mergeListCall r t m)
+  merge-refused m n e k = left-refused (mergeTests r t ++ listTests least m) r (flat (merged (view r) (view t))) n e k ∙ ap (leftBy r) (sym (listed m))
 
   -- the state with its layers merged is the state after the merge
   pub merged-is : overLayers (mergesWith (r .head .shape) (view t)) (r .head .shape .layers) 0 (view (lent (begun (r .head) (t .head .totals) (t .head .mode)) (r .counters) (r .norms) (r .entries) (r .counts))) ≡ merged (view r) (view t)
   unfolding merged view
   merged-is = refl
 
-  module _ (z : number (mergeTests r t) ≡ 0) where
+  -- and the list is what the call leaves of it
+  pub told-is : (list out : List ℕ) → least ≤ length list
+      → out ≡ tellLayers (2 * r .head .shape .«heap_size») (answersWith (view (lent (begun (r .head) (t .head .totals) (t .head .mode)) (r .counters) (r .norms) (r .entries) (r .counts))) (view t)) (r .head .shape .layers) 0 list
+      → out ≡ listLeft 0 (mergeAnswers (view r) (view t)) list
+  unfolding mergeAnswers view layerAt
+  told-is list out h e =
+      let n = 2 * r .head .shape .«heap_size» in
+      let k = r .head .shape .layers in
+      let f = answersWith (view r) (view t) in
+      list-told (2 * n * k) (layerPlaces n f k 0) list out (length-layers n f k 0) (e ∙ told-all n f k list (rw (four (r .head .shape .«heap_size»)) h))
+
+  module _ (m : ℕ) (z : number (mergeTests r t ++ listTests least m) ≡ 0) where
     -- done
-    pub merge-done : left 0 (flat (merged (view r) (view t))) ≡ leftBy r (mergeCall r t)
-    unfolding mergeCall mergeTests
-    merge-done = left-done (mergeTests r t) r (flat (merged (view r) (view t))) refl z
+    pub merge-done : left 0 (flat (merged (view r) (view t))) ≡ leftBy r (mergeListCall r t m)
+    unfolding mergeTests
+    merge-done = left-done (mergeTests r t ++ listTests least m) r (flat (merged (view r) (view t))) refl z ∙ ap (leftBy r) (sym (listed m))
+
+    all : Off (mergeTests r t ++ listTests least m)
+    unfolding mergeTests
+    all = off-number (mergeTests r t ++ listTests least m) refl z
+
+    -- the list is long enough
+    pub list-room : least ≤ m
+    list-room = ltb-false m least (off-rest (mergeTests r t) (listTests least m) all .0)
 
     -- no test holds
     none : Off (lentTests r ++ (lentTests t ++ (heads ++ pairs)))
     unfolding mergeTests
-    none = off-number (mergeTests r t) refl z
+    none = off-first (mergeTests r t) (listTests least m) all
 
     others : Off (lentTests t ++ (heads ++ pairs))
     others = off-rest (lentTests r) (lentTests t ++ (heads ++ pairs)) none
@@ -105,8 +145,8 @@ module _ (r t : Lent) where
     totals-fit = number-off (totalsTests (r .head .totals) (t .head .totals)) (off-first heads pairs inner .1 .1)
 
     -- what is not refused may be made, with whatever totals and mode
-    pub merges-of : (w : Totals) (m : Mode) → MergesReady (lent (begun (r .head) w m) (r .counters) (r .norms) (r .entries) (r .counts)) t (r .head .shape .layers)
-    merges-of w m =
+    pub merges-of : (w : Totals) (mode : Mode) → MergesReady (lent (begun (r .head) w mode) (r .counters) (r .norms) (r .entries) (r .counts)) t (r .head .shape .layers)
+    merges-of w mode =
         let own = number-off (lentTests r) (off-first (lentTests r) (lentTests t ++ (heads ++ pairs)) none) in
         let other = number-off (lentTests t) (off-first (lentTests t) (heads ++ pairs) others) in
         let q = paired-of own other (number-off heads (off-first heads pairs inner)) in
@@ -115,7 +155,7 @@ module _ (r t : Lent) where
         record {
           ready = record {
             paired = record { standing = record { accepted = s .accepted; sizes = s .sizes; lens = s .lens }; other = q .other; same = q .same; inside = q .inside };
-            read = all-begun (readsWith (view t)) (r .head .shape .layers) 0 r w m ∙ not-false _ (p .0);
+            read = all-begun (readsWith (view t)) (r .head .shape .layers) 0 r w mode ∙ not-false _ (p .0);
           };
-          fit = all-begun (fitsWith (view t)) (r .head .shape .layers) 0 r w m ∙ not-false _ (p .1 .0);
+          fit = all-begun (fitsWith (view t)) (r .head .shape .layers) 0 r w mode ∙ not-false _ (p .1 .0);
         }

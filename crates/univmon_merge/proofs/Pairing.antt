@@ -2,15 +2,19 @@
 use mathlib.Core.Path.{_≡_, refl, sym, ap, ap₂, _∙_, subst}
 use mathlib.Core.Bool.{Bool, true, false, _&&_}
 use mathlib.Core.List.{List}
-use Prim.Native.Nat.{ℕ, _*_, _<_}
+use Prim.Native.Nat.{ℕ, _+_, _-_, _*_, _≤_, _<_}
 use native.Mathlib.Omega.{arith}
+use native.Mathlib.Nat.{mul-suc, mul-le-mul, le-refl}
 use lib.ListN.{length, getD, take}
 use lib.IntN.{ℤ}
 use Rattle.words.specs.Num.{allIn}
-use Rattle.words.specs.Parts.{part}
+use Rattle.words.specs.Parts.{part, putPart}
 use Rattle.words.proofs.Bools.{and-left, and-right}
+use Rattle.words.proofs.Parts.{length-part}
+use Rattle.heap.specs.Places.{places}
+use Rattle.header.specs.Shape.{maxLayers, maxHeap}
 use Rattle.header.specs.declared.Shape.{Shape}
-use Rattle.layer.specs.Merge.{mergeReads, mergeFits}
+use Rattle.layer.specs.Merge.{mergeAnswer, mergeReads, mergeFits}
 use Rattle.layer.specs.inner.Gather as gather
 use Rattle.layer.specs.inner.Needs.{Housed}
 use Rattle.layer.proofs.Merges.{merge-reads-are, merge-fits-are}
@@ -18,10 +22,11 @@ use Rattle.layout.specs.declared.Span.{Span}
 use Rattle.layout.specs.State.{dimsAt, cellOff, normOff, candOff, layerAt}
 use Rattle.layout.specs.Slices.{Lent, view}
 use Rattle.layout.specs.inner.Needs.{Sizes}
-use Rattle.layout.proofs.Pieces.{words-long}
+use Rattle.layout.specs.inner.Telling.{putPlaces}
+use Rattle.layout.proofs.Pieces.{Piece, piece, words-long}
 use Rattle.layout.proofs.Views.{shapeBy, layerBy, layerHere, layer-view, housed-here}
-use Rattle.layout.proofs.Handed.{Spanned, cellPart, normPart, wordPart, seatPart, cell-piece, housed, word-length, handed-is}
-use Rattle.univmon_merge.specs.inner.Pairs.{Paired, MergeReady, readsWith, fitsWith}
+use Rattle.layout.proofs.Handed.{Spanned, handed, cellPart, normPart, wordPart, seatPart, cell-piece, housed, word-length, handed-is}
+use Rattle.univmon_merge.specs.inner.Pairs.{Paired, MergeReady, readsWith, fitsWith, answersWith}
 
 -- the counters and the used counts of a layer, in the parts of the slices
 abbrev cellsOf : Shape → Lent → ℕ → List ℤ
@@ -99,6 +104,7 @@ merge-ready {r} {t} {l} {s} p q =
       words = word-length q;
       cells = h .cells;
       others = record { words = omega (arith, h .used, other-words w); few = omega (arith, h .used, h .few) };
+      otherUsed = h .used;
       read = ap allIn (cell-piece q .is) ∙ own-in w (p .ready .read);
       otherRead = other-in w (p .ready .read);
       fit =
@@ -112,3 +118,39 @@ merge-ready {r} {t} {l} {s} p q =
 pub flag-is : (a b c : Bool) → a && (b && c) ≡ a && b && c
 flag-is true b c = refl
 flag-is false b c = refl
+
+-- ---- the layer's places in the list
+
+-- two words for each place
+pub four : (h : ℕ) → 2 * (2 * h) ≡ 4 * h
+four h = omega arith
+
+-- a list with the places of k layers has those of layer l
+pub place-room : (h l k m : ℕ) → l < k → 4 * h * k ≤ m → 4 * h * l + 4 * h ≤ m
+place-room h l k m b r = omega (arith, mul-suc (4 * h) l, mul-le-mul (le-refl (4 * h)) b)
+
+module _ {r : Lent} {l : ℕ} {s : Span} (q : Spanned r l s) (list : List ℕ) (long : 4 * shapeBy r .«heap_size» * shapeBy r .layers ≤ length list) where
+  abbrev width : ℕ
+  width = 4 * shapeBy r .«heap_size»
+
+  room : width * l + width ≤ length list
+  room = place-room (shapeBy r .«heap_size») l (shapeBy r .layers) (length list) (q .inside) long
+
+  pub list-piece : Piece (width * l) (width * l + width) (width * l) width (4 * maxHeap * maxLayers) list
+  list-piece =
+      let a = q .standing .accepted in
+      let most = place-room (shapeBy r .«heap_size») l maxLayers (4 * shapeBy r .«heap_size» * maxLayers) (omega (arith, q .inside, a .few)) (le-refl _) in
+      piece (width * l) width (4 * maxHeap * maxLayers) list room (omega (arith, most, a .small))
+
+  pub list-length : length (part (width * l) (width * l + width - width * l) list) ≡ width
+  list-length = ap length (list-piece .is) ∙ length-part (width * l) width list room
+
+  pub list-back : {t : Lent} → Paired r t 1 l → (ys : List ℕ)
+      → ys ≡ places (2 * shapeBy r .«heap_size») (mergeAnswer (dimsAt (shapeBy r) l) (handed r l s) (layerBy (shapeBy r) t l))
+      → putPart (width * l) (width * l + width - width * l) list ys ≡ putPlaces (2 * shapeBy r .«heap_size») list l (answersWith (view r) (view t) l)
+  unfolding putPlaces view
+  list-back {t} p ys e =
+      let n = 2 * shapeBy r .«heap_size» in
+      list-piece .put ys
+      ∙ ap (putPart (width * l) width list) (e ∙ sym (ap (places n) (ap₂ (mergeAnswer (dimsAt (shapeBy r) l)) (handed-is q) (other-is p))))
+      ∙ sym (ap (λ (w : ℕ). putPart (w * l) w list (places n (answersWith (view r) (view t) l))) (four (shapeBy r .«heap_size»)))

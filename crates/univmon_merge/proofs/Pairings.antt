@@ -1,44 +1,45 @@
 -- The loops over the layers of two states: the tests, and the merge. Assumes nothing.
-use mathlib.Core.Path.{_≡_, sym, ap, _∙_, subst}
-use mathlib.Core.Bool.{Bool, true}
-use Prim.Native.Nat.{ℕ, zero, suc, _+_, _≤_, _<_}
+use mathlib.Core.Path.{_≡_, sym, ap, ap₂, _∙_, subst}
+use mathlib.Core.List.{List}
+use Prim.Native.Nat.{ℕ, _+_, _*_, _≤_, _<_}
 use native.Mathlib.Omega.{arith}
-use native.Mathlib.Decide.{ℕ-discrete}
-use Rattle.words.proofs.Bools.{and-left, and-right}
+use lib.ListN.{length}
 use Rattle.header.specs.declared.Shape.{Shape}
+use Rattle.layer.specs.Merge.{mergeAnswer}
 use Rattle.layer.specs.Layer.{Layer}
 use Rattle.layer.specs.inner.Needs.{Fits}
 use Rattle.layer.proofs.Merges.{merge-lengths}
-use Rattle.layout.specs.State.{State, dimsAt, layerAt, putLayer, overLayers, allLayers}
+use Rattle.layout.specs.State.{dimsAt, layerAt, putLayer, overLayers}
 use Rattle.layout.specs.Slices.{Lent, view}
 use Rattle.layout.specs.inner.Needs.{Standing}
-use Rattle.layout.proofs.States.{at-fits}
+use Rattle.layout.specs.inner.Telling.{putPlaces}
+use Rattle.layout.proofs.States.{at-fits, all-at}
 use Rattle.layout.proofs.Lengths.{long-view}
-use Rattle.layout.proofs.InTurn.{InTurn, in-turn-start, in-turn-inside, in-turn-test, in-turn-on, in-turn-end}
-use Rattle.univmon_merge.specs.inner.Pairs.{Paired, PairRead, PairsRead, MergeReady, MergesReady, readsWith, fitsWith, mergesWith}
+use Rattle.layout.proofs.InTurn.{InTurn, in-turn-start, in-turn-inside, in-turn-next, in-turn-test, in-turn-on, in-turn-end}
+use Rattle.layout.proofs.Telling.{ToldSoFar, told-on}
+use Rattle.univmon_merge.specs.inner.Pairs.{Paired, PairRead, PairsRead, MergeReady, MergesReady, readsWith, fitsWith, mergesWith, answersWith}
+use Rattle.univmon_merge.proofs.Pairing.{four, place-room}
 
 -- ---- the tests
-
--- one layer of many passes
-each-at : (p : ℕ → Layer → Bool) (s : State) (k l i : ℕ) → allLayers p k l s ≡ true → l ≤ i → i < k + l → p i (layerAt s i) ≡ true
-unfolding allLayers
-each-at p s zero l i e a b = absurd (omega arith)
-each-at p s (suc k) l i e a b = go (ℕ-discrete i l) (each-at p s k (suc l) i (and-right (p l (layerAt s l)) (allLayers p k (suc l) s) e))
-  where
-    go : Dec (i ≡ l) → (suc l ≤ i → i < k + suc l → p i (layerAt s i) ≡ true) → p i (layerAt s i) ≡ true
-    go (yes q) f = rw q (and-left (p l (layerAt s l)) (allLayers p k (suc l) s) e)
-    go (no q) f = f (omega arith) (omega arith)
 
 pub pair-one : (r t : Lent) (many l : ℕ) → Paired r t many 0 → l < many → Paired r t 1 l
 pair-one r t many l p h = record { standing = p .standing; other = p .other; same = p .same; inside = omega (arith, p .inside) }
 
 pub read-one : (r t : Lent) (many l : ℕ) → PairsRead r t many → l < many → PairRead r t l
-read-one r t many l p h = record { paired = pair-one r t many l (p .paired) h; read = each-at (readsWith (view t)) (view r) many 0 l (p .read) (omega arith) (omega arith) }
+read-one r t many l p h = record { paired = pair-one r t many l (p .paired) h; read = all-at (readsWith (view t)) many 0 (view r) l (omega arith) (omega arith) (p .read) }
 
 -- ---- the merge
 
 abbrev pub Merging : Lent → Lent → ℕ → Lent → ℕ → Type 0
 Merging r₀ t many r l = InTurn (mergesWith (r₀ .head .shape) (view t)) many 0 r₀ r l
+
+-- what the list is to tell of the layers, twice the heap size in places for each
+abbrev pub MergeTold : Lent → Lent → ℕ → List ℕ → List ℕ → ℕ → Type 0
+MergeTold r₀ t many list₀ list l = ToldSoFar (2 * r₀ .head .shape .«heap_size») (answersWith (view r₀) (view t)) many 0 list₀ list l
+
+pub merging-room : (r₀ r : Lent) (n : ℕ) → r .head .shape ≡ r₀ .head .shape → {m : ℕ} → n ≡ m → 4 * r₀ .head .shape .«heap_size» * r₀ .head .shape .layers ≤ m
+    → 4 * r .head .shape .«heap_size» * r .head .shape .layers ≤ n
+merging-room r₀ r n e q h = rw (e, q) h
 
 pub merging-start : (r t : Lent) (many : ℕ) → MergesReady r t many → Merging r t many r 0
 merging-start r t many p = in-turn-start (mergesWith (r .head .shape) (view t)) many 0 r (p .ready .paired .standing)
@@ -59,9 +60,9 @@ module _ (r₀ t : Lent) (many : ℕ) (p : MergesReady r₀ t many) (r : Lent) (
       record {
         ready = record {
           paired = record { standing = v .standing; other = p .ready .paired .other; same = same; inside = omega (arith, inside) };
-          read = in-turn-test v more (p .ready .paired .inside) (readsWith (view t)) (p .ready .read);
+          read = in-turn-test v more (p .ready .paired .inside) (omega arith) (readsWith (view t)) (p .ready .read);
         };
-        fit = in-turn-test v more (p .ready .paired .inside) (fitsWith (view t)) (p .fit);
+        fit = in-turn-test v more (p .ready .paired .inside) (omega arith) (fitsWith (view t)) (p .fit);
       }
 
   -- the layer was merged
@@ -75,6 +76,20 @@ module _ (r₀ t : Lent) (many : ℕ) (p : MergesReady r₀ t many) (r : Lent) (
       other-fits =
           subst (λ (sh : Shape). Fits (dimsAt sh l) (layerAt (view t) l)) same
           (at-fits (view t) (long-view t (p .ready .paired .other)) l (subst (λ (sh : Shape). l < sh .layers) (sym same) inside))
+
+  -- and its places told
+  pub merging-told : (list₀ list : List ℕ) → MergeTold r₀ t many list₀ list l → 4 * r₀ .head .shape .«heap_size» * r₀ .head .shape .layers ≤ length list₀
+      → (list′ : List ℕ) → list′ ≡ putPlaces (2 * r .head .shape .«heap_size») list l (answersWith (view r) (view t) l) → MergeTold r₀ t many list₀ list′ (l + 1)
+  unfolding view
+  merging-told list₀ list w room list′ e =
+      told-on (2 * r₀ .head .shape .«heap_size») (answersWith (view r₀) (view t)) many 0 list₀ list l w (omega (arith, w .long, here)) (answersWith (view r) (view t) l)
+      (ap₂ (λ (sh : Shape) (y : Layer). mergeAnswer (dimsAt sh l) y (layerAt (view t) l)) (v .shape) (in-turn-next v more (p .ready .paired .inside)))
+      list′ (e ∙ ap (λ (sh : Shape). putPlaces (2 * sh .«heap_size») list l (answersWith (view r) (view t) l)) (v .shape))
+    where
+      here : 2 * (2 * r₀ .head .shape .«heap_size») * l + 2 * (2 * r₀ .head .shape .«heap_size») ≤ length list₀
+      here =
+          rw (four (r₀ .head .shape .«heap_size»))
+          (place-room (r₀ .head .shape .«heap_size») l (r₀ .head .shape .layers) (length list₀) (omega (arith, p .ready .paired .inside)) room)
 
 pub merging-end : (r₀ t : Lent) (many : ℕ) (r : Lent) (l : ℕ) → Merging r₀ t many r l → many ≤ l → view r ≡ overLayers (mergesWith (r₀ .head .shape) (view t)) many 0 (view r₀)
 merging-end r₀ t many r l v h = in-turn-end v (omega arith)

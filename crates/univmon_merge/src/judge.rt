@@ -5,10 +5,13 @@ use layout::cells_at;
 use layout::lent_refusal;
 use layout::seats_at;
 ghost use mathlib.Core.Path.{_≡_};
+ghost use mathlib.Core.List.{_++_};
+ghost use Prim.Native.Nat.{_*_};
 ghost use Rattle.words.specs.Tests.{number};
 ghost use Rattle.layout.specs.State.{layerAt, allLayers};
 ghost use Rattle.layout.specs.Slices.{view};
 ghost use Rattle.layout.specs.Lending.{lentIn, lentNow};
+ghost use Rattle.layout.specs.inner.Telling.{listTests};
 ghost use Rattle.univmon_merge.specs.Merges.{headsTests, pairTests, mergeTests};
 ghost use Rattle.univmon_merge.specs.inner.Pairs.{Paired, PairRead, PairsRead, readsWith, fitsWith};
 
@@ -218,7 +221,7 @@ fn layers_refusal(
     0
 }
 
-// The number that a merge is refused with, 0 for none.
+// The number that a merge with a list of so many words is refused with, 0 for none.
 pub fn merge_refusal(
     h: Header,
     counters: &[i64],
@@ -230,8 +233,10 @@ pub fn merge_refusal(
     other_norms: &[u64],
     other_entries: &[u64],
     other_counts: &[i64],
+    list: usize,
 ) -> u64
-    ensures { λ r. ⌜ r ≡ number (mergeTests (lentIn h counters norms entries counts) (lentIn other «other_counters» «other_norms» «other_entries» «other_counts»)) ⌝ }
+    ensures { λ r. ⌜ r ≡ number (mergeTests (lentIn h counters norms entries counts) (lentIn other «other_counters» «other_norms» «other_entries» «other_counts»)
+        ++ listTests (4 * h .shape .«heap_size» * h .shape .layers) list) ⌝ }
 {
     let own = lent_refusal(h, counters, norms, entries, counts);
     if own != 0 {
@@ -252,7 +257,7 @@ pub fn merge_refusal(
         return heads;
     }
     let layers = h.shape.layers;
-    layers_refusal(
+    let unready = layers_refusal(
         h,
         counters,
         norms,
@@ -264,5 +269,12 @@ pub fn merge_refusal(
         other_entries,
         other_counts,
         layers,
-    )
+    );
+    if unready != 0 {
+        return unready;
+    }
+    if list < 4 * h.shape.heap_size * layers {
+        return 16;
+    }
+    0
 }

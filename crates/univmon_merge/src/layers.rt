@@ -7,12 +7,15 @@ use layout::span_of;
 use layout::words_at;
 ghost use mathlib.Core.Path.{_≡_};
 ghost use mathlib.Core.Bool.{_&&_};
+ghost use Prim.Native.Nat.{_*_, _≤_};
+ghost use lib.ListN.{length};
 ghost use lib.Dec.{leb};
 ghost use Rattle.layout.specs.State.{layerAt, putLayer, overLayers};
 ghost use Rattle.layout.specs.Slices.{view};
 ghost use Rattle.layout.specs.inner.Needs.{Standing};
+ghost use Rattle.layout.specs.inner.Telling.{putPlaces, tellLayers};
 ghost use Rattle.layout.specs.Lending.{lentIn, lentNow, lentOut};
-ghost use Rattle.univmon_merge.specs.inner.Pairs.{MergeReady, MergesReady, mergesWith};
+ghost use Rattle.univmon_merge.specs.inner.Pairs.{MergeReady, MergesReady, mergesWith, answersWith};
 
 // Whether no key was lost: the other layer's flag, and a seat for every distinct key.
 fn seated(flag: bool, keys: usize, size: usize) -> bool
@@ -24,7 +27,7 @@ fn seated(flag: bool, keys: usize, size: usize) -> bool
     keys <= size
 }
 
-// Merges one layer.
+// Merges one layer; its places in the list tell what was done with each key.
 fn merge_one(
     h: Header,
     counters: &mut [i64],
@@ -37,13 +40,18 @@ fn merge_one(
     other_entries: &[u64],
     other_counts: &[i64],
     l: usize,
+    list: &mut [u64],
 ) -> Header
     requires { ⌜ MergeReady (lentNow h counters norms entries counts) (lentNow other «other_counters» «other_norms» «other_entries» «other_counts») l ⌝ }
+    requires { ⌜ 4 * h .shape .«heap_size» * h .shape .layers ≤ length (now list) ⌝ }
     ensures { λ r. ⌜ view (lentOut r counters norms entries counts)
         ≡ putLayer (view (lentIn h counters norms entries counts)) l
         (mergesWith (h .shape) (view (lentIn other «other_counters» «other_norms» «other_entries» «other_counts»)) l
         (layerAt (view (lentIn h counters norms entries counts)) l)) ⌝ }
     ensures { λ r. ⌜ Standing (lentOut r counters norms entries counts) ⌝ }
+    ensures { λ r. ⌜ now (list .exit)
+        ≡ putPlaces (2 * h .shape .«heap_size») (now (list .entry)) l
+        (answersWith (view (lentIn h counters norms entries counts)) (view (lentIn other «other_counters» «other_norms» «other_entries» «other_counts»)) l) ⌝ }
 {
     let shape = h.shape;
     let s = span_of(shape, l);
@@ -60,11 +68,15 @@ fn merge_one(
     let ee = s.words_end;
     let ta = s.seats;
     let te = s.seats_end;
+    let width = 4 * shape.heap_size;
+    let pa = width * l;
+    let pe = pa + width;
     let m = layer::merge(
         &mut counters[ca..ce],
         &mut norms[na..ne],
         &mut entries[ea..ee],
         &mut counts[ta..te],
+        &mut list[pa..pe],
         d,
         len,
         cells_at(shape, l, other_counters),
@@ -76,7 +88,7 @@ fn merge_one(
     h.touched(l, m.len, whole)
 }
 
-// Merges many layers from the first on.
+// Merges many layers from the first on; the list has the places of every layer.
 pub fn merge_layers(
     h: Header,
     counters: &mut [i64],
@@ -89,12 +101,17 @@ pub fn merge_layers(
     other_entries: &[u64],
     other_counts: &[i64],
     many: usize,
+    list: &mut [u64],
 ) -> Header
     requires { ⌜ MergesReady (lentNow h counters norms entries counts) (lentNow other «other_counters» «other_norms» «other_entries» «other_counts») many ⌝ }
+    requires { ⌜ 4 * h .shape .«heap_size» * h .shape .layers ≤ length (now list) ⌝ }
     ensures { λ r. ⌜ view (lentOut r counters norms entries counts)
         ≡ overLayers (mergesWith (h .shape) (view (lentIn other «other_counters» «other_norms» «other_entries» «other_counts»))) many 0
         (view (lentIn h counters norms entries counts)) ⌝ }
     ensures { λ r. ⌜ Standing (lentOut r counters norms entries counts) ⌝ }
+    ensures { λ r. ⌜ now (list .exit)
+        ≡ tellLayers (2 * h .shape .«heap_size»)
+        (answersWith (view (lentIn h counters norms entries counts)) (view (lentIn other «other_counters» «other_norms» «other_entries» «other_counts»))) many 0 (now (list .entry)) ⌝ }
 {
     let mut header = h;
     let mut l = 0;
@@ -111,6 +128,7 @@ pub fn merge_layers(
             other_entries,
             other_counts,
             l,
+            list,
         );
         l += 1;
     }

@@ -1,46 +1,73 @@
--- The candidates of two layers gathered, as the code goes: entry by entry, with the number of distinct keys.
+-- The candidates of two layers gathered, as the code goes: entry by entry, with the number of distinct keys and the list of what their offers did.
 use Prim.Native.Nat.{ℕ, zero, suc, _+_, _*_, _≤_, _<_}
 use mathlib.Core.Path.{_≡_}
 use mathlib.Core.Bool.{true, cond}
 use mathlib.Core.List.{List, [], _∷_, map}
 use lib.ListN.{length, getD}
 use lib.IntN.{ℤ}
+use denote.Ref.{now}
 use Rattle.words.specs.Num.{allIn}
+use Rattle.words.specs.Lending.{SliceBoth}
 use Rattle.matrix_storage.specs.inner.Shaped.{Shaped}
 use Rattle.countsketch_l2_norm.specs.Merge.{sums}
 use Rattle.heap_moves.specs.declared.Item.{Item}
 use Rattle.heap_moves.specs.Cands.{mostCands}
 use Rattle.heap_moves.specs.Flat.{itemOf}
 use Rattle.heap.specs.Offer.{Table}
+use Rattle.heap.specs.Places.{places}
 use Rattle.heap.specs.inner.Slices.{tableOf}
+use Rattle.heap.specs.inner.Telling.{tellAt, tellAll}
 use Rattle.layer.specs.declared.Dims.{Dims}
 use Rattle.layer.specs.declared.Merged.{Merged}
 use Rattle.layer.specs.Layer.{offerTo, noTable}
-use Rattle.layer.specs.Merge.{hasKey, firsts, offerAll}
+use Rattle.layer.specs.Merge.{hasKey, firsts, offerAll, offerAnswers}
 use Rattle.layer.specs.inner.Needs.{Housed}
 
 abbrev pub itemKeys : List Item → List ℕ
 itemKeys ws = map (λ (w : Item). w .key) ws
 
--- the table, and the number of distinct keys
+-- the table, the number of distinct keys, and the list that tells what each of their offers did
 pub record Gathered : Type 0 where
   pub table : Table
   pub keys : ℕ
+  pub list : List ℕ
 
-abbrev pub gatheredOf : List ℕ → List ℤ → Merged → Gathered
-gatheredOf es ns g = record { table = tableOf es ns (g .len); keys = g .keys }
+abbrev pub gatheredOf : List ℕ → List ℤ → List ℕ → Merged → Gathered
+gatheredOf es ns list g = record { table = tableOf es ns (g .len); keys = g .keys; list = list }
 
--- each key of a list offered once, to an empty table
+-- in a contract: of the slices that a function is lent, at its entry and at its exit
+abbrev pub gatheredIn : SliceBoth ℕ → SliceBoth ℤ → SliceBoth ℕ → Merged → Gathered
+gatheredIn es ns list g = gatheredOf (now (es .entry)) (now (ns .entry)) (now (list .entry)) g
+
+abbrev pub gatheredOut : SliceBoth ℕ → SliceBoth ℤ → SliceBoth ℕ → Merged → Gathered
+gatheredOut es ns list g = gatheredOf (now (es .exit)) (now (ns .exit)) (now (list .exit)) g
+
+-- each key of a list offered once, to an empty table; two places for each seat tell what was done
 unfoldable pub mergeTable : Dims → List ℤ → List Item → Gathered
-mergeTable d cells ws = record { table = offerAll d cells (firsts [] ws) (noTable (d .size)); keys = length (firsts [] ws) }
+mergeTable d cells ws =
+    record {
+      table = offerAll d cells (firsts [] ws) (noTable (d .size));
+      keys = length (firsts [] ws);
+      list = places (2 * d .size) (offerAnswers d cells (firsts [] ws) (noTable (d .size)));
+    }
 
 -- one key offered
 unfoldable pub offerOne : Dims → List ℤ → Item → Gathered → Gathered
-offerOne d cells w g = record { table = offerTo d w cells (g .table) .table; keys = g .keys + 1 }
+offerOne d cells w g =
+    record {
+      table = offerTo d w cells (g .table) .table;
+      keys = g .keys + 1;
+      list = tellAt (g .list) (g .keys) (offerTo d w cells (g .table) .answer);
+    }
 
 -- the first entry of each key that was not seen is offered
 unfoldable pub gather : Dims → List ℤ → List ℕ → List Item → Gathered → Gathered
-gather d cells seen ws g = record { table = offerAll d cells (firsts seen ws) (g .table); keys = g .keys + length (firsts seen ws) }
+gather d cells seen ws g =
+    record {
+      table = offerAll d cells (firsts seen ws) (g .table);
+      keys = g .keys + length (firsts seen ws);
+      list = tellAll (g .list) (g .keys) (offerAnswers d cells (firsts seen ws) (g .table));
+    }
 
 -- n entries of a slice from the i-th on
 unfoldable pub itemsFrom : List ℕ → ℕ → ℕ → List Item
@@ -95,6 +122,7 @@ pub record LayerMergeReady (d : Dims) (len len₂ : ℕ) (xs : List ℤ) (ws es 
   pub words : length es ≡ 4 * d .size
   pub cells : length xs₂ ≡ d .rows * d .cols
   pub others : Entries (length es₂) len₂
+  pub otherUsed : len₂ ≤ d .size
   pub read : allIn xs ≡ true
   pub otherRead : allIn xs₂ ≡ true
   pub fit : allIn (sums xs xs₂) ≡ true

@@ -1,5 +1,5 @@
 -- What the inner functions need, by name.
-use Prim.Native.Nat.{ℕ, _+_, _≤_, _<_}
+use Prim.Native.Nat.{ℕ, _+_, _*_, _≤_, _<_}
 use mathlib.Core.Path.{_≡_}
 use mathlib.Core.Bool.{Bool, true, not, _&&_}
 use mathlib.Core.List.{List, [], _∷_, _++_}
@@ -14,10 +14,12 @@ use Rattle.layer.specs.Layer.{Layer, addReads, addFits, layerUpdate}
 use Rattle.layout.specs.State.{dimsAt, layerAt, allLayers, overLayers}
 use Rattle.layout.specs.Slices.{Lent, view, flat}
 use Rattle.layout.specs.Records.{recordLength, itemAt}
+use Rattle.layout.specs.Answers.{touchedPlaces}
 use Rattle.layout.specs.inner.Needs.{Standing}
+use Rattle.layout.specs.inner.Telling.{listTests}
 use Rattle.layout.specs.Outcomes.{Left, leftBy, judge, sizeTests, recordTest}
 use Rattle.univmon.specs.declared.Kind.{Kind}
-use Rattle.univmon.specs.Updates.{readsAt, fitsAt, addsAt, firstSent, manySent, bottomBy, layersTests, sentTests}
+use Rattle.univmon.specs.Updates.{readsAt, fitsAt, addsAt, answerAt, firstSent, manySent, bottomBy, layersTests, sentTests}
 use Rattle.univmon.specs.Calls.{placeTests}
 
 -- what the update of layer l needs
@@ -52,10 +54,16 @@ pub record JudgeReady (r : Lent) (words : List ℕ) (w many first : ℕ) : Type 
   pub light : w ≤ top
   pub inside : first + many ≤ r .head .shape .layers
 
--- what is left after many layers from the first on were tested and then sent to: a refusal and nothing changed, or 0 and the layers changed
-unfoldable pub sentBy : List ℕ → ℕ → ℕ → ℕ → Lent → Left
-sentBy words w many first r =
-    leftBy r (judge (layersTests (r .head .shape) words w many first (view r)) (flat (overLayers (addsAt (r .head .shape) words w) many first (view r))))
+-- what is left after many layers from the first on were tested, with a list of n words, and then sent to: a refusal and nothing changed, or 0 and the layers changed
+unfoldable pub sentBy : List ℕ → ℕ → ℕ → ℕ → ℕ → Lent → Left
+sentBy words w many first n r =
+    leftBy r
+    (judge (layersTests (r .head .shape) words w many first (view r) ++ listTests (2 * r .head .shape .layers) n)
+    (flat (overLayers (addsAt (r .head .shape) words w) many first (view r))))
+
+-- what the list tells then
+abbrev pub toldBy : List ℕ → ℕ → ℕ → ℕ → Lent → List ℕ
+toldBy words w many first r = touchedPlaces (answerAt (view r) words w) many first (r .head .shape .layers)
 
 -- what the tests and sends of a key need
 pub record KeyReady (r : Lent) (words : List ℕ) (w : ℕ) : Type 0 where
@@ -64,9 +72,12 @@ pub record KeyReady (r : Lent) (words : List ℕ) (w : ℕ) : Type 0 where
   pub recorded : length words ≡ recordLength (r .head .shape .layers)
   pub light : w ≤ top
 
--- tests and sends of the layers that a key reaches
-abbrev pub keySent : Kind → List ℕ → ℕ → Lent → Left
-keySent k words w r = sentBy words w (manySent k (bottomBy (view r) words)) (firstSent k (bottomBy (view r) words)) r
+-- tests and sends of the layers that a key reaches, and what they tell
+abbrev pub keySent : Kind → List ℕ → ℕ → ℕ → Lent → Left
+keySent k words w n r = sentBy words w (manySent k (bottomBy (view r) words)) (firstSent k (bottomBy (view r) words)) n r
+
+abbrev pub keyTold : Kind → List ℕ → ℕ → Lent → List ℕ
+keyTold k words w r = toldBy words w (manySent k (bottomBy (view r) words)) (firstSent k (bottomBy (view r) words)) r
 
 -- header, lengths and record, where a header's lengths and flags are lent too: 9, 12
 abbrev pub soundTests : Header → ℕ → ℕ → ℕ → ℕ → ℕ → List (Bool × ℕ)
@@ -76,9 +87,9 @@ soundTests h xs ws es ns n = placeTests h ++ (sizeTests h xs ws es ns ++ (record
 abbrev pub soundIn : Lent → List ℕ → List (Bool × ℕ)
 soundIn r words = soundTests (r .head) (length (r .counters)) (length (r .norms)) (length (r .entries)) (length (r .counts)) (length words)
 
--- what all of an update but its beginning leaves, where n is what the beginning is refused with: totals and mode stay
-unfoldable pub sentAfter : Kind → ℕ → List ℕ → ℤ → Lent → Left
-sentAfter k n words w r =
+-- what all of an update but its beginning leaves, where n is what the beginning is refused with and the list has m words: totals and mode stay
+unfoldable pub sentAfter : Kind → ℕ → List ℕ → ℤ → ℕ → Lent → Left
+sentAfter k n words w m r =
     leftBy r
-    (judge (soundIn r words ++ ((not (eqb n 0), n) ∷ sentTests k (view r) words w))
+    (judge (soundIn r words ++ ((not (eqb n 0), n) ∷ (sentTests k (view r) words w ++ listTests (2 * r .head .shape .layers) m)))
     (flat (overLayers (addsAt (r .head .shape) words (natAbs w)) (manySent k (bottomBy (view r) words)) (firstSent k (bottomBy (view r) words)) (view r))))

@@ -2,10 +2,12 @@
 use Prim.Native.Nat.{ℕ, _+_, _≤_}
 use mathlib.Core.Path.{_≡_}
 use mathlib.Core.Bool.{Bool, true}
+use mathlib.Core.List.{List}
 use Rattle.header.specs.declared.Shape.{Shape}
 use Rattle.layer.specs.Layer.{Layer}
-use Rattle.layer.specs.Merge.{mergeLayer, mergeReads, mergeFits}
-use Rattle.layout.specs.State.{State, dimsAt, layerAt, allLayers}
+use Rattle.heap.specs.declared.Answer.{Answer}
+use Rattle.layer.specs.Merge.{mergeLayer, mergeAnswer, mergeReads, mergeFits}
+use Rattle.layout.specs.State.{State, shapeOf, dimsAt, layerAt, allLayers}
 use Rattle.layout.specs.Slices.{Lent, view}
 use Rattle.layout.specs.inner.Needs.{Standing}
 
@@ -18,6 +20,10 @@ fitsWith t l y = mergeFits y (layerAt t l)
 
 abbrev pub mergesWith : Shape → State → ℕ → Layer → Layer
 mergesWith sh t l y = mergeLayer (dimsAt sh l) y (layerAt t l)
+
+-- and what it did with each key of two layers
+abbrev pub answersWith : State → State → ℕ → List Answer
+answersWith s t l = mergeAnswer (dimsAt (shapeOf s) l) (layerAt s l) (layerAt t l)
 
 -- two states of one shape, and layers that they have
 pub record Paired (r t : Lent) (many first : ℕ) : Type 0 where

@@ -9,23 +9,23 @@ use Rattle.layer.proofs.candidates.offer_firsts.Statement.{statement}
 use Rattle.layer.proofs.candidates.offer_firsts.Tie as tie
 
 abbrev Inv-loop : tie.InvT-loop
-Inv-loop entries₀ counts₀ d source n before m counters g₀ i₀ entries counts g i = GatherInv d counters before m source n entries₀ counts₀ g₀ entries counts g i
+Inv-loop entries₀ counts₀ list₀ d source n before m counters g₀ i₀ entries counts list g i = GatherInv d counters before m source n entries₀ counts₀ list₀ g₀ entries counts list g i
 
 abbrev μ-loop : tie.MeasureT-loop
-μ-loop entries₀ counts₀ d source n before m counters g₀ i₀ entries counts g i = n - i
+μ-loop entries₀ counts₀ list₀ d source n before m counters g₀ i₀ entries counts list g i = n - i
 
 loop-holds : tie.Need-loop-holds Inv-loop μ-loop
-loop-holds c = gather-holds _ _ _ _ _ _ _ _ _ (c .before .before .before .pre .1 .0 .used)
+loop-holds c = gather-holds _ _ _ _ _ _ _ _ _ _ (c .before .before .before .before .pre .1 .0 .used)
 
 offer-first-requires : tie.Need-offer-first-requires Inv-loop μ-loop
 offer-first-requires c κs =
-    let v = c .before .before .before .loop .inv in
-    let p = c .before .before .before .before .before .before .before .pre in
-    let t = c .before .before .loop-test .taken in (
+    let v = c .before .before .before .before .loop .inv in
+    let p = c .before .before .before .before .before .before .before .before .before .pre in
+    let t = c .before .before .before .loop-test .taken in (
       record { words = v .words ∙ p .0 .words; counts = v .counts ∙ p .0 .counts; some = p .0 .some; few = p .0 .few },
       (
         record { used = v .used; few = omega (arith, v .few, p .1 .0 .few, p .1 .1 .1 .0 .few, t) },
-        (p .1 .1 .0, (record { words = omega (arith, p .1 .1 .1 .0 .words, t); few = omega (arith, p .1 .1 .1 .0 .few, t) }, p .1 .1 .1 .1)),
+        (p .1 .1 .0, (record { words = omega (arith, p .1 .1 .1 .0 .words, t); few = omega (arith, p .1 .1 .1 .0 .few, t) }, (p .1 .1 .1 .1 .0, omega (arith, p .1 .1 .1 .1 .1, v .places, v .few, t)))),
       ),
     )
 
@@ -37,7 +37,7 @@ loop-less c = search needs
 
 loop-again : tie.Need-loop-again Inv-loop μ-loop
 loop-again c =
-    gather-again _ _ _ _ _ _ _ _ _ _ _ _ _ _ _ _ (c .before .before .before .before .before .before .before .loop .inv) (c .before .before .before .before .before .before .loop-test .taken) (search needs) (search needs) (c .before .before .before .offer-first .ensures)
+    gather-again _ _ _ _ _ _ _ _ _ _ _ _ _ _ _ _ _ _ _ (c .before .before .before .before .before .before .before .before .before .before .loop .inv) (c .before .before .before .before .before .before .before .before .before .loop-test .taken) (search needs) (search needs) (search needs) (c .before .before .before .before .before .offer-first .ensures)
 
 same-length : tie.Need-same-length Inv-loop μ-loop
 same-length c = search needs
@@ -45,10 +45,13 @@ same-length c = search needs
 same-length-2 : tie.Need-same-length-2 Inv-loop μ-loop
 same-length-2 c = search needs
 
+same-length-3 : tie.Need-same-length-3 Inv-loop μ-loop
+same-length-3 c = search needs
+
 returns : tie.Need-returns Inv-loop μ-loop
 returns c =
     let v = c .before .loop .inv in
-    (gather-done _ _ _ _ _ _ _ _ _ _ _ _ _ v (c .loop-test .left), record { used = v .used; few = omega (arith, v .few, v .low) })
+    (gather-done _ _ _ _ _ _ _ _ _ _ _ _ _ _ _ v (c .loop-test .left), record { used = v .used; few = omega (arith, v .few, v .low) })
 
 pub offer-firsts-spec : {M : Type 1} → statement M
-offer-firsts-spec = tie.close (tie.spec Inv-loop μ-loop loop-holds offer-first-requires add-i loop-less loop-again same-length same-length-2 returns)
+offer-firsts-spec = tie.close (tie.spec Inv-loop μ-loop loop-holds offer-first-requires add-i loop-less loop-again same-length same-length-2 same-length-3 returns)

@@ -10,11 +10,11 @@ use denote.Ref.{now}
 use mir.Facts.{toZ-ofZ}
 use Rattle.header.proofs.Refusals.{accepted-of}
 use Rattle.layout.specs.Slices.{Lent, lent}
-use Rattle.layout.specs.Outcomes.{left}
+use Rattle.layout.specs.Outcomes.{left, leftBy}
 use Rattle.layout.specs.declared.Extent.{Extent}
 use Rattle.panel_step.specs.Panel.{refusalIn}
 use Rattle.panel_step.proofs.Rooms.{Fit, fit-of}
-use Rattle.panel_step.proofs.Fronts.{no-shape, has-added}
+use Rattle.panel_step.proofs.Fronts.{no-shape, own-list, has-added}
 use Rattle.panel_step.proofs.calls.add.Statement.{statement}
 use Rattle.panel_step.proofs.calls.add.Tie as tie
 
@@ -78,6 +78,9 @@ slice-relend-prefix-update-weighted-4 c = seats-in (c .before .before .before)
 slice-aggregate-update-weighted-4 : tie.Need-slice-aggregate-update-weighted-4
 slice-aggregate-update-weighted-4 c = sym (length-take-le (c .before .before .before .before .extent-of .result .seats) (now (c .before .before .before .before .before .before .before .before .before .before .before .args .counts)) (seats-in (c .before .before .before .before)))
 
+slice-aggregate-update-weighted-5 : tie.Need-slice-aggregate-update-weighted-5
+slice-aggregate-update-weighted-5 c = search needs
+
 update-weighted-requires : tie.Need-update-weighted-requires
 update-weighted-requires c κs = search needs
 
@@ -95,8 +98,9 @@ same-length-4 c = search needs
 
 returns-2 : tie.Need-returns-2
 returns-2 c =
-    has-added (here (c .before .before .before .before .before .before .before .before .before .before .before .before .before .before .before .before .before .before)) (now (c .before .before .before .before .before .before .before .before .before .before .before .before .before .before .before .before .before .before .args .«record»)) (c .before .before .before .before .before .before .before .before .before .before .before .before .before .before .before .before .before .before .args .weight) (c .before .before .before .before .before .before .before .before .before .before .before .extent-of .result) _ (taken (c .before .before .before .before .before .before .before .before .before .before .before .before)) (c .before .before .before .before .before .before .before .before .before .before .before .extent-of .ensures)
-    (rw (toZ-ofZ (c .before .before .before .before .before .before .before .before .before .before .before .before .before .before .before .before .before .before .fits .weight)) at (c .before .before .before .before .before .before .update-weighted .ensures))
+    has-added (here (c .before .before .before .before .before .before .before .before .before .before .before .before .before .before .before .before .before .before .before .before)) (now (c .before .before .before .before .before .before .before .before .before .before .before .before .before .before .before .before .before .before .before .before .args .«record»)) (c .before .before .before .before .before .before .before .before .before .before .before .before .before .before .before .before .before .before .before .before .args .weight) (c .before .before .before .before .before .before .before .before .before .before .before .before .before .extent-of .result) _ (taken (c .before .before .before .before .before .before .before .before .before .before .before .before .before .before)) (c .before .before .before .before .before .before .before .before .before .before .before .before .before .extent-of .ensures)
+    (rw (toZ-ofZ (c .before .before .before .before .before .before .before .before .before .before .before .before .before .before .before .before .before .before .before .before .fits .weight)) at (c .before .before .before .before .before .before .before .update-weighted .ensures .0)
+    ∙ ap (leftBy _) (own-list _ (now (c .before .before .before .before .before .before .before .before .before .before .before .before .before .before .before .before .before .before .before .before .args .«record»)) (c .before .before .before .before .before .before .before .before .before .before .before .before .before .before .before .before .before .before .before .before .args .weight)))
 
 pub add-spec : {M : Type 1} → statement M
-add-spec = tie.close (tie.spec panel-refusal-requires refused-requires returns extent-of-requires slice-relend-prefix-update-weighted slice-aggregate-update-weighted slice-relend-prefix-update-weighted-2 slice-aggregate-update-weighted-2 slice-relend-prefix-update-weighted-3 slice-aggregate-update-weighted-3 slice-relend-prefix-update-weighted-4 slice-aggregate-update-weighted-4 update-weighted-requires same-length same-length-2 same-length-3 same-length-4 returns-2)
+add-spec = tie.close (tie.spec panel-refusal-requires refused-requires returns extent-of-requires slice-relend-prefix-update-weighted slice-aggregate-update-weighted slice-relend-prefix-update-weighted-2 slice-aggregate-update-weighted-2 slice-relend-prefix-update-weighted-3 slice-aggregate-update-weighted-3 slice-relend-prefix-update-weighted-4 slice-aggregate-update-weighted-4 slice-aggregate-update-weighted-5 update-weighted-requires same-length same-length-2 same-length-3 same-length-4 returns-2)

@@ -88,19 +88,22 @@ merge-requires : tie.Need-merge-requires
 merge-requires c κs = search needs
 
 same-length : tie.Need-same-length
-same-length c = c .before .before .before .before .before .before .merge .kept .1 .0
+same-length c = c .before .before .before .before .before .before .before .before .merge .kept .1 .0
 
 same-length-2 : tie.Need-same-length-2
-same-length-2 c = c .before .before .before .before .before .before .merge .kept .1 .1 .0
+same-length-2 c = c .before .before .before .before .before .before .before .before .merge .kept .1 .1 .0
 
 same-length-3 : tie.Need-same-length-3
-same-length-3 c = c .before .before .before .before .before .before .merge .kept .1 .1 .1 .0
+same-length-3 c = c .before .before .before .before .before .before .before .before .merge .kept .1 .1 .1 .0
 
 same-length-4 : tie.Need-same-length-4
-same-length-4 c = c .before .before .before .before .before .before .merge .kept .1 .1 .1 .1 .0
+same-length-4 c = c .before .before .before .before .before .before .before .before .merge .kept .1 .1 .1 .1 .0
+
+same-length-5 : tie.Need-same-length-5
+same-length-5 c = c .before .before .before .before .before .before .before .before .merge .kept .1 .1 .1 .1 .1 .1 .1 .1 .1 .1 .0
 
 returns : tie.Need-returns
 returns c = search needs
 
 pub merge-spec : {M : Type 1} → statement M
-merge-spec = tie.close (tie.spec lent-requires lent-requires-2 lent-requires-3 lent-requires-4 slice-aggregate-take-signed take-signed-requires slice-aggregate-copy copy-requires slice-aggregate-copy-2 copy-requires-2 slice-aggregate-take-signed-2 take-signed-requires-2 header-of-requires array-share-prefix-other-counters slice-aggregate-merge array-share-prefix-other-norms slice-aggregate-merge-2 array-share-prefix-other-entries slice-aggregate-merge-3 array-share-prefix-other-counts slice-aggregate-merge-4 merge-requires same-length same-length-2 same-length-3 same-length-4 returns)
+merge-spec = tie.close (tie.spec lent-requires lent-requires-2 lent-requires-3 lent-requires-4 slice-aggregate-take-signed take-signed-requires slice-aggregate-copy copy-requires slice-aggregate-copy-2 copy-requires-2 slice-aggregate-take-signed-2 take-signed-requires-2 header-of-requires array-share-prefix-other-counters slice-aggregate-merge array-share-prefix-other-norms slice-aggregate-merge-2 array-share-prefix-other-entries slice-aggregate-merge-3 array-share-prefix-other-counts slice-aggregate-merge-4 merge-requires same-length same-length-2 same-length-3 same-length-4 same-length-5 returns)

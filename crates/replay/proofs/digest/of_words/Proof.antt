@@ -6,10 +6,10 @@ use Rattle.replay.proofs.digest.of_words.Statement.{statement}
 use Rattle.replay.proofs.digest.of_words.Tie as tie
 
 abbrev Inv-loop : tie.InvT-loop
-Inv-loop start shelf at n d₀ i₀ d i = i ≤ n
+Inv-loop start words at n d₀ i₀ d i = i ≤ n
 
 abbrev μ-loop : tie.MeasureT-loop
-μ-loop start shelf at n d₀ i₀ d i = n - i
+μ-loop start words at n d₀ i₀ d i = n - i
 
 loop-holds : tie.Need-loop-holds Inv-loop μ-loop
 loop-holds c = search needs

@@ -1,7 +1,7 @@
 -- `state_forms::lay::lay_signed` meets its contract.
 -- Written by tools/places.py from answers.txt; assumes nothing.
 use mathlib.Core.Path.{_≡_, ap, _∙_}
-use lib.ListN.{length, take}
+use lib.ListN.{length, take, replicate}
 use lib.Seq.{length-sets}
 use native.Mathlib.Omega.{arith}
 use borrow.Author.Needs.{needs}
@@ -21,7 +21,7 @@ slice-aggregate-put-signed c = search needs
 digits-are : (c : tie.After-put-signed) → take (c .put-signed .result) (c .put-signed .last .0) ≡ signedDec (c .before .before .before .args .x)
 digits-are c =
     let e = toZ-ofZ (c .before .before .before .fits .x) in
-    put-part 21 (signedDec (c .before .before .before .args .x)) (c .put-signed .last .0) (c .put-signed .result) (signed-length (c .before .before .before .args .x)) (rw e at (c .put-signed .ensures .1)) (rw e at (c .put-signed .ensures .0))
+    put-part (replicate 21 0) (signedDec (c .before .before .before .args .x)) (c .put-signed .last .0) (c .put-signed .result) (signed-length (c .before .before .before .args .x)) (rw e at (c .put-signed .ensures .1)) (rw e at (c .put-signed .ensures .0))
 
 put-signed-requires : tie.Need-put-signed-requires
 put-signed-requires c κs = omega (arith, signed-length (toZ w64 (ofZ w64 (c .before .before .args .x))))

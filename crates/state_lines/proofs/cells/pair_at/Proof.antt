@@ -17,7 +17,7 @@ use Rattle.text.specs.Decimals.{fieldAt}
 use Rattle.text.specs.Signs.{intAt}
 use Rattle.text.proofs.IntReads.{int-fits}
 use Rattle.state_forms.specs.Grammar.{isZero}
-use Rattle.state_lines.proofs.Spots.{word-room, cell-no-word, cell-no-column, cell-no-value, cell-here}
+use Rattle.state_lines.proofs.Spots.{word-ends, cell-no-word, cell-no-column, cell-no-value, cell-here}
 use Rattle.text.specs.declared.decimals.Num.the-variants as N
 use Rattle.text.specs.declared.signed.Int.the-variants as I
 use Rattle.state_lines.proofs.cells.pair_at.Statement.{statement}
@@ -50,7 +50,7 @@ returns : tie.Need-returns
 returns c = sym (cell-no-word (now (c .before .before .before .before .args .s)) (c .before .before .before .before .args .at) (sym (c .before .has-word .ensures) ∙ not-true _ (c .if1 .taken)))
 
 add-field : tie.Need-add-field
-add-field c = record { fits = omega (arith, word-room 32 (40 ∷ []) (now (c .before .before .before .before .args .s)) (c .before .before .before .before .args .at) (word-yes c)) }
+add-field c = record { fits = omega (arith, word-ends (32 ∷ 40 ∷ []) (now (c .before .before .before .before .args .s)) (c .before .before .before .before .args .at) (omega arith) (word-yes c)) }
 
 field-requires : tie.Need-field-requires
 field-requires c κs = search needs

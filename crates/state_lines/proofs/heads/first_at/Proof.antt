@@ -11,7 +11,7 @@ use denote.Ref.{now}
 use Rattle.text.specs.Words.{bytesOf}
 use Rattle.state_forms.specs.Formats.{got, wordR, numR}
 use Rattle.state_forms.proofs.Rows.{space-stops, bracket-stops}
-use Rattle.state_lines.proofs.Spots.{word-here, word-off, word-room, field-here, field-off}
+use Rattle.state_lines.proofs.Spots.{word-here, word-off, word-ends, field-here, field-off}
 use Rattle.state_lines.proofs.FirstChain.{stops-0, stops-1, stops-2, stops-3, stops-4, stops-5, reads-first}
 use Rattle.state_lines.proofs.heads.first_at.Statement.{statement}
 use Rattle.state_lines.proofs.heads.first_at.Tie as tie
@@ -42,7 +42,7 @@ f4 : (c : tie.After-e) → numR 41 (drop (c .before .before .before .before .d .
 f4 c = field-here 41 bracket-stops (now (c .before .before .before .before .before .before .before .before .before .before .before .before .before .before .before .before .before .before .before .args .s)) (c .before .before .before .before .d .given .0 .1 .0) (c .e .given .0 .0) (c .e .given .0 .1 .0) (sym (c .before .before .field4 .ensures) ∙ c .e .given .1)
 
 add-field : tie.Need-add-field
-add-field c = record { fits = omega (arith, c .before .before .before .before .good .0, word-room 40 (117 ∷ 110 ∷ 105 ∷ 118 ∷ 109 ∷ 111 ∷ 110 ∷ 32 ∷ []) (now (c .before .before .before .before .args .s)) (c .before .before .before .before .args .at) (sym (c .before .has-word .ensures) ∙ not-false _ (c .if1 .left))) }
+add-field c = record { fits = omega (arith, c .before .before .before .before .good .0, word-ends (40 ∷ 117 ∷ 110 ∷ 105 ∷ 118 ∷ 109 ∷ 111 ∷ 110 ∷ 32 ∷ []) (now (c .before .before .before .before .args .s)) (c .before .before .before .before .args .at) (omega arith) (sym (c .before .has-word .ensures) ∙ not-false _ (c .if1 .left))) }
 
 field-requires : tie.Need-field-requires
 field-requires c κs = search needs
@@ -102,7 +102,7 @@ returns-6 : tie.Need-returns-6
 returns-6 c = sym (stops-5 (drop (c .before .before .before .before .before .before .before .before .before .before .before .before .before .before .before .before .before .before .before .before .before .before .before .args .at) (now (c .before .before .before .before .before .before .before .before .before .before .before .before .before .before .before .before .before .before .before .before .before .before .before .args .s))) (w0 (c .before .before .before .before .before .before .before .before .before .before .before .before .before .before .before .before .before .before .before)) (f1 (c .before .before .before .before .before .before .before .before .before .before .before .before .before .before .before .before)) (f2 (c .before .before .before .before .before .before .before .before .before .before .before .before)) (f3 (c .before .before .before .before .before .before .before .before)) (f4 (c .before .before .before .before)) (word-off (10 ∷ []) (now (c .before .before .before .before .before .before .before .before .before .before .before .before .before .before .before .before .before .before .before .before .before .before .before .args .s)) (c .before .before .before .before .e .given .0 .1 .0) (sym (c .before .has-word2 .ensures) ∙ not-true _ (c .if2 .taken))))
 
 add-t21 : tie.Need-add-t21
-add-t21 c = record { fits = omega (arith, c .before .before .before .before .before .before .before .before .before .before .before .before .before .before .before .before .before .before .before .before .before .before .before .good .0, word-room 10 [] (now (c .before .before .before .before .before .before .before .before .before .before .before .before .before .before .before .before .before .before .before .before .before .before .before .args .s)) (c .before .before .before .before .e .given .0 .1 .0) (sym (c .before .has-word2 .ensures) ∙ not-false _ (c .if2 .left))) }
+add-t21 c = record { fits = omega (arith, c .before .before .before .before .before .before .before .before .before .before .before .before .before .before .before .before .before .before .before .before .before .before .before .good .0, word-ends (10 ∷ []) (now (c .before .before .before .before .before .before .before .before .before .before .before .before .before .before .before .before .before .before .before .before .before .before .before .args .s)) (c .before .before .before .before .e .given .0 .1 .0) (omega arith) (sym (c .before .has-word2 .ensures) ∙ not-false _ (c .if2 .left))) }
 
 returns-7 : tie.Need-returns-7
 returns-7 c = sym (reads-first (drop (c .before .before .before .before .before .before .before .before .before .before .before .before .before .before .before .before .before .before .before .before .before .before .before .args .at) (now (c .before .before .before .before .before .before .before .before .before .before .before .before .before .before .before .before .before .before .before .before .before .before .before .args .s))) (w0 (c .before .before .before .before .before .before .before .before .before .before .before .before .before .before .before .before .before .before .before)) (f1 (c .before .before .before .before .before .before .before .before .before .before .before .before .before .before .before .before)) (f2 (c .before .before .before .before .before .before .before .before .before .before .before .before)) (f3 (c .before .before .before .before .before .before .before .before)) (f4 (c .before .before .before .before)) (word-here (10 ∷ []) (now (c .before .before .before .before .before .before .before .before .before .before .before .before .before .before .before .before .before .before .before .before .before .before .before .args .s)) (c .before .before .before .before .e .given .0 .1 .0) (sym (c .before .has-word2 .ensures) ∙ not-false _ (c .if2 .left))))

@@ -13,7 +13,7 @@ use denote.Ref.{now}
 use Rattle.text.specs.Words.{bytesOf}
 use Rattle.state_forms.specs.Formats.{got, wordR, numR}
 use Rattle.state_forms.proofs.Rows.{space-stops, bracket-stops}
-use Rattle.state_lines.proofs.Spots.{word-here, word-off, word-room, field-here, field-off}
+use Rattle.state_lines.proofs.Spots.{word-here, word-off, word-ends, field-here, field-off}
 use Rattle.state_lines.proofs.LineChain.{flag-0, flag-1, flag-2, flag-3, flag-layer, flag-big, reads-flag}
 use Rattle.state_lines.proofs.heads.flag_at.Statement.{statement}
 use Rattle.state_lines.proofs.heads.flag_at.Tie as tie
@@ -40,7 +40,7 @@ returns : tie.Need-returns
 returns c = sym (flag-0 (c .before .before .before .before .args .l) (drop (c .before .before .before .before .args .at) (now (c .before .before .before .before .args .s))) (word-off (bytesOf "(flag ") (now (c .before .before .before .before .args .s)) (c .before .before .before .before .args .at) (sym (c .before .has-word .ensures) ∙ not-true _ (c .if1 .taken))))
 
 add-field : tie.Need-add-field
-add-field c = record { fits = omega (arith, c .before .before .before .before .good .0, word-room 40 (102 ∷ 108 ∷ 97 ∷ 103 ∷ 32 ∷ []) (now (c .before .before .before .before .args .s)) (c .before .before .before .before .args .at) (sym (c .before .has-word .ensures) ∙ not-false _ (c .if1 .left))) }
+add-field c = record { fits = omega (arith, c .before .before .before .before .good .0, word-ends (40 ∷ 102 ∷ 108 ∷ 97 ∷ 103 ∷ 32 ∷ []) (now (c .before .before .before .before .args .s)) (c .before .before .before .before .args .at) (omega arith) (sym (c .before .has-word .ensures) ∙ not-false _ (c .if1 .left))) }
 
 field-requires : tie.Need-field-requires
 field-requires c κs = search needs
@@ -85,7 +85,7 @@ returns-6 : tie.Need-returns-6
 returns-6 c = sym (flag-3 (c .before .before .before .before .before .before .before .before .before .before .before .before .before .before .before .before .before .args .l) (drop (c .before .before .before .before .before .before .before .before .before .before .before .before .before .before .before .before .before .args .at) (now (c .before .before .before .before .before .before .before .before .before .before .before .before .before .before .before .before .before .args .s))) (w0 (c .before .before .before .before .before .before .before .before .before .before .before .before .before)) (f1 (c .before .before .before .before .before .before .before .before .before .before)) (same (c .before .before .before .before .before .before .before .before)) (f2 (c .before .before .before .before .before)) (few (c .before .before .before)) (word-off (10 ∷ []) (now (c .before .before .before .before .before .before .before .before .before .before .before .before .before .before .before .before .before .args .s)) (c .before .before .before .before .before .b .given .0 .1 .0) (sym (c .before .has-word2 .ensures) ∙ not-true _ (c .if4 .taken))))
 
 add-t16 : tie.Need-add-t16
-add-t16 c = record { fits = omega (arith, c .before .before .before .before .before .before .before .before .before .before .before .before .before .before .before .before .before .good .0, word-room 10 [] (now (c .before .before .before .before .before .before .before .before .before .before .before .before .before .before .before .before .before .args .s)) (c .before .before .before .before .before .b .given .0 .1 .0) (sym (c .before .has-word2 .ensures) ∙ not-false _ (c .if4 .left))) }
+add-t16 c = record { fits = omega (arith, c .before .before .before .before .before .before .before .before .before .before .before .before .before .before .before .before .before .good .0, word-ends (10 ∷ []) (now (c .before .before .before .before .before .before .before .before .before .before .before .before .before .before .before .before .before .args .s)) (c .before .before .before .before .before .b .given .0 .1 .0) (omega arith) (sym (c .before .has-word2 .ensures) ∙ not-false _ (c .if4 .left))) }
 
 returns-7 : tie.Need-returns-7
 returns-7 c = sym (reads-flag (c .before .before .before .before .before .before .before .before .before .before .before .before .before .before .before .before .before .args .l) (drop (c .before .before .before .before .before .before .before .before .before .before .before .before .before .before .before .before .before .args .at) (now (c .before .before .before .before .before .before .before .before .before .before .before .before .before .before .before .before .before .args .s))) (w0 (c .before .before .before .before .before .before .before .before .before .before .before .before .before)) (f1 (c .before .before .before .before .before .before .before .before .before .before)) (same (c .before .before .before .before .before .before .before .before)) (f2 (c .before .before .before .before .before)) (few (c .before .before .before)) (word-here (10 ∷ []) (now (c .before .before .before .before .before .before .before .before .before .before .before .before .before .before .before .before .before .args .s)) (c .before .before .before .before .before .b .given .0 .1 .0) (sym (c .before .has-word2 .ensures) ∙ not-false _ (c .if4 .left))))

@@ -12,8 +12,8 @@ use borrow.Author.Tests.{le-leb, lt-leb, not-true, not-false}
 use denote.Ref.{now}
 use Rattle.state_forms.specs.Formats.{got, wordR, numR}
 use Rattle.state_forms.proofs.Rows.{bracket-stops}
-use Rattle.state_lines.proofs.Spots.{word-here, word-off, word-room, field-here, field-off}
-use Rattle.state_lines.proofs.LineChain.{word-ends, line-0, line-1, line-2, line-3, reads-line}
+use Rattle.state_lines.proofs.Spots.{word-here, word-off, word-ends, field-here, field-off}
+use Rattle.state_lines.proofs.LineChain.{line-0, line-1, line-2, line-3, reads-line}
 use Rattle.state_lines.proofs.heads.line_at.Statement.{statement}
 use Rattle.state_lines.proofs.heads.line_at.Tie as tie
 
@@ -60,7 +60,7 @@ returns-4 : tie.Need-returns-4
 returns-4 c = sym (line-3 (now (c .before .before .before .before .before .before .before .before .before .before .before .before .args .word)) (c .before .before .before .before .before .before .before .before .before .before .before .before .args .most) (drop (c .before .before .before .before .before .before .before .before .before .before .before .before .args .at) (now (c .before .before .before .before .before .before .before .before .before .before .before .before .args .s))) (w0 (c .before .before .before .before .before .before .before .before)) (f1 (c .before .before .before .before .before)) (few (c .before .before .before)) (word-off (10 ∷ []) (now (c .before .before .before .before .before .before .before .before .before .before .before .before .args .s)) (c .before .before .before .before .before .a .given .0 .1 .0) (sym (c .before .has-word2 .ensures) ∙ not-true _ (c .if3 .taken))))
 
 add-t12 : tie.Need-add-t12
-add-t12 c = record { fits = omega (arith, c .before .before .before .before .before .before .before .before .before .before .before .before .good .0, word-room 10 [] (now (c .before .before .before .before .before .before .before .before .before .before .before .before .args .s)) (c .before .before .before .before .before .a .given .0 .1 .0) (sym (c .before .has-word2 .ensures) ∙ not-false _ (c .if3 .left))) }
+add-t12 c = record { fits = omega (arith, c .before .before .before .before .before .before .before .before .before .before .before .before .good .0, word-ends (10 ∷ []) (now (c .before .before .before .before .before .before .before .before .before .before .before .before .args .s)) (c .before .before .before .before .before .a .given .0 .1 .0) (omega arith) (sym (c .before .has-word2 .ensures) ∙ not-false _ (c .if3 .left))) }
 
 returns-5 : tie.Need-returns-5
 returns-5 c = sym (reads-line (now (c .before .before .before .before .before .before .before .before .before .before .before .before .args .word)) (c .before .before .before .before .before .before .before .before .before .before .before .before .args .most) (drop (c .before .before .before .before .before .before .before .before .before .before .before .before .args .at) (now (c .before .before .before .before .before .before .before .before .before .before .before .before .args .s))) (w0 (c .before .before .before .before .before .before .before .before)) (f1 (c .before .before .before .before .before)) (few (c .before .before .before)) (word-here (10 ∷ []) (now (c .before .before .before .before .before .before .before .before .before .before .before .before .args .s)) (c .before .before .before .before .before .a .given .0 .1 .0) (sym (c .before .has-word2 .ensures) ∙ not-false _ (c .if3 .left))))

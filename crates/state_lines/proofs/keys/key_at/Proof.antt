@@ -16,7 +16,7 @@ use Rattle.text.specs.Words.{bytesOf}
 use Rattle.text.proofs.IntReads.{int-fits}
 use Rattle.state_forms.specs.Formats.{got, wordR, numR, intR}
 use Rattle.state_forms.proofs.Rows.{space-stops, bracket-stops}
-use Rattle.state_lines.proofs.Spots.{word-here, word-off, word-room, field-here, field-off, int-here, int-off}
+use Rattle.state_lines.proofs.Spots.{word-here, word-off, word-ends, field-here, field-off, int-here, int-off}
 use Rattle.state_lines.proofs.KeyChain.{stops-0, stops-1, stops-2, stops-3, stops-4, stops-5, stops-6, stops-7, stops-layer, reads-key}
 use Rattle.state_lines.proofs.keys.key_at.Statement.{statement}
 use Rattle.state_lines.proofs.keys.key_at.Tie as tie
@@ -59,7 +59,7 @@ same : (c : tie.Else2) → eqb (c .before .before .a .given .0 .0) (c .before .b
 same c = eq-eqb (c .before .before .a .given .0 .0) (c .before .before .before .before .before .before .before .before .before .args .l) (c .if2 .left)
 
 add-field : tie.Need-add-field
-add-field c = record { fits = omega (arith, word-room 40 (107 ∷ 101 ∷ 121 ∷ 32 ∷ []) (now (c .before .before .before .before .args .s)) (c .before .before .before .before .args .at) (sym (c .before .has-word .ensures) ∙ not-false _ (c .if1 .left))) }
+add-field c = record { fits = omega (arith, word-ends (40 ∷ 107 ∷ 101 ∷ 121 ∷ 32 ∷ []) (now (c .before .before .before .before .args .s)) (c .before .before .before .before .args .at) (omega arith) (sym (c .before .has-word .ensures) ∙ not-false _ (c .if1 .left))) }
 
 field-requires : tie.Need-field-requires
 field-requires c κs = search needs
@@ -146,7 +146,7 @@ returns-9 : tie.Need-returns-9
 returns-9 c = sym (stops-7 (c .before .before .before .before .before .before .before .before .before .before .before .before .before .before .before .before .before .before .before .before .before .before .before .before .before .before .before .before .before .before .before .before .args .l) (drop (c .before .before .before .before .before .before .before .before .before .before .before .before .before .before .before .before .before .before .before .before .before .before .before .before .before .before .before .before .before .before .before .before .args .at) (now (c .before .before .before .before .before .before .before .before .before .before .before .before .before .before .before .before .before .before .before .before .before .before .before .before .before .before .before .before .before .before .before .before .args .s))) (w0 (c .before .before .before .before .before .before .before .before .before .before .before .before .before .before .before .before .before .before .before .before .before .before .before .before .before .before .before .before)) (f1 (c .before .before .before .before .before .before .before .before .before .before .before .before .before .before .before .before .before .before .before .before .before .before .before .before .before)) (same (c .before .before .before .before .before .before .before .before .before .before .before .before .before .before .before .before .before .before .before .before .before .before .before)) (f2 (c .before .before .before .before .before .before .before .before .before .before .before .before .before .before .before .before .before .before .before .before)) (f3 (c .before .before .before .before .before .before .before .before .before .before .before .before .before .before .before .before)) (f4 (c .before .before .before .before .before .before .before .before .before .before .before .before)) (f5 (c .before .before .before .before .before .before .before .before)) (f6 (c .before .before .before .before)) (word-off (10 ∷ []) (now (c .before .before .before .before .before .before .before .before .before .before .before .before .before .before .before .before .before .before .before .before .before .before .before .before .before .before .before .before .before .before .before .before .args .s)) (c .before .before .before .before .g .given .0 .1 .0) (sym (c .before .has-word2 .ensures) ∙ not-true _ (c .if3 .taken))))
 
 add-t29 : tie.Need-add-t29
-add-t29 c = record { fits = omega (arith, c .before .before .before .before .before .before .before .before .before .before .before .before .before .before .before .before .before .before .before .before .before .before .before .before .before .before .before .before .before .before .before .before .good .0, word-room 10 [] (now (c .before .before .before .before .before .before .before .before .before .before .before .before .before .before .before .before .before .before .before .before .before .before .before .before .before .before .before .before .before .before .before .before .args .s)) (c .before .before .before .before .g .given .0 .1 .0) (sym (c .before .has-word2 .ensures) ∙ not-false _ (c .if3 .left))) }
+add-t29 c = record { fits = omega (arith, c .before .before .before .before .before .before .before .before .before .before .before .before .before .before .before .before .before .before .before .before .before .before .before .before .before .before .before .before .before .before .before .before .good .0, word-ends (10 ∷ []) (now (c .before .before .before .before .before .before .before .before .before .before .before .before .before .before .before .before .before .before .before .before .before .before .before .before .before .before .before .before .before .before .before .before .args .s)) (c .before .before .before .before .g .given .0 .1 .0) (omega arith) (sym (c .before .has-word2 .ensures) ∙ not-false _ (c .if3 .left))) }
 
 returns-10 : tie.Need-returns-10
 returns-10 c = rw (back-is (c .before .before .before .before)) (sym (reads-key (c .before .before .before .before .before .before .before .before .before .before .before .before .before .before .before .before .before .before .before .before .before .before .before .before .before .before .before .before .before .before .before .before .args .l) (drop (c .before .before .before .before .before .before .before .before .before .before .before .before .before .before .before .before .before .before .before .before .before .before .before .before .before .before .before .before .before .before .before .before .args .at) (now (c .before .before .before .before .before .before .before .before .before .before .before .before .before .before .before .before .before .before .before .before .before .before .before .before .before .before .before .before .before .before .before .before .args .s))) (w0 (c .before .before .before .before .before .before .before .before .before .before .before .before .before .before .before .before .before .before .before .before .before .before .before .before .before .before .before .before)) (f1 (c .before .before .before .before .before .before .before .before .before .before .before .before .before .before .before .before .before .before .before .before .before .before .before .before .before)) (same (c .before .before .before .before .before .before .before .before .before .before .before .before .before .before .before .before .before .before .before .before .before .before .before)) (f2 (c .before .before .before .before .before .before .before .before .before .before .before .before .before .before .before .before .before .before .before .before)) (f3 (c .before .before .before .before .before .before .before .before .before .before .before .before .before .before .before .before)) (f4 (c .before .before .before .before .before .before .before .before .before .before .before .before)) (f5 (c .before .before .before .before .before .before .before .before)) (f6 (c .before .before .before .before)) (word-here (10 ∷ []) (now (c .before .before .before .before .before .before .before .before .before .before .before .before .before .before .before .before .before .before .before .before .before .before .before .before .before .before .before .before .before .before .before .before .args .s)) (c .before .before .before .before .g .given .0 .1 .0) (sym (c .before .has-word2 .ensures) ∙ not-false _ (c .if3 .left)))))

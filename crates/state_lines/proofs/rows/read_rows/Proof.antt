@@ -13,7 +13,7 @@ use borrow.Author.Tests.{le-ltb, le-leb, lt-leb, not-true, not-false}
 use denote.Ref.{now}
 use Rattle.text.specs.Words.{bytesOf, isPrefix}
 use Rattle.state_forms.specs.Grammar.{lineEnd, cellListing, rowListing}
-use Rattle.state_lines.proofs.Spots.{word-room, word-here, word-off}
+use Rattle.state_lines.proofs.Spots.{word-ends, word-here, word-off}
 use Rattle.state_forms.specs.Formats.{got}
 use Rattle.state_forms.specs.Sparse.{sparseR}
 use Rattle.state_lines.specs.inner.Places.{spot, numSpot, rowHeadR}
@@ -132,7 +132,7 @@ add-r : tie.Need-add-r Inv-loop μ-loop
 add-r c = record { fits = omega (arith, c .before .before .before .before .before .before .before .before .before .before .before .before .before .before .before .before .before .before .before .before .before .before .before .before .pre .0, c .before .before .before .before .before .before .before .before .before .before .before .before .if3 .left) }
 
 add-p : tie.Need-add-p Inv-loop μ-loop
-add-p c = record { fits = omega (arith, c .before .before .before .before .before .before .before .before .before .before .before .before .before .before .before .before .before .before .before .before .before .before .before .before .good .0, word-room 41 (10 ∷ []) (now (c .before .before .before .before .before .before .before .before .before .before .before .before .before .before .before .before .before .before .before .before .before .before .before .before .args .s)) (c .before .before .before .before .y .given .0 .0) (sym (c .before .has-word2 .ensures) ∙ not-false _ (c .if4 .left))) }
+add-p c = record { fits = omega (arith, c .before .before .before .before .before .before .before .before .before .before .before .before .before .before .before .before .before .before .before .before .before .before .before .before .good .0, word-ends (41 ∷ 10 ∷ []) (now (c .before .before .before .before .before .before .before .before .before .before .before .before .before .before .before .before .before .before .before .before .before .before .before .before .args .s)) (c .before .before .before .before .y .given .0 .0) (omega arith) (sym (c .before .has-word2 .ensures) ∙ not-false _ (c .if4 .left))) }
 
 loop-less : tie.Need-loop-less Inv-loop μ-loop
 loop-less c = omega (arith, c .before .before .before .before .before .before .before .before .before .before .before .before .before .if2 .left, c .before .before .before .before .before .before .before .before .before .before .before .before .if3 .left)

@@ -13,7 +13,7 @@ use denote.Ref.{now}
 use Rattle.text.specs.Words.{bytesOf}
 use Rattle.state_forms.specs.Formats.{got, wordR, numR}
 use Rattle.state_forms.proofs.Rows.{space-stops}
-use Rattle.state_lines.proofs.Spots.{word-here, word-off, word-room, field-here, field-off}
+use Rattle.state_lines.proofs.Spots.{word-here, word-off, word-ends, field-here, field-off}
 use Rattle.state_lines.proofs.LineChain.{row-0, row-1, row-2, row-layer, reads-row, space-before}
 use Rattle.state_lines.proofs.rows.row_head.Statement.{statement}
 use Rattle.state_lines.proofs.rows.row_head.Tie as tie
@@ -40,7 +40,7 @@ returns : tie.Need-returns
 returns c = sym (row-0 (c .before .before .before .before .args .l) (drop (c .before .before .before .before .args .at) (now (c .before .before .before .before .args .s))) (word-off (bytesOf "(row ") (now (c .before .before .before .before .args .s)) (c .before .before .before .before .args .at) (sym (c .before .has-word .ensures) ∙ not-true _ (c .if1 .taken))))
 
 add-field : tie.Need-add-field
-add-field c = record { fits = omega (arith, c .before .before .before .before .good .0, word-room 40 (114 ∷ 111 ∷ 119 ∷ 32 ∷ []) (now (c .before .before .before .before .args .s)) (c .before .before .before .before .args .at) (sym (c .before .has-word .ensures) ∙ not-false _ (c .if1 .left))) }
+add-field c = record { fits = omega (arith, c .before .before .before .before .good .0, word-ends (40 ∷ 114 ∷ 111 ∷ 119 ∷ 32 ∷ []) (now (c .before .before .before .before .args .s)) (c .before .before .before .before .args .at) (omega arith) (sym (c .before .has-word .ensures) ∙ not-false _ (c .if1 .left))) }
 
 field-requires : tie.Need-field-requires
 field-requires c κs = search needs

@@ -23,8 +23,8 @@ use Rattle.layout.specs.Outcomes.{left}
 use Rattle.state_text.specs.Calls.{unread}
 use Rattle.header.specs.declared.Answered.{Answered}
 use Rattle.state_lines.proofs.Known.{known}
-use Rattle.state_reader.proofs.Keepings.{each}
 use Rattle.state_reader.proofs.Callings.{rest-head, rest-bad, rest-more, rest-got, some-left, call-first, call-shape, call-lengths, call-rest, call-done, head-by, begins, lends-are}
+use Rattle.state_text.proofs.Built.{each}
 use Rattle.state_reader.proofs.call.read_state.Statement.{statement}
 use Rattle.state_reader.proofs.call.read_state.Tie as tie
 

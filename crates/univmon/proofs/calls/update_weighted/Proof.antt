@@ -20,8 +20,11 @@ same-length-3 c = search needs
 same-length-4 : tie.Need-same-length-4
 same-length-4 c = search needs
 
+same-length-5 : tie.Need-same-length-5
+same-length-5 c = search needs
+
 returns : tie.Need-returns
-returns c = rw (toZ-ofZ (c .before .before .before .before .before .before .before .before .before .before .before .before .before .before .fits .weight)) at (c .before .before .before .before .before .before .update-held .ensures)
+returns c = let e = c .before .before .before .before .before .before .before .before .update-held .ensures in (rw (toZ-ofZ (c .before .before .before .before .before .before .before .before .before .before .before .before .before .before .before .before .before .before .fits .weight)) at (e .0), rw (toZ-ofZ (c .before .before .before .before .before .before .before .before .before .before .before .before .before .before .before .before .before .before .fits .weight)) at (e .1))
 
 pub update-weighted-spec : {M : Type 1} → statement M
-update-weighted-spec = tie.close (tie.spec update-held-requires same-length same-length-2 same-length-3 same-length-4 returns)
+update-weighted-spec = tie.close (tie.spec update-held-requires same-length same-length-2 same-length-3 same-length-4 same-length-5 returns)

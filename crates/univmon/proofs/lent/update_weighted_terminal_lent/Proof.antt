@@ -26,8 +26,11 @@ same-length-5 c = search needs
 same-length-6 : tie.Need-same-length-6
 same-length-6 c = search needs
 
+same-length-7 : tie.Need-same-length-7
+same-length-7 c = search needs
+
 returns : tie.Need-returns
-returns c = rw (toZ-ofZ (c .before .before .before .before .before .before .before .before .before .before .before .before .before .before .before .before .before .before .before .before .before .before .fits .weight)) at (c .before .before .before .before .before .before .before .before .before .before .update-lent .ensures)
+returns c = let e = c .before .before .before .before .before .before .before .before .before .before .before .before .update-lent .ensures in (rw (toZ-ofZ (c .before .before .before .before .before .before .before .before .before .before .before .before .before .before .before .before .before .before .before .before .before .before .before .before .before .before .fits .weight)) at (e .0), rw (toZ-ofZ (c .before .before .before .before .before .before .before .before .before .before .before .before .before .before .before .before .before .before .before .before .before .before .before .before .before .before .fits .weight)) at (e .1))
 
 pub update-weighted-terminal-lent-spec : {M : Type 1} → statement M
-update-weighted-terminal-lent-spec = tie.close (tie.spec update-lent-requires same-length same-length-2 same-length-3 same-length-4 same-length-5 same-length-6 returns)
+update-weighted-terminal-lent-spec = tie.close (tie.spec update-lent-requires same-length same-length-2 same-length-3 same-length-4 same-length-5 same-length-6 same-length-7 returns)

@@ -21,30 +21,30 @@ abbrev lent-of : tie.Start → Lent
 lent-of c = lent (headOf (c .args .h) (now (c .args .lens)) (now (c .args .flags))) (now (c .args .counters)) (now (c .args .norms)) (now (c .args .entries)) (now (c .args .counts))
 
 bottom-of-requires : tie.Need-bottom-of-requires
-bottom-of-requires c κs = let q = c .before .before .before .before .before .before .pre .standing .accepted in (q .some, omega (arith, q .few))
+bottom-of-requires c κs = let q = c .before .before .before .before .before .before .before .pre .standing .accepted in (q .some, omega (arith, q .few))
 
 first-sent-requires : tie.Need-first-sent-requires
 first-sent-requires c κs = search needs
 
 add-many : tie.Need-add-many
-add-many c = let q = c .before .before .before .before .before .before .before .before .pre .standing .accepted in record { fits = omega (arith, q .few, c .before .bottom-of .ensures .1) }
+add-many c = let q = c .before .before .before .before .before .before .before .before .before .pre .standing .accepted in record { fits = omega (arith, q .few, c .before .bottom-of .ensures .1) }
 
 sub-many : tie.Need-sub-many
-sub-many c = rw (c .first-sent .ensures) (first-below (c .before .before .before .before .before .before .before .before .args .kind) (c .before .bottom-of .result))
+sub-many c = rw (c .first-sent .ensures) (first-below (c .before .before .before .before .before .before .before .before .before .args .kind) (c .before .bottom-of .result))
 
 -- the layers that the key is sent to
-bottom-is : (c : tie.After-bottom-of) → c .bottom-of .result ≡ bottomBy (view (lent-of (c .before .before .before .before .before .before .before))) (now (c .before .before .before .before .before .before .before .args .«record»))
+bottom-is : (c : tie.After-bottom-of) → c .bottom-of .result ≡ bottomBy (view (lent-of (c .before .before .before .before .before .before .before .before))) (now (c .before .before .before .before .before .before .before .before .args .«record»))
 unfolding view
 bottom-is c = c .bottom-of .ensures .0
 
-first-is : (c : tie.After-first-sent) → c .first-sent .result ≡ firstSent (c .before .before .before .before .before .before .before .before .args .kind) (bottomBy (view (lent-of (c .before .before .before .before .before .before .before .before))) (now (c .before .before .before .before .before .before .before .before .args .«record»)))
-first-is c = c .first-sent .ensures ∙ ap (firstSent (c .before .before .before .before .before .before .before .before .args .kind)) (bottom-is (c .before))
+first-is : (c : tie.After-first-sent) → c .first-sent .result ≡ firstSent (c .before .before .before .before .before .before .before .before .before .args .kind) (bottomBy (view (lent-of (c .before .before .before .before .before .before .before .before .before))) (now (c .before .before .before .before .before .before .before .before .before .args .«record»)))
+first-is c = c .first-sent .ensures ∙ ap (firstSent (c .before .before .before .before .before .before .before .before .before .args .kind)) (bottom-is (c .before))
 
-many-is : (c : tie.After-first-sent) → c .before .bottom-of .result + 1 - c .first-sent .result ≡ manySent (c .before .before .before .before .before .before .before .before .args .kind) (bottomBy (view (lent-of (c .before .before .before .before .before .before .before .before))) (now (c .before .before .before .before .before .before .before .before .args .«record»)))
-many-is c = rw (c .first-sent .ensures) (many-sent (c .before .before .before .before .before .before .before .before .args .kind) (c .before .bottom-of .result)) ∙ ap (manySent (c .before .before .before .before .before .before .before .before .args .kind)) (bottom-is (c .before))
+many-is : (c : tie.After-first-sent) → c .before .bottom-of .result + 1 - c .first-sent .result ≡ manySent (c .before .before .before .before .before .before .before .before .before .args .kind) (bottomBy (view (lent-of (c .before .before .before .before .before .before .before .before .before))) (now (c .before .before .before .before .before .before .before .before .before .args .«record»)))
+many-is c = rw (c .first-sent .ensures) (many-sent (c .before .before .before .before .before .before .before .before .before .args .kind) (c .before .bottom-of .result)) ∙ ap (manySent (c .before .before .before .before .before .before .before .before .before .args .kind)) (bottom-is (c .before))
 
 send-judged-requires : tie.Need-send-judged-requires
-send-judged-requires c κs = let a = c .before .before .before .before .before .before .before .before .before .before .before .before .before .before .args in rw (many-is (c .before .before .before .before .before .before), first-is (c .before .before .before .before .before .before)) (judge-ready (a .kind) (lent-of (c .before .before .before .before .before .before .before .before .before .before .before .before .before .before)) (now (a .«record»)) (a .weight) (c .before .before .before .before .before .before .before .before .before .before .before .before .before .before .pre))
+send-judged-requires c κs = let a = c .before .before .before .before .before .before .before .before .before .before .before .before .before .before .before .before .args in rw (many-is (c .before .before .before .before .before .before .before), first-is (c .before .before .before .before .before .before .before)) (judge-ready (a .kind) (lent-of (c .before .before .before .before .before .before .before .before .before .before .before .before .before .before .before .before)) (now (a .«record»)) (a .weight) (c .before .before .before .before .before .before .before .before .before .before .before .before .before .before .before .before .pre))
 
 same-length : tie.Need-same-length
 same-length c = search needs
@@ -64,8 +64,11 @@ same-length-5 c = search needs
 same-length-6 : tie.Need-same-length-6
 same-length-6 c = search needs
 
+same-length-7 : tie.Need-same-length-7
+same-length-7 c = search needs
+
 returns : tie.Need-returns
-returns c = rw (many-is (c .before .before .before .before .before .before .before .before .before .before .before .before .before .before .before .before .before), first-is (c .before .before .before .before .before .before .before .before .before .before .before .before .before .before .before .before .before)) at (c .before .before .before .before .before .before .before .before .before .before .send-judged .ensures)
+returns c = let e = c .before .before .before .before .before .before .before .before .before .before .before .before .send-judged .ensures in (rw (many-is (c .before .before .before .before .before .before .before .before .before .before .before .before .before .before .before .before .before .before .before .before), first-is (c .before .before .before .before .before .before .before .before .before .before .before .before .before .before .before .before .before .before .before .before)) at (e .0), rw (many-is (c .before .before .before .before .before .before .before .before .before .before .before .before .before .before .before .before .before .before .before .before), first-is (c .before .before .before .before .before .before .before .before .before .before .before .before .before .before .before .before .before .before .before .before)) at (e .1))
 
 pub send-key-spec : {M : Type 1} → statement M
-send-key-spec = tie.close (tie.spec shared-slice-read-bottom-of bottom-of-requires first-sent-requires add-many sub-many send-judged-requires same-length same-length-2 same-length-3 same-length-4 same-length-5 same-length-6 returns)
+send-key-spec = tie.close (tie.spec shared-slice-read-bottom-of bottom-of-requires first-sent-requires add-many sub-many send-judged-requires same-length same-length-2 same-length-3 same-length-4 same-length-5 same-length-6 same-length-7 returns)

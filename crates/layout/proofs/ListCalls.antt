@@ -1,0 +1,35 @@
+-- A call with a list: 16 behind its other tests. Assumes nothing.
+use mathlib.Core.Path.{_≡_, refl}
+use mathlib.Core.Bool.{Bool, true, false, cond}
+use mathlib.Core.List.{List, [], _∷_, _++_}
+use Prim.Native.Nat.{ℕ, _≤_}
+use borrow.Author.Tests.{ltb-false, le-ltb}
+use lib.Dec.{ltb}
+use Rattle.layout.specs.Slices.{Lent}
+use Rattle.layout.specs.Outcomes.{Outcome, judge}
+use Rattle.layout.specs.Answers.{listCall}
+use Rattle.layout.specs.inner.Telling.{listTests}
+use Rattle.layout.proofs.Judged.{no-yes}
+
+-- accepted with its list, it is accepted without
+pub list-yes : (least n : ℕ) (o : Outcome) (t : Lent) → listCall least n o ≡ Outcome.yes t → (o ≡ Outcome.yes t) × (least ≤ n)
+list-yes least n (Outcome.no m) t e = absurd (no-yes m t e)
+list-yes least n (Outcome.yes r) t e = go (ltb n least) refl e
+  where
+    go : (b : Bool) → ltb n least ≡ b → cond b (Outcome.no 16) (Outcome.yes r) ≡ Outcome.yes t → (Outcome.yes r ≡ Outcome.yes t) × (least ≤ n)
+    go true q e = absurd (no-yes 16 t e)
+    go false q e = (e, ltb-false n least q)
+
+-- a list that is long enough changes nothing; it need be so only where the call is accepted
+pub list-long : (least n : ℕ) (o : Outcome) → ((t : Lent) → o ≡ Outcome.yes t → least ≤ n) → listCall least n o ≡ o
+list-long least n (Outcome.no m) h = refl
+list-long least n (Outcome.yes t) h = rw (le-ltb n least (h t refl))
+
+-- the list's test stands behind the call's own
+pub list-judge : (least n : ℕ) (ts : List (Bool × ℕ)) (t : Lent) → listCall least n (judge ts t) ≡ judge (ts ++ listTests least n) t
+list-judge least n [] t = refl
+list-judge least n (x ∷ ts) t = go (list-judge least n ts t) (x .0)
+  where
+    go : listCall least n (judge ts t) ≡ judge (ts ++ listTests least n) t → (b : Bool) → listCall least n (cond b (Outcome.no (x .1)) (judge ts t)) ≡ cond b (Outcome.no (x .1)) (judge (ts ++ listTests least n) t)
+    go ih true = refl
+    go ih false = ih
