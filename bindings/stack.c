@@ -1,8 +1,9 @@
 /* The greatest stack of each call of univmon.h, measured.
- *   cc -std=c11 -O2 -I bindings/c bindings/stack.c target/staticlib/libunivmon_c.a -o target/bindings/stack && target/bindings/stack
+ *   cc -std=c11 -O2 -I bindings/c bindings/stack.c target/staticlib/lib*.a -o target/bindings/stack && target/bindings/stack
  * Each call runs on painted memory of its own, in states whose every layer is full: 19 layers of 1,024 candidates, by
  * 20 rows of 32 columns, 9 rows of 4,096 and 5 rows of 2,048 (five rows have code of their own), in standard and in
- * terminal mode, with known keys, new keys and keys that push others out. Counted is from the top of the memory to
+ * terminal mode, with known keys, new keys and keys that push others out; the calls on two tiers with one of these in
+ * the first 9 layers and another in the others. Counted is from the top of the memory to
  * the deepest byte that changed: the call with its arguments and its answer, and a caller that does nothing else.
  * Writes a line a call, the greatest of all that was measured. Fails where one is above 128 KiB. */
 #define _GNU_SOURCE
@@ -72,17 +73,20 @@ typedef struct dims {
 } dims;
 
 static const dims SHAPES[] = {{20, 32}, {9, 4096}, {5, 2048}};
-enum { MOST_COUNTERS = 9 * 4096, MOST_ROWS = UNIVMON_MAX_ROWS };
+enum { MOST_COUNTERS = 9 * 4096, MOST_ROWS = UNIVMON_MAX_ROWS, ELEPHANTS = 9 };
 
+/* Arrays with a header of one tier or of two. */
 typedef struct state {
     univmon_header header;
+    univmon_two_tier_header wide;
     int64_t counters[UNIVMON_COUNTERS(1, MOST_COUNTERS, LAYERS)];
     uint64_t norms[UNIVMON_NORMS(MOST_ROWS, LAYERS)];
     uint64_t entries[UNIVMON_ENTRIES(HEAP, LAYERS)];
     int64_t counts[UNIVMON_COUNTS(HEAP, LAYERS)];
 } state;
 
-static dims shape;
+static int tiers;
+static dims shape, mice; /* the first layers' and, with two tiers, the others' */
 static uint64_t mode;
 static state one, two;
 static uint8_t text[UNIVMON_TEXT_MAX(HEAP, 9, 4096, LAYERS)];
@@ -95,6 +99,10 @@ static int turn;
 #define ALL(s) \
     (s).counters, UNIVMON_COUNTERS(shape.rows, shape.cols, LAYERS), (s).norms, UNIVMON_NORMS(shape.rows, LAYERS), \
         (s).entries, UNIVMON_ENTRIES(HEAP, LAYERS), (s).counts, UNIVMON_COUNTS(HEAP, LAYERS)
+#define WIDE(s) \
+    (s).counters, UNIVMON_TWO_TIER_COUNTERS(ELEPHANTS, shape.rows, shape.cols, mice.rows, mice.cols, LAYERS), (s).norms, \
+        UNIVMON_TWO_TIER_NORMS(ELEPHANTS, shape.rows, mice.rows, LAYERS), (s).entries, UNIVMON_ENTRIES(HEAP, LAYERS), \
+        (s).counts, UNIVMON_COUNTS(HEAP, LAYERS)
 #define RECORD record, UNIVMON_RECORD(LAYERS)
 #define LIST list, UNIVMON_LIST(LAYERS)
 
@@ -107,19 +115,45 @@ static void set_record(uint64_t key, uint64_t bottom) {
     }
 }
 
+/* A fresh state, and the record counted in a state: by one tier or two; the refusal. */
+static uint64_t start(state *s) {
+    if (tiers == 2) {
+        univmon_two_tier_answered b =
+            univmon_two_tier_new(HEAP, ELEPHANTS, shape.rows, shape.cols, mice.rows, mice.cols, LAYERS, WIDE(*s));
+        s->wide = b.header;
+        return b.refusal;
+    }
+    univmon_answered a = univmon_new(HEAP, shape.rows, shape.cols, LAYERS, ALL(*s));
+    s->header = a.header;
+    return a.refusal;
+}
+
+static uint64_t add(state *s, int64_t w) {
+    int terminal = mode == UNIVMON_TERMINAL;
+    if (tiers == 2) {
+        univmon_two_tier_answered b = terminal ? univmon_two_tier_update_weighted_terminal(s->wide, WIDE(*s), RECORD, w, LIST)
+                                               : univmon_two_tier_update_weighted(s->wide, WIDE(*s), RECORD, w, LIST);
+        s->wide = b.header;
+        return b.refusal;
+    }
+    univmon_answered a = terminal ? univmon_update_weighted_terminal(s->header, ALL(*s), RECORD, w, LIST)
+                                  : univmon_update_weighted(s->header, ALL(*s), RECORD, w, LIST);
+    s->header = a.header;
+    return a.refusal;
+}
+
 /* A state in which every layer has 1,024 candidates and lost more. */
 static void fill(state *s, uint64_t first_key) {
-    univmon_answered a = univmon_new(HEAP, shape.rows, shape.cols, LAYERS, ALL(*s));
+    uint64_t refused = start(s);
     uint64_t keys = (uint64_t)(HEAP + 50) * (mode == UNIVMON_TERMINAL ? LAYERS : 1);
-    for (uint64_t i = 0; a.refusal == 0 && i < keys; i++) {
-        int64_t w = 1 + (int64_t)(mixed(i, 99) % 1000);
+    for (uint64_t i = 0; refused == 0 && i < keys; i++) {
         set_record(first_key + i, mode == UNIVMON_TERMINAL ? i % LAYERS : LAYERS - 1);
-        a = mode == UNIVMON_TERMINAL ? univmon_update_weighted_terminal(a.header, ALL(*s), RECORD, w, LIST)
-                                     : univmon_update_weighted(a.header, ALL(*s), RECORD, w, LIST);
+        refused = add(s, 1 + (int64_t)(mixed(i, 99) % 1000));
     }
-    s->header = a.header;
+    const size_t *lens = tiers == 2 ? s->wide.lens : s->header.lens;
+    const bool *flags = tiers == 2 ? s->wide.flags : s->header.flags;
     for (int l = 0; l < LAYERS; l++) {
-        if (a.refusal != 0 || a.header.lens[l] != HEAP || a.header.flags[l]) {
+        if (refused != 0 || lens[l] != HEAP || flags[l]) {
             stop("the state is not full");
         }
     }
@@ -244,21 +278,96 @@ static void run_new(void) {
     keep(&a);
 }
 
+/* ---- the same with two tiers */
+
+static void keep_wide(const univmon_two_tier_answered *a) {
+    refusal = a->refusal;
+    one.wide = a->header;
+}
+
+static void run_two_tier_check_shape(void) {
+    refusal = univmon_two_tier_check_shape(HEAP, ELEPHANTS, shape.rows, shape.cols, mice.rows, mice.cols, LAYERS);
+}
+
+static void run_two_tier_update_weighted(void) {
+    univmon_two_tier_answered a = univmon_two_tier_update_weighted(one.wide, WIDE(one), RECORD, weight, LIST);
+    keep_wide(&a);
+}
+
+static void run_two_tier_update_weighted_terminal(void) {
+    univmon_two_tier_answered a = univmon_two_tier_update_weighted_terminal(one.wide, WIDE(one), RECORD, weight, LIST);
+    keep_wide(&a);
+}
+
+static void keep_wide_step(univmon_step s) {
+    refusal = s.refusal;
+    one.wide.weight = s.weight;
+    one.wide.updates = s.updates;
+    one.wide.mode = s.mode;
+}
+
+#define WIDE_LENT \
+    (univmon_two_tier_shape){HEAP, LAYERS, ELEPHANTS, shape.rows, shape.cols, mice.rows, mice.cols}, one.wide.weight, \
+        one.wide.updates, one.wide.mode, one.wide.lens, UNIVMON_MAX_LAYERS, one.wide.flags, UNIVMON_MAX_LAYERS, WIDE(one)
+
+static void run_two_tier_update_weighted_lent(void) {
+    keep_wide_step(univmon_two_tier_update_weighted_lent(WIDE_LENT, RECORD, weight, LIST));
+}
+
+static void run_two_tier_update_weighted_terminal_lent(void) {
+    keep_wide_step(univmon_two_tier_update_weighted_terminal_lent(WIDE_LENT, RECORD, weight, LIST));
+}
+
+static void run_two_tier_merge(void) {
+    univmon_two_tier_answered a =
+        univmon_two_tier_merge(one.wide, WIDE(one), two.wide, WIDE(two), list, UNIVMON_MERGE_LIST(HEAP, LAYERS));
+    keep_wide(&a);
+}
+
+static void run_two_tier_estimate_l1(void) {
+    refusal = univmon_two_tier_estimate_l1(one.wide).refusal;
+}
+
+static void run_two_tier_estimate_l2(void) {
+    refusal = univmon_two_tier_estimate_l2(one.wide, one.norms, UNIVMON_TWO_TIER_NORMS(ELEPHANTS, shape.rows, mice.rows, LAYERS)).refusal;
+}
+
+static void run_two_tier_estimate_g_sum(void) {
+    refusal = univmon_two_tier_estimate_g_sum(one.wide, WIDE(one), (uint64_t)turn % 3, turn / 3).refusal;
+}
+
+static void run_two_tier_estimate_cardinality(void) {
+    refusal = univmon_two_tier_estimate_cardinality(one.wide, WIDE(one)).refusal;
+}
+
+static void run_two_tier_clear(void) {
+    univmon_two_tier_answered a = univmon_two_tier_clear(one.wide, WIDE(one));
+    keep_wide(&a);
+}
+
+static void run_two_tier_new(void) {
+    univmon_two_tier_answered a =
+        univmon_two_tier_new(HEAP, ELEPHANTS, shape.rows, shape.cols, mice.rows, mice.cols, LAYERS, WIDE(one));
+    keep_wide(&a);
+}
+
 /* In which modes a call is made. */
 enum { IN_STANDARD = 1 << UNIVMON_STANDARD, IN_TERMINAL = 1 << UNIVMON_TERMINAL, IN_BOTH = IN_STANDARD | IN_TERMINAL };
 
 typedef struct call {
     const char *name;
     void (*run)(void);
+    int tiers;
     int modes;
     size_t most;
-    dims at;
+    dims at, mice;
     uint64_t in;
 } call;
 
-#define CALL(name, modes) {"univmon_" #name, run_##name, modes, 0, {0, 0}, 0}
+#define CALL(name, modes) {"univmon_" #name, run_##name, 1, modes, 0, {0, 0}, {0, 0}, 0}
+#define WIDE_CALL(name, modes) {"univmon_two_tier_" #name, run_two_tier_##name, 2, modes, 0, {0, 0}, {0, 0}, 0}
 
-/* The last two empty the state. */
+/* The last two of each kind empty the state. */
 static call calls[] = {
     CALL(check_shape, IN_BOTH),
     CALL(bottom_layer_for_hash, IN_BOTH),
@@ -281,6 +390,18 @@ static call calls[] = {
     CALL(read_state, IN_BOTH),
     CALL(clear, IN_BOTH),
     CALL(new, IN_BOTH),
+    WIDE_CALL(check_shape, IN_BOTH),
+    WIDE_CALL(update_weighted, IN_STANDARD),
+    WIDE_CALL(update_weighted_terminal, IN_TERMINAL),
+    WIDE_CALL(update_weighted_lent, IN_STANDARD),
+    WIDE_CALL(update_weighted_terminal_lent, IN_TERMINAL),
+    WIDE_CALL(merge, IN_BOTH),
+    WIDE_CALL(estimate_l1, IN_BOTH),
+    WIDE_CALL(estimate_l2, IN_BOTH),
+    WIDE_CALL(estimate_g_sum, IN_BOTH),
+    WIDE_CALL(estimate_cardinality, IN_BOTH),
+    WIDE_CALL(clear, IN_BOTH),
+    WIDE_CALL(new, IN_BOTH),
 };
 enum { CALLS = sizeof calls / sizeof calls[0] };
 
@@ -303,6 +424,7 @@ static void measure(call *c) {
         if (used > c->most) {
             c->most = used;
             c->at = shape;
+            c->mice = mice;
             c->in = mode;
         }
     }
@@ -314,7 +436,7 @@ static void measure_all(void) {
     fill(&one, 1);
     fill(&two, UINT64_C(1) << 32);
     for (int i = 0; i < CALLS; i++) {
-        if (calls[i].modes >> mode & 1) {
+        if (calls[i].tiers == tiers && calls[i].modes >> mode & 1) {
             measure(&calls[i]);
         }
     }
@@ -323,16 +445,20 @@ static void measure_all(void) {
 int main(void) {
     int above = 0;
     make_room();
-    for (size_t i = 0; i < sizeof SHAPES / sizeof SHAPES[0]; i++) {
+    size_t shapes = sizeof SHAPES / sizeof SHAPES[0];
+    for (size_t i = 0; i < shapes; i++) {
         for (mode = UNIVMON_STANDARD; mode <= UNIVMON_TERMINAL; mode++) {
-            shape = SHAPES[i];
-            measure_all();
+            for (tiers = 1; tiers <= 2; tiers++) {
+                shape = SHAPES[i];
+                mice = SHAPES[(i + tiers - 1) % shapes];
+                measure_all();
+            }
         }
     }
     for (int i = 0; i < CALLS; i++) {
         const call *c = &calls[i];
-        printf("%s %zu KiB (%zu bytes; %zu x %zu, %s)\n", c->name, (c->most + 1023) / 1024, c->most, c->at.rows, c->at.cols,
-            c->in == UNIVMON_TERMINAL ? "terminal" : "standard");
+        printf("%s %zu KiB (%zu bytes; %zu x %zu then %zu x %zu, %s)\n", c->name, (c->most + 1023) / 1024, c->most, c->at.rows,
+            c->at.cols, c->mice.rows, c->mice.cols, c->in == UNIVMON_TERMINAL ? "terminal" : "standard");
         above |= c->most > MOST;
     }
     if (above) {

@@ -1,5 +1,8 @@
 """Document 01's words once more, and 02's as far as they have landed, on slices: what every call answers and leaves, refusals included.
 
+A shape is seven dimensions, as `UnivMonTwoTier` has them: rows and columns by layer, offsets as sums over the layers before. `UnivMon`'s four are
+those of a shape whose tiers are alike (`one_tier`), so that there is one model of both.
+
 The stored results of `replay` come from here wherever the oracle cannot be asked (refusals 4, 7, 9, 11, 12, 14, 16, the number of updates, states set by hand);
 everything else is held against the oracle, call by call (`replay.py`). Texts of states are written and read here only: the Rust has none. Nor has it
 lists of what was done; they are held against its candidates before and after a call, and its true and false.
@@ -11,7 +14,8 @@ import struct
 TOP, CAP, MASK, PRIME = 1 << 52, 1 << 63, (1 << 64) - 1, 4294967291
 UNSET, STANDARD, TERMINAL = 0, 1, 2
 RESCORED, SEATED, DISPLACED, TURNED_AWAY = 1, 2, 3, 4  # what an offer did; the Rust's true is the first two
-HEAD_WORDS = 45  # heap, rows, cols, layers, weight, updates, mode, 19 flags, 19 lengths
+DIMENSIONS = 7  # heap, layers, elephant layers, elephant rows and cols, mouse rows and cols
+HEAD_WORDS = DIMENSIONS + 41  # and then weight, updates, mode, 19 flags, 19 lengths
 
 
 def bits(x):
@@ -36,14 +40,32 @@ def cell(h, row, cols):
     return (h >> (row * m)) % (1 << m) % cols, 1 if h >> (127 - row) & 1 else -1
 
 
-def shape_refusal(heap, rows, cols, layers):
-    if 0 in (heap, rows, cols, layers):
+def two_tier(heap, elephant_layers, elephant_rows, elephant_cols, mouse_rows, mouse_cols, layers):
+    """a shape, from its dimensions in the order of the source's `new`"""
+    return [heap, layers, elephant_layers, elephant_rows, elephant_cols, mouse_rows, mouse_cols]
+
+
+def one_tier(heap, rows, cols, layers):
+    """a shape whose layers are alike, from `UnivMon`'s dimensions: no layer is of the first tier"""
+    return two_tier(heap, 0, rows, cols, rows, cols, layers)
+
+
+def is_one_tier(shape):
+    heap, layers, _, _, _, rows, cols = shape
+    return shape == one_tier(heap, rows, cols, layers)
+
+
+def shape_refusal(shape):
+    """each number is judged over both tiers before the next, used by a layer or not"""
+    heap, layers, elephant_layers, *sides = shape
+    tiers = [sides[:2], sides[2:]]
+    if 0 in (heap, layers, *sides):
         return 1
-    if layers > 19:
+    if max(layers, elephant_layers) > 19:
         return 2
-    if (mask_bits(cols) + 1) * rows > 128:
+    if any((mask_bits(cols) + 1) * rows > 128 for rows, cols in tiers):
         return 3
-    return 4 if rows > 20 or cols > 4096 or heap > 1024 else 0
+    return 4 if heap > 1024 or any(rows > 20 or cols > 4096 for rows, cols in tiers) else 0
 
 
 def bottom_layer(hash, layers):
@@ -65,7 +87,7 @@ class Relay:
     """a header and four slices, as they are lent"""
 
     def __init__(self):
-        self.shape, self.weight, self.updates, self.mode = [0, 0, 0, 0], 0, 0, UNSET  # heap, rows, cols, layers
+        self.shape, self.weight, self.updates, self.mode = [0] * DIMENSIONS, 0, 0, UNSET
         self.flags, self.lens = [False] * 19, [0] * 19
         self.counters, self.norms, self.entries, self.counts = [], [], [], []
 
@@ -75,15 +97,37 @@ class Relay:
         r.counters, r.norms, r.entries, r.counts = list(self.counters), list(self.norms), list(self.entries), list(self.counts)
         return r
 
+    # ---- dimensions
+
+    @property
+    def heap(self):
+        return self.shape[0]
+
+    @property
+    def layers(self):
+        return self.shape[1]
+
+    def rows(self, l):
+        return self.shape[3 if l < self.shape[2] else 5]
+
+    def cols(self, l):
+        return self.shape[4 if l < self.shape[2] else 6]
+
+    def rows_before(self, l):
+        """of the layers before this one; so are the cells"""
+        return sum(self.rows(i) for i in range(l))
+
+    def cells_before(self, l):
+        return sum(self.rows(i) * self.cols(i) for i in range(l))
+
     # ---- lengths and header
 
     def lengths(self):
-        heap, rows, cols, layers = self.shape
-        return [layers * rows * cols, 2 * layers * rows, 4 * layers * heap, layers * heap]
+        return [self.cells_before(self.layers), 2 * self.rows_before(self.layers), 4 * self.layers * self.heap, self.layers * self.heap]
 
     def sound(self):
-        heap, _, _, layers = self.shape
-        if shape_refusal(*self.shape) or self.weight > TOP or self.updates > TOP:
+        heap, layers = self.heap, self.layers
+        if shape_refusal(self.shape) or self.weight > TOP or self.updates > TOP:
             return False
         if any(n > heap for n in self.lens[:layers]) or any(self.lens[layers:]) or any(self.flags[layers:]):
             return False
@@ -91,7 +135,7 @@ class Relay:
 
     def head_sound(self):
         other = self.copy()
-        n = other.lengths() if not shape_refusal(*other.shape) else [0] * 4
+        n = other.lengths() if not shape_refusal(other.shape) else [0] * 4
         other.counters, other.norms, other.entries, other.counts = [0] * n[0], [0] * n[1], [0] * n[2], [0] * n[3]
         return other.sound()
 
@@ -101,24 +145,27 @@ class Relay:
     # ---- a layer
 
     def at(self, l, r, c):
-        _, rows, cols, _ = self.shape
-        return (l * rows + r) * cols + c
+        return self.cells_before(l) + r * self.cols(l) + c
 
     def places(self, l, h):
-        _, rows, cols, _ = self.shape
-        return [(r, self.at(l, r, cell(h, r, cols)[0]), cell(h, r, cols)[1]) for r in range(rows)]
+        found = [cell(h, r, self.cols(l)) for r in range(self.rows(l))]
+        return [(r, self.at(l, r, c), s) for r, (c, s) in enumerate(found)]
+
+    def row(self, l, r):
+        """a row's counters"""
+        return self.counters[self.at(l, r, 0):self.at(l, r + 1, 0)]
 
     def norm(self, l, r):
-        i = 2 * (l * self.shape[1] + r)
+        i = 2 * (self.rows_before(l) + r)
         return self.norms[i] + (self.norms[i + 1] << 64)
 
     def put_norm(self, l, r, n):
-        i = 2 * (l * self.shape[1] + r)
+        i = 2 * (self.rows_before(l) + r)
         self.norms[i], self.norms[i + 1] = n & MASK, n >> 64
 
     def read(self, l, r, at):
         n = self.norm(l, r)
-        return abs(self.counters[at]) <= TOP and capped(self.counters[at]) <= n <= self.shape[2] * CAP
+        return abs(self.counters[at]) <= TOP and capped(self.counters[at]) <= n <= self.cols(l) * CAP
 
     def add(self, l, r, at, d):
         x = self.counters[at]
@@ -126,7 +173,7 @@ class Relay:
         self.counters[at] = x + d
 
     def counts_read(self, l):
-        a = l * self.shape[0]
+        a = l * self.heap
         return all(abs(n) <= TOP for n in self.counts[a:a + self.lens[l]])
 
     def estimate_reads(self, l, h):
@@ -138,20 +185,20 @@ class Relay:
     # ---- candidates
 
     def entry(self, l, i):
-        a = 4 * (l * self.shape[0] + i)
+        a = 4 * (l * self.heap + i)
         return self.entries[a:a + 4]
 
     def swap(self, l, i, j):
-        a, b = l * self.shape[0] + i, l * self.shape[0] + j
+        a, b = l * self.heap + i, l * self.heap + j
         self.entries[4 * a:4 * a + 4], self.entries[4 * b:4 * b + 4] = self.entries[4 * b:4 * b + 4], self.entries[4 * a:4 * a + 4]
         self.counts[a], self.counts[b] = self.counts[b], self.counts[a]
 
     def put(self, l, i, entry, n):
-        a = l * self.shape[0] + i
+        a = l * self.heap + i
         self.entries[4 * a:4 * a + 4], self.counts[a] = entry, n
 
     def down(self, l, i):
-        a, start = l * self.shape[0], i
+        a, start = l * self.heap, i
         while True:
             t = i
             for child in (2 * i + 1, 2 * i + 2):
@@ -163,21 +210,21 @@ class Relay:
             i = t
 
     def up(self, l, i):
-        a = l * self.shape[0]
+        a = l * self.heap
         while i and self.counts[a + i] < self.counts[a + (i - 1) // 2]:
             self.swap(l, i, (i - 1) // 2)
             i = (i - 1) // 2
 
     def offer(self, l, entry, n):
         """a place of a list: what was done, and the displaced key or 0"""
-        a = l * self.shape[0]
+        a = l * self.heap
         for i in range(self.lens[l]):
             if self.entries[4 * (a + i)] == entry[0]:
                 self.counts[a + i] = n
                 if not self.down(l, i):
                     self.up(l, i)
                 return [RESCORED, 0]
-        if self.lens[l] < self.shape[0]:
+        if self.lens[l] < self.heap:
             self.lens[l] += 1
             self.put(l, self.lens[l] - 1, entry, n)
             self.up(l, self.lens[l] - 1)
@@ -193,22 +240,22 @@ class Relay:
 
     def list_words(self):
         """of an update or a delta: a place a layer"""
-        return 2 * self.shape[3]
+        return 2 * self.layers
 
     def merge_words(self):
         """of a merge: for each layer twice the heap size in places"""
-        return 4 * self.shape[0] * self.shape[3]
+        return 4 * self.heap * self.layers
 
     # ---- the calls: each answers the number of its refusal, 0 for none; `told` is the list that both updates, the delta and the merge are lent
 
-    def new(self, heap, rows, cols, layers):
-        n = shape_refusal(heap, rows, cols, layers)
+    def new(self, shape):
+        n = shape_refusal(shape)
         fresh = Relay()
-        fresh.shape = [heap, rows, cols, layers]
+        fresh.shape = list(shape)
         if not n and [len(self.counters), len(self.norms), len(self.entries), len(self.counts)] != fresh.lengths():
             n = 9
-        self.shape, self.weight, self.updates, self.mode = [0] * 4 if n else [heap, rows, cols, layers], 0, 0, UNSET
-        self.flags, self.lens = [not n and l < layers for l in range(19)], [0] * 19
+        self.shape, self.weight, self.updates, self.mode = [0] * DIMENSIONS if n else fresh.shape, 0, 0, UNSET
+        self.flags, self.lens = [not n and l < self.layers for l in range(19)], [0] * 19
         if not n:
             self.zero()
         return n
@@ -218,7 +265,7 @@ class Relay:
         self.counters, self.norms, self.entries, self.counts = [0] * a, [0] * b, [0] * c, [0] * d
 
     def clear(self):
-        return self.new(*self.shape) if self.sound() else 9
+        return self.new(self.shape) if self.sound() else 9
 
     def hash(self, words, l):
         return words[2 + 2 * l] << 64 | words[3 + 2 * l]
@@ -229,7 +276,7 @@ class Relay:
     def update(self, words, w, mode, told):
         if not self.sound():
             return 9
-        if len(words) != 2 + 2 * self.shape[3]:
+        if len(words) != 2 + 2 * self.layers:
             return 12
         if w < 0:
             return 5
@@ -239,7 +286,7 @@ class Relay:
             return 7
         if self.updates + 1 > TOP:
             return 14
-        b = bottom_layer(words[1], self.shape[3])
+        b = bottom_layer(words[1], self.layers)
         sent = [(l, self.places(l, self.hash(words, l))) for l in range(0 if mode == STANDARD else b, b + 1)]
         if not all(self.counts_read(l) and all(self.read(l, r, at) for r, at, _ in places) for l, places in sent):
             return 9
@@ -258,9 +305,9 @@ class Relay:
     def delta(self, l, row, col, n, words, promoted_only, told):
         if not self.sound():
             return 9
-        if len(words) != 2 + 2 * self.shape[3]:
+        if len(words) != 2 + 2 * self.layers:
             return 12
-        if l >= self.shape[3] or row >= self.shape[1] or col >= self.shape[2]:
+        if l >= self.layers or row >= self.rows(l) or col >= self.cols(l):
             return 8
         at = self.at(l, row, col)
         if not (self.read(l, row, at) and self.counts_read(l) and self.estimate_reads(l, self.hash(words, l))):
@@ -288,7 +335,7 @@ class Relay:
     def mark(self, l):
         if not self.head_sound():
             return 9
-        if l >= self.shape[3]:
+        if l >= self.layers:
             return 8
         self.flags[l] = False
         return 0
@@ -310,7 +357,7 @@ class Relay:
             return 7
         if self.updates + o.updates > TOP:
             return 14
-        heap, rows, cols, layers = self.shape
+        heap, layers = self.heap, self.layers
         if any(abs(x) > TOP for x in self.counters + o.counters) or not all(r.counts_read(l) for r in (self, o) for l in range(layers)):
             return 9
         if any(abs(x + y) > TOP for x, y in zip(self.counters, o.counters)):
@@ -320,8 +367,8 @@ class Relay:
         self.counters = [x + y for x, y in zip(self.counters, o.counters)]
         self.weight, self.updates, self.mode = self.weight + o.weight, self.updates + o.updates, self.mode or o.mode
         for l in range(layers):
-            for r in range(rows):
-                self.put_norm(l, r, sum(capped(x) for x in self.counters[self.at(l, r, 0):self.at(l, r, 0) + cols]))
+            for r in range(self.rows(l)):
+                self.put_norm(l, r, sum(map(capped, self.row(l, r))))
             first = {}
             for e in [self.entry(l, i) for i in range(self.lens[l])] + [o.entry(l, i) for i in range(o.lens[l])]:
                 first.setdefault(e[0], e)
@@ -335,10 +382,10 @@ class Relay:
     # ---- answers: (refusal, value)
 
     def norms_read(self, layers):
-        return all(self.norm(l, r) <= self.shape[2] * CAP for l in layers for r in range(self.shape[1]))
+        return all(self.norm(l, r) <= self.cols(l) * CAP for l in layers for r in range(self.rows(l)))
 
     def l2_squared(self, l):
-        return median([float(min(self.norm(l, r), CAP - 1)) for r in range(self.shape[1])])
+        return median([float(min(self.norm(l, r), CAP - 1)) for r in range(self.rows(l))])
 
     def l1(self):
         return (0, float(self.weight)) if self.head_sound() else (9, 0.0)
@@ -346,7 +393,7 @@ class Relay:
     def l2(self):
         if not self.norms_sound():
             return 9, 0.0
-        layers = range(self.shape[3]) if self.mode == TERMINAL else [0]
+        layers = range(self.layers) if self.mode == TERMINAL else [0]
         if not self.norms_read(layers):
             return 9, 0.0
         total = 0.0
@@ -364,7 +411,7 @@ class Relay:
             return 9, 0.0
         if self.weight == 0 and not every:
             return 0, 0.0
-        layers = range(self.shape[3])
+        layers = range(self.layers)
         if not all(self.counts_read(l) and all(self.estimate_reads(l, h) for _, _, h in self.candidates(l)) for l in layers):
             return 9, 0.0
         if self.mode == TERMINAL and not self.norms_read(layers):
@@ -372,7 +419,7 @@ class Relay:
         return 0, self.terminal(g, every) if self.mode == TERMINAL else self.standard(g, every)
 
     def standard(self, g, every):
-        last, y = self.shape[3] - 1, 0.0
+        last, y = self.layers - 1, 0.0
         for l in range(last, -1, -1):
             t = 0.0
             for _, bottom, h in self.candidates(l):
@@ -383,7 +430,7 @@ class Relay:
         return y
 
     def terminal(self, g, every):
-        heap, last = self.shape[0], self.shape[3] - 1
+        heap, last = self.heap, self.layers - 1
         y, suffix, whole, held = 0.0, 0.0, True, {}
         for l in range(last, -1, -1):
             whole = whole and self.flags[l]
@@ -409,11 +456,10 @@ class Relay:
     def check(self):
         if not self.sound() or any(abs(x) > TOP for x in self.counters):
             return False
-        heap, rows, cols, layers = self.shape
-        for l in range(layers):
-            for r in range(rows):
-                a = self.at(l, r, 0)
-                if self.norm(l, r) != sum(capped(x) for x in self.counters[a:a + cols]):
+        heap = self.heap
+        for l in range(self.layers):
+            for r in range(self.rows(l)):
+                if self.norm(l, r) != sum(map(capped, self.row(l, r))):
                     return False
             a = l * heap
             for i in range(heap):
@@ -426,25 +472,24 @@ class Relay:
 
     # ---- what a reader compares
 
-    def words(self):
-        """the header as words"""
-        return self.shape + [self.weight, self.updates, self.mode] + [int(f) for f in self.flags] + self.lens
+    def words(self, shape=None):
+        """the header as words; `shape` is how the reader has the dimensions, if not all seven"""
+        return (shape or self.shape) + [self.weight, self.updates, self.mode] + [int(f) for f in self.flags] + self.lens
 
-    def digest(self, told=()):
+    def digest(self, told=(), shape=None):
         """of the state, and of a list behind it"""
         d = 0
-        for x in [*self.words(), *self.counters, *self.norms, *self.entries, *self.counts, *told]:
+        for x in [*self.words(shape), *self.counters, *self.norms, *self.entries, *self.counts, *told]:
             d = (d * 65599 + (x & MASK) % PRIME) % PRIME
         return d
 
     def text(self):
         """the oracle's line for this state; the number of updates is not in it, since the original has none"""
-        heap, rows, cols, layers = self.shape
-        out = "state weight=%d mode=%d flags=%s" % (self.weight, self.mode, "".join("01"[f] for f in self.flags[:layers]))
-        for l in range(layers):
-            rows_text = ";".join(",".join(map(str, self.counters[self.at(l, r, 0):self.at(l, r, 0) + cols])) for r in range(rows))
-            norms = ",".join(str(self.norm(l, r)) for r in range(rows))
-            cands = ",".join("%d:%d" % (self.entry(l, i)[0], self.counts[l * heap + i]) for i in range(self.lens[l]))
+        out = "state weight=%d mode=%d flags=%s" % (self.weight, self.mode, "".join("01"[f] for f in self.flags[:self.layers]))
+        for l in range(self.layers):
+            rows_text = ";".join(",".join(map(str, self.row(l, r))) for r in range(self.rows(l)))
+            norms = ",".join(str(self.norm(l, r)) for r in range(self.rows(l)))
+            cands = ",".join("%d:%d" % (self.entry(l, i)[0], self.counts[l * self.heap + i]) for i in range(self.lens[l]))
             out += " | %d counters=%s norms=%s cand=%s" % (l, rows_text, norms, cands)
         return out
 
@@ -471,15 +516,14 @@ KEY = re.compile(line(b"key", *[NUMBER] * 5, SIGNED))
 
 def write_text(state, room=None):
     """the writer lent so many bytes, or enough: (refusal, text)"""
-    if not state.check():
+    if not state.check() or not is_one_tier(state.shape):
         return 9, b""
-    heap, rows, cols, layers = state.shape
+    heap, layers, _, _, _, rows, cols = state.shape
     text = "(univmon %d %d %d %d)\n(weight %d)\n(updates %d)\n(mode %d)\n" % (heap, rows, cols, layers, state.weight, state.updates, state.mode)
     for l in range(layers):
         text += "(flag %d %d)\n" % (l, state.flags[l])
         for r in range(rows):
-            a = state.at(l, r, 0)
-            pairs = "".join(" (%d %d)" % (c, v) for c, v in enumerate(state.counters[a:a + cols]) if v)
+            pairs = "".join(" (%d %d)" % (c, v) for c, v in enumerate(state.row(l, r)) if v)
             text += "(row %d %d%s)\n" % (l, r, pairs) if pairs else ""
         for i in range(state.lens[l]):
             text += "(key %d %d %d %d %d %d)\n" % (l, *state.entry(l, i), state.counts[l * heap + i])
@@ -488,7 +532,7 @@ def write_text(state, room=None):
 
 def take_line(state, text, at):
     """a line of a layer put into the state: the place past it, or None"""
-    heap, rows, cols, layers = state.shape
+    heap, layers, _, _, _, rows, cols = state.shape
     for form in (FLAG, ROW, KEY):
         m = form.match(text, at)
         if not m:
@@ -521,9 +565,9 @@ def read_text(text, lengths):
     m, state = FIRST.match(text), Relay()
     if not m or max(map(int, m.groups())) > MASK:
         return 15, None
-    state.shape = list(map(int, m.groups()))
-    if shape_refusal(*state.shape):
-        return shape_refusal(*state.shape), None
+    state.shape = one_tier(*map(int, m.groups()))
+    if shape_refusal(state.shape):
+        return shape_refusal(state.shape), None
     if list(lengths) != state.lengths():
         return 16, None
     m = TOTALS.match(text, m.end())
@@ -536,9 +580,7 @@ def read_text(text, lengths):
         at = take_line(state, text, at)
     if at is None:
         return 15, None
-    _, rows, cols, layers = state.shape
-    for l in range(layers):
-        for r in range(rows):
-            a = state.at(l, r, 0)
-            state.put_norm(l, r, sum(map(capped, state.counters[a:a + cols])))
+    for l in range(state.layers):
+        for r in range(state.rows(l)):
+            state.put_norm(l, r, sum(map(capped, state.row(l, r))))
     return (0, state) if write_text(state) == (0, text) else (15, None)

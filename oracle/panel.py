@@ -12,7 +12,7 @@ import re
 import subprocess
 import sys
 
-from model import shape_refusal
+from model import one_tier, shape_refusal
 
 ROOT = os.path.realpath(os.path.join(os.path.dirname(os.path.abspath(__file__)), ".."))
 rng = random.Random(20261115)
@@ -44,7 +44,7 @@ oracle = Oracle()
 
 def refusal(heap, rows, cols, layers):
     """of a shape: the table's, then the program's own bounds"""
-    n = shape_refusal(heap, rows, cols, layers)
+    n = shape_refusal(one_tier(heap, rows, cols, layers))
     return n or (4 if layers * rows * cols > 4096 or layers * heap > 512 else 0)
 
 

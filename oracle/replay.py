@@ -2,15 +2,17 @@
 
 `model.py` says what each call answers and leaves. Each call that the oracle can be asked is asked of it too, and its state, line by
 line, and its answers must be the model's: refusals 0, 1, 2, 3, 5, 6, 8 and 10, states that no hand has touched, no ties of equal count
-and equal bottom hash in terminal mode. The sign of a zero is not compared.
+and equal bottom hash in terminal mode. The sign of a zero is not compared. Relays of two tiers are the oracle's `UnivMonTwoTier`; they go through
+the same calls, but for deltas, marks and weight settings, and stand at the end.
 
 Each update, delta and merge is lent a list, marked word by word, that is long enough, and in many places before that the same with a
 shorter one. The oracle has no lists: what they say is held against its candidates before and after an update or a delta, and for
 a merge against a lone heap of it, to which the keys are offered in the same order, and its true and false.
 """
+import math
 import random
 
-from model import CAP, DISPLACED, G, HEAD_WORDS, MASK, RESCORED, SEATED, STANDARD, TERMINAL, TOP, TURNED_AWAY, Relay, bits, bottom_layer, cell, mask_bits, shape_refusal
+from model import CAP, DISPLACED, G, HEAD_WORDS, MASK, RESCORED, SEATED, STANDARD, TERMINAL, TOP, TURNED_AWAY, Relay, bits, bottom_layer, cell, mask_bits, one_tier, shape_refusal, two_tier
 from vectors import oracle, store
 
 rng = random.Random(6)
@@ -19,7 +21,8 @@ often = 0.25  # how often a list is too short first
 EDGE = 3037000499  # the greatest number whose square stays below 2^63
 inputs, answers, script = [], [], []
 ROOM, LIST_ROOM = (12288, 760, 8192, 2048), 8208
-WEIGHT, UPDATES, MODE, FLAGS, LENS = 4, 5, 6, 7, 26  # places in the header's words
+HEAP, LAYERS, ELEPHANT_LAYERS, ELEPHANT_ROWS, ELEPHANT_COLS, MOUSE_ROWS, MOUSE_COLS = range(7)  # places in the header's words
+WEIGHT, UPDATES, MODE, FLAGS, LENS = 7, 8, 9, 10, 29
 
 
 def call(op, numbers, expected=()):
@@ -130,32 +133,51 @@ def lent(r, lengths):
         del slices[k][n:]
 
 
-def fresh(i, heap, rows, cols, layers):
+def shape_of(dims):
+    """four dimensions or seven, in the order of `new`"""
+    return one_tier(*dims) if len(dims) == 4 else two_tier(*dims)
+
+
+def new_line(name, dims):
+    return "new%s %s %s" % ("" if len(dims) == 4 else "2", name, " ".join(map(str, dims)))
+
+
+def new_call(dims, expected):
+    call(1 if len(dims) == 4 else 19, list(dims), expected)
+
+
+def fresh(i, *dims):
     """an accepted `new`"""
     global made
     shelf.setdefault(i, Held(i))
     r = use(i)
-    shape = [heap, rows, cols, layers]
-    r.shape = shape
+    r.shape = shape = shape_of(dims)
     for k, n in enumerate(r.lengths()):
         assert n <= ROOM[k], shape
         call(10, [0, HEAD_WORDS + k, n])
     r.zero()
-    assert r.new(*shape) == 0
-    call(1, shape, left(r, 0))
+    assert r.new(shape) == 0
+    new_call(dims, left(r, 0))
     made += 1
     r.name = "R%d" % made
-    tell("new %s %d %d %d %d" % (r.name, *shape))
+    tell(new_line(r.name, dims))
     return r
 
 
-def refused_new(i, *shape):
+def panics(shape):
+    """whether the oracle's `new` does: it judges the hash bits of a tier only by its layers, and takes any number of elephant layers"""
+    r = Relay()
+    r.shape = shape
+    return shape_refusal(shape) == 1 or shape[LAYERS] > 19 or any((mask_bits(r.cols(l)) + 1) * r.rows(l) > 128 for l in range(shape[LAYERS]))
+
+
+def refused_new(i, *dims):
     r = use(i)
-    n = r.new(*shape)
+    n = r.new(shape_of(dims))
     r.name = None
-    call(1, list(shape), left(r, n))
+    new_call(dims, left(r, n))
     if n in (1, 2, 3):
-        tell("new x %d %d %d %d" % shape, "panic")
+        tell(new_line("x", dims), "panic" if panics(shape_of(dims)) else "ok")
     return n
 
 
@@ -168,7 +190,7 @@ def asked(r, n, line, told):
 
 def entries(r):
     """each layer's candidates, in the array's order; of a relay that no hand has touched"""
-    return [[r.entry(l, i) for i in range(r.lens[l])] for l in range(r.shape[3])] if r.name else []
+    return [[r.entry(l, i) for i in range(r.lens[l])] for l in range(r.layers)] if r.name else []
 
 
 def seen(before, r, key, layers):
@@ -183,11 +205,11 @@ def seen(before, r, key, layers):
 
 def update(i, key, w, mode=STANDARD, length=None, lists=None):
     r = use(i)
-    words = (RECORDS[key] + [0] * 40)[:2 + 2 * r.shape[3] if length is None else length]
+    words = (RECORDS[key] + [0] * 40)[:2 + 2 * r.layers if length is None else length]
     before = entries(r)
     n = lent_lists(2 if mode == STANDARD else 3, [PLACES[key], len(words), w], r, r.list_words(), lambda told: r.update(words, w, mode, told), lists)
     if r.name and n == 0:
-        b = bottom_layer(words[1], r.shape[3])
+        b = bottom_layer(words[1], r.layers)
         assert r.told[:r.list_words()] == seen(before, r, key, range(0 if mode == STANDARD else b, b + 1))
     asked(r, n, "%s %s %d %d" % ("std" if mode == STANDARD else "term", r.name, key, w), (0, 5, 6))
     return n
@@ -195,7 +217,7 @@ def update(i, key, w, mode=STANDARD, length=None, lists=None):
 
 def delta(i, l, row, col, count, key, promoted_only=0, length=None, lists=None):
     r = use(i)
-    words = (RECORDS[key] + [0] * 40)[:2 + 2 * r.shape[3] if length is None else length]
+    words = (RECORDS[key] + [0] * 40)[:2 + 2 * r.layers if length is None else length]
     before = entries(r)
     n = lent_lists(4, [PLACES[key], len(words), l, row, col, count, promoted_only], r, r.list_words(), lambda told: r.delta(l, row, col, count, words, promoted_only, told), lists)
     if r.name and n == 0:
@@ -239,7 +261,7 @@ def clear(i):
 def offered_alone(r, pairs):
     """the candidates of both relays, layer by layer, offered to a lone heap of the oracle: its true and false follow from the merge's list,
     and so does who is in it after each offer"""
-    heap = r.shape[0]
+    heap = r.heap
     for l, (own, others) in enumerate(pairs):
         first, inside = {}, set()
         for e in own + others:
@@ -306,7 +328,7 @@ def poke(i, slice, at, x):
     call(10, [slice, at, x])
     if slice:
         [r.counters, r.norms, r.entries, r.counts][slice - 1][at] = x
-    elif at < 4:
+    elif at < WEIGHT:
         r.shape[at] = x
     elif at < FLAGS:
         setattr(r, {WEIGHT: "weight", UPDATES: "updates", MODE: "mode"}[at], x)
@@ -331,7 +353,7 @@ def shape(limit=600):
     while True:
         heap, rows, cols = rng.choice([1, 2, 3, 4, 5, 8, 16]), rng.choice([1, 2, 3, 4, 5, 8, 20]), rng.choice([1, 2, 3, 4, 5, 8, 13, 32])
         layers = rng.choice([1, 2, 3, 4, 6, 8])
-        if not shape_refusal(heap, rows, cols, layers) and rows * cols * layers <= limit:
+        if not shape_refusal(one_tier(heap, rows, cols, layers)) and rows * cols * layers <= limit:
             return heap, rows, cols, layers
 
 
@@ -355,7 +377,7 @@ def spread(row_0, row_1):
 
 def seated(r, l):
     """the candidates' keys and counts, in the array's order"""
-    return [(r.entry(l, i)[0], r.counts[l * r.shape[0] + i]) for i in range(r.lens[l])]
+    return [(r.entry(l, i)[0], r.counts[l * r.heap + i]) for i in range(r.lens[l])]
 
 
 # "A third key clears layer 0's flag, tie or not.": no two keys share a cell, so that a count is the key's own weight; the third's is below
@@ -609,7 +631,7 @@ for run in range(16):
         fresh(6, heap, rows, cols, layers + 1)
         merge(6, 1)
         for other in ((heap, rows + 1, cols, layers), (heap, rows, cols + 1, layers)):
-            if not shape_refusal(*other):
+            if not shape_refusal(one_tier(*other)):
                 fresh(6, *other)
                 assert merge(6, 1) == 10 and merge(1, 6) == 10
 
@@ -640,7 +662,7 @@ for key in (3, 2, 1):
 for dims in [(0, 1, 1, 1), (1, 0, 1, 1), (1, 1, 0, 1), (1, 1, 1, 0), (0, 21, 5000, 20), (1, 1, 1, 19), (1, 1, 1, 20), (1, 20, 33, 20), (1, 20, 32, 1), (1, 20, 33, 1),
              (1, 21, 1, 1), (1, 20, 1, 1), (1, 128, 1, 1), (1, 129, 1, 1), (1, 1, 4096, 1), (1, 1, 4097, 1), (1024, 1, 1, 1), (1025, 1, 1, 1), (1, 10, 4096, 1), (1, 9, 4096, 1),
              (1, 1, MASK, 1), (MASK, MASK, MASK, MASK), (MASK, 1, 1, 1), (1, 1 << 63, 2, 1), (1, 64, 2, 1), (1, 65, 2, 1)]:
-    n = shape_refusal(*dims)
+    n = shape_refusal(one_tier(*dims))
     call(16, list(dims), [n << 56])
     if max(dims) < 1 << 20:
         if n < 4:
@@ -658,7 +680,7 @@ for k in range(4):  # 9 where the dimensions are right, and the lengths are not
         lent(r, [x + by * (j == k) for j, x in enumerate(n)])
         assert refused_new(1, 2, 2, 4, 2) == 9
         lent(r, n)
-        call(1, [2, 2, 4, 2], left(r, r.new(2, 2, 4, 2)))
+        call(1, [2, 2, 4, 2], left(r, r.new(one_tier(2, 2, 4, 2))))
 for hash, layers in [(6, 1), (0, 3), (2, 3), (6, 3), (MASK, 19), (MASK ^ 1 << 18, 19), (MASK ^ 2, 19), (1, 19), (5, 0), (5, 20), (5, MASK), (7, 2)]:
     n = 1 if layers == 0 else 2 if layers > 19 else 0
     call(17, [hash, layers], [n << 56 if n else bottom_layer(hash, layers)])
@@ -701,7 +723,7 @@ for mode in (STANDARD, TERMINAL):
 
 
 # 9 for the header: each word at its bound, and past it
-for at, good, bad in [(WEIGHT, TOP, TOP + 1), (UPDATES, TOP, TOP + 1), (UPDATES, TOP, MASK), (LENS, 3, 4), (LENS + 1, 3, 4), (LENS + 2, 0, 1), (LENS + 18, 0, 1), (FLAGS + 2, 0, 1), (FLAGS + 18, 0, 1), (0, 3, 0), (3, 2, 20), (1, 2, 21), (2, 4, 5000), (0, 3, 2), (3, 2, 1), (1, 2, 1), (2, 4, 3)]:
+for at, good, bad in [(WEIGHT, TOP, TOP + 1), (UPDATES, TOP, TOP + 1), (UPDATES, TOP, MASK), (LENS, 3, 4), (LENS + 1, 3, 4), (LENS + 2, 0, 1), (LENS + 18, 0, 1), (FLAGS + 2, 0, 1), (FLAGS + 18, 0, 1), (HEAP, 3, 0), (LAYERS, 2, 20), (MOUSE_ROWS, 2, 21), (MOUSE_COLS, 4, 5000), (HEAP, 3, 2), (LAYERS, 2, 1), (MOUSE_ROWS, 2, 1), (MOUSE_COLS, 4, 3)]:
     for x in (good, bad):
         prepared()
         poke(1, 0, at, x)
@@ -736,7 +758,7 @@ prepared()
 assert check(1)
 for slice, at, bad in [(1, 3, 1), (1, 15, TOP + 1), (2, 0, 1), (2, 7, 1), (4, 1, -1), (4, 5, 1), (3, 23, 1), (3, 20, 1), (0, LENS, 2), (0, LENS + 1, 3), (0, FLAGS + 2, 1), (0, LENS + 2, 1),
                        (0, WEIGHT, TOP + 1), (0, UPDATES, TOP + 1),
-                       (0, 0, 2), (0, 3, 20)]:
+                       (0, HEAP, 2), (0, LAYERS, 20)]:
     r = use(1)
     had = [r.words(), r.counters, r.norms, r.entries, r.counts][slice][at]
     poke(1, slice, at, had + bad if slice in (1, 2) and at < 15 else bad)
@@ -836,6 +858,346 @@ for mode in (STANDARD, TERMINAL):
     assert merge(5, 1) == 7
     poke(5, 0, MODE, other)
     assert merge(5, 1) == 6
+
+
+# ---- two tiers: layers below `elephant_layers` have one table, the others another
+
+rng = random.Random(4)  # numbers of their own, so that the calls above are what they were without
+
+
+def check_new(*dims):
+    """the refusal of seven dimensions; where they are refused, `new` on a relay that holds something; the oracle beside it"""
+    n = shape_refusal(two_tier(*dims))
+    call(20, list(dims), [n << 56])
+    small = max(dims) < 1 << 13
+    if n and small:
+        fresh(1, 2, 1, 2, 4, 1, 2, 2)
+        update(1, 5, 1)
+        assert refused_new(1, *dims) == n
+    elif small and dims[-1] * max(dims[2] * dims[3], dims[4] * dims[5]) <= 1 << 16:
+        tell(new_line("x", dims), "panic" if panics(two_tier(*dims)) else "ok")
+    return n
+
+
+# both sides of every bound, in either tier, whether its layers are none, one or all
+TABLES = [((0, 1), 1), ((1, 0), 1), ((20, 32), 0), ((20, 33), 3), ((9, 4096), 0), ((10, 4096), 3), ((20, 1), 0), ((21, 1), 4), ((128, 1), 4), ((129, 1), 3), ((64, 2), 4), ((65, 2), 3),
+          ((1, 4096), 0), ((1, 4097), 4), ((1, MASK), 4), ((2, MASK), 3), ((MASK, 1), 3), ((MASK, MASK), 3), ((1 << 63, 2), 3), ((0, MASK), 1)]
+for elephants, layers in ((0, 1), (1, 1), (1, 2), (2, 2), (19, 2), (19, 19), (0, 19)):
+    for table, n in TABLES:
+        assert check_new(2, elephants, *table, 2, 4, layers) == n and check_new(2, elephants, 2, 4, *table, layers) == n
+for heap, elephants, layers, n in ((0, 0, 1, 1), (1, 0, 0, 1), (1, 0, 1, 0), (1, 19, 1, 0), (1, 20, 1, 2), (1, 19, 19, 0), (1, 0, 20, 2), (1, 20, 20, 2), (1, MASK, 1, 2), (1, 0, MASK, 2),
+                                   (1024, 1, 2, 0), (1025, 1, 2, 4), (MASK, 1, 2, 4), (0, 20, 20, 1), (1, 20, 0, 1), (0, MASK, MASK, 1)):
+    assert check_new(heap, elephants, 1, 1, 1, 1, layers) == n
+# each of 1 to 4 over both tiers before the next
+NONE, BITS, ABOVE = (0, 1), (20, 33), (21, 1)
+for one, other, n in ((BITS, NONE, 1), (ABOVE, NONE, 1), (ABOVE, BITS, 3), (ABOVE, ABOVE, 4), ((2, 4), NONE, 1), ((2, 4), BITS, 3), ((2, 4), ABOVE, 4)):
+    for first, second in ((one, other), (other, one)):
+        for elephants in (0, 1, 19):
+            assert check_new(2, elephants, *first, *second, 2) == n and check_new(1025, elephants, *first, *second, 2) == n and check_new(0, elephants, *first, *second, 2) == 1
+        for elephants, layers in ((20, 2), (0, 20), (20, 20)):
+            assert check_new(1025, elephants, *first, *second, layers) == min(n, 2)
+# 9 where the dimensions are right, and the lengths are not: none, some and all of the layers wide
+for elephants in (0, 1, 2, 3, 19):
+    dims = (2, elephants, 2, 4, 3, 2, 3)
+    fresh(1, *dims)
+    update(1, 5, 1)
+    n = shelf[1].lengths()
+    for k in range(4):
+        for by in (-1, 1):
+            r = use(1)
+            lent(r, [x + by * (j == k) for j, x in enumerate(n)])
+            assert refused_new(1, *dims) == 9
+            lent(r, n)
+            new_call(dims, left(r, r.new(two_tier(*dims))))
+    # slices of the layers alike in either way, or of the other order, are of other lengths
+    for wrong in (two_tier(2, 0, 3, 2, 3, 2, 3), two_tier(2, 3, 2, 4, 2, 4, 3), two_tier(2, elephants, 3, 2, 2, 4, 3)):
+        r = use(1)
+        r.shape = wrong
+        lengths = r.lengths()
+        r.shape = two_tier(*dims)
+        if lengths != n:
+            lent(r, lengths)
+            assert refused_new(1, *dims) == 9
+            lent(r, n)
+            new_call(dims, left(r, r.new(two_tier(*dims))))
+
+
+def tiers(limit=600):
+    """seven dimensions that are accepted: no layer of the first tier, some, all, and more than there are"""
+    while True:
+        heap, layers = rng.choice([1, 2, 3, 4, 5, 8, 16]), rng.choice([1, 2, 3, 4, 6, 8])
+        tables = [rng.choice([1, 2, 3, 4, 5, 8, 20]) if k % 2 == 0 else rng.choice([1, 2, 3, 4, 5, 8, 13, 32]) for k in range(4)]
+        dims = heap, rng.choice([0, rng.randrange(layers + 1), layers, layers + 1, 19]), *tables, layers
+        r = Relay()
+        r.shape = two_tier(*dims)
+        if not shape_refusal(r.shape) and r.lengths()[0] <= limit:
+            return dims
+
+
+# 1 to 19 layers, standard and terminal, the first tier ending at each kind of place
+for layers in range(1, 20):
+    for mode in (STANDARD, TERMINAL):
+        for elephants in (rng.choice([0, layers, 19]), rng.randrange(layers + 1)):
+            fresh(1, rng.choice([2, 3, 4, 8]), elephants, rng.choice([1, 2, 3]), rng.choice([3, 4, 8, 16]), rng.choice([1, 2, 3]), rng.choice([1, 2, 3, 4]), layers)
+            answer(1)
+            for _ in range(10):
+                update(1, rng.choice(KEYS[:12]), rng.choice([0, 1, 2, 5, 1000]), mode)
+            answer(1)
+# layer by layer: a key in each layer of a terminal relay, and where its words stand
+for elephants in (0, 2, 4, 5):
+    r = fresh(1, 1, elephants, 2, 4, 1, 8, 4)
+    for l in range(4):
+        force(MADE_UP[l], (2 << l) - 2, [(3 << 126) + (l << 2 | l if k < elephants else l) for k in range(4)])
+        assert update(1, MADE_UP[l], 10 + l, TERMINAL) == 0
+    for l in range(4):
+        assert [r.row(l, k) for k in range(r.rows(l))] == [[10 + l if c == l else 0 for c in range(r.cols(l))]] * r.rows(l)
+        assert [r.norm(l, k) for k in range(r.rows(l))] == [(10 + l) ** 2] * r.rows(l) and seated(r, l) == [(MADE_UP[l], 10 + l)]
+    answer(1)
+    assert r.l2() == (0, math.sqrt(sum((10 + l) ** 2 for l in range(4)))) and r.l1() == (0, 46.0)
+
+# who was pushed out: all four things in each layer of either tier, with lists one word short, exact and one word longer
+for layers in (1, 2, 5, 19):
+    for mode in (STANDARD, TERMINAL):
+        for elephants in sorted({0, layers // 2, layers, 19}):
+            r = fresh(1, 1, elephants, 1, 4, 1, 2, layers)
+            exact = 2 * layers
+            for bottom in [layers - 1] if mode == STANDARD else range(layers):
+                a, b = PAIRS[bottom]
+                touched = range(layers) if mode == STANDARD else [bottom]
+                for key, w, did in ((a, 5, [SEATED, 0]), (a, 1, [RESCORED, 0]), (b, 6, [TURNED_AWAY, 0]), (b, 1, [DISPLACED, a]), (a, 0, [TURNED_AWAY, 0])):
+                    assert update(1, key, w, mode, lists=[exact - 1, exact + (w == 6)]) == 0
+                    assert r.told[:exact] == [x for l in range(layers) for x in (did if l in touched else [0, 0])]
+            assert not any(r.flags) and r.sound()
+
+# random calls on three relays of one shape, as they come
+for run in range(24):
+    dims = tiers()
+    heap, layers = dims[0], dims[-1]
+    keys = KEYS
+    if rng.random() < 0.5:
+        forced(layers)
+        keys = MADE_UP
+    keys = rng.sample(keys, min(len(keys), rng.choice([2, heap, heap + 1, 3 * heap, 40])))
+    for i in (1, 2, 3):
+        fresh(i, *dims)
+    habit = rng.choice([STANDARD, TERMINAL, 0])
+    size = rng.choice([1, 3, 1000, 1 << 31, 1 << 36, 1 << 46])
+    for _ in range(40):
+        i, key = rng.choice((1, 2, 3)), rng.choice(keys)
+        what = rng.random()
+        if what < 0.8:
+            update(i, key, -1 if rng.random() < 0.02 else rng.randint(0, size), habit or rng.choice([STANDARD, TERMINAL]))
+        elif what < 0.97:
+            merge(i, rng.choice([j for j in (1, 2, 3) if j != i]))
+        else:
+            clear(i)
+        if rng.random() < 0.1:
+            answer(i)
+    for i in (1, 2, 3):
+        answer(i)
+
+# weights through the cap and to 2^52, in layers of either tier
+for elephants, first, second, layers in ((0, (2, 4), (1, 1), 1), (1, (1, 1), (2, 4), 1), (1, (3, 5), (2, 2), 3), (2, (2, 2), (3, 5), 3), (19, (2, 4), (1, 1), 2)):
+    for mode in (STANDARD, TERMINAL):
+        fresh(1, 3, elephants, *first, *second, layers)
+        for w in (EDGE - 1, 1, 1, 1, TOP - EDGE - 3, 1, 1, 0):
+            update(1, 5, w, mode)
+            answer(1)
+        assert update(1, 6, 1, mode) == 7
+
+# the source's default, with fewer columns
+fresh(1, 32, 8, 3, 256, 3, 64, 16)
+fresh(2, 32, 8, 3, 256, 3, 64, 16)
+for key in KEYS:
+    update(rng.choice((1, 2)), key, rng.choice([1, 2, 50, 1000]))
+assert merge(1, 2) == 0
+answer(1)
+
+# merges: a stream cut into shares, merged in a chain and as a tree, with an empty share, held against one relay
+for run in range(12):
+    mode = rng.choice([STANDARD, TERMINAL])
+    dims = tiers(300)
+    heap = dims[0]
+    keys = rng.sample(KEYS, min(60, rng.choice([1, heap, heap + 1, 2 * heap + 1])))
+    stream = [(rng.choice(keys), rng.choice([0, 1, 7, 1 << 20, rng.randrange(1 << 40)])) for _ in range(24)]
+    for i in (1, 2, 3, 4, 5):
+        fresh(i, *dims)
+    for key, w in stream:
+        update(rng.choice((2, 3, 4)), key, w, mode)
+    rng.shuffle(stream)
+    for key, w in stream:
+        update(1, key, w, mode)
+    chain, tree = [(5, 2), (5, 3), (5, 4)], [(3, 4), (2, 3), (2, 5)]
+    for i, j in chain if run % 2 else tree:
+        assert merge(i, j) == 0
+    whole = 5 if run % 2 else 2
+    assert same(whole, 1) and same(1, whole)
+    for i in (whole, 1):
+        found = answer(i)
+        if len({key for key, _ in stream}) <= heap:
+            assert found[2] == (0, float(len({key for key, _ in stream})))
+    fresh(6, *dims)
+    update(6, keys[0], 1, STANDARD + TERMINAL - mode)
+    assert merge(6, 1) == 6 and merge(1, 6) == 6
+# 10 where any of the seven differs, one that no layer uses too, and before 6
+for elephants in (0, 1, 2, 3, 19):
+    dims = (2, elephants, 2, 4, 3, 2, 2)
+    fresh(1, *dims)
+    update(1, 5, 1)
+    for k in range(7):
+        other = list(dims)
+        other[k] += -1 if other[k] == 19 else 1
+        fresh(6, *other)
+        assert merge(6, 1) == 10 and merge(1, 6) == 10
+        update(6, 5, 1, TERMINAL)
+        assert merge(6, 1, lists=[0]) == 10 and merge(1, 6, lists=[0]) == 10
+
+# tiers that are alike are one tier, state for state: what both relays hold is the same but for the dimensions
+def alike(i, j):
+    a, b = shelf[i], shelf[j]
+    assert a.words()[WEIGHT:] == b.words()[WEIGHT:] and (a.counters, a.norms, a.entries, a.counts) == (b.counters, b.norms, b.entries, b.counts)
+
+
+for run in range(6):
+    heap, rows, cols, layers = shape(300)
+    for elephants in (0, rng.randrange(layers + 1), 19):
+        for i in (1, 2):
+            fresh(i, heap, rows, cols, layers)
+            fresh(i + 2, heap, elephants, rows, cols, rows, cols, layers)
+        mode = rng.choice([STANDARD, TERMINAL])
+        for _ in range(10):
+            i, key, w = rng.choice((1, 2)), rng.choice(KEYS[:20]), rng.choice([0, 1, 5, 1 << 33, -1])
+            assert update(i, key, w, mode) == update(i + 2, key, w, mode)
+            assert shelf[i].told[:2 * layers] == shelf[i + 2].told[:2 * layers]
+            alike(i, i + 2)
+        exact = 4 * heap * layers
+        assert merge(1, 2, lists=[exact]) == merge(3, 4, lists=[exact]) == 0 and shelf[1].told == shelf[3].told
+        alike(1, 3)
+        assert answer(1) == answer(3)
+        shelf[1].name = shelf[4].name = None  # the oracle has two types
+        assert merge(1, 4) == (0 if elephants == 0 else 10) and merge(4, 1) == (0 if elephants == 0 else 10)
+
+# ---- and the refusals of two tiers
+
+def all_calls(i):
+    """every call of two tiers on one relay, on a copy of it"""
+    for attempt in (lambda: update(6, 5, 1), lambda: update(6, 5, 1, TERMINAL), lambda: clear(6), lambda: merge(6, 5), lambda: merge(5, 6)):
+        twin(i, 6)
+        attempt()
+    use(i)
+    answer(i)
+
+
+def two_prepared(elephants, mode=STANDARD):
+    """at 1 and 5 the same small relay, which is kept at 2"""
+    if shelf[2].shape != two_tier(3, elephants, 2, 4, 1, 8, 3) or shelf[2].mode != mode:
+        fresh(2, 3, elephants, 2, 4, 1, 8, 3)
+        for key in (5, 6, 10):
+            update(2, key, key, mode)
+    for i in (1, 5):
+        twin(2, i)
+
+
+often = 0.25
+# 9 for the header: each dimension at its bound and past it, whether a layer uses it or not
+for elephants in (0, 1, 4):
+    for at, good, bad in ((HEAP, 3, 0), (HEAP, 3, 1025), (LAYERS, 3, 0), (LAYERS, 3, 20), (LAYERS, 3, 2), (ELEPHANT_LAYERS, 19, 20), (ELEPHANT_LAYERS, 0, MASK), (ELEPHANT_LAYERS, elephants, elephants + 1),
+                          (ELEPHANT_ROWS, 2, 0), (ELEPHANT_ROWS, 20, 21), (ELEPHANT_ROWS, 1, 3), (ELEPHANT_COLS, 4, 0), (ELEPHANT_COLS, 4096, 4097), (ELEPHANT_COLS, 3, 5),
+                          (MOUSE_ROWS, 1, 0), (MOUSE_ROWS, 20, 21), (MOUSE_ROWS, 1, 2), (MOUSE_COLS, 8, 0), (MOUSE_COLS, 4096, 4097), (MOUSE_COLS, 7, 9),
+                          (WEIGHT, TOP, TOP + 1), (UPDATES, TOP, TOP + 1), (LENS + 2, 3, 4), (LENS + 3, 0, 1), (FLAGS + 3, 0, 1)):
+        two_prepared(elephants)
+        for x in (good, bad):
+            poke(1, 0, at, x)
+            all_calls(1)
+            check(1)
+# 9 for lengths
+for elephants in (0, 2, 3):
+    for k in range(4):
+        for by in (-1, 1):
+            two_prepared(elephants)
+            r = use(1)
+            lent(r, [x + by * (j == k) for j, x in enumerate(r.lengths())])
+            all_calls(1)
+# 9 for what is read: a counter and a norm of either tier, at its own layer's bound, a count
+for mode in (STANDARD, TERMINAL):
+    for elephants in (1, 2):
+        two_prepared(elephants, mode)
+        r = shelf[1]
+        for l in range(3):
+            first = r.rows_before(l)
+            for row in range(r.rows(l)):
+                for n in (r.cols(l) * CAP, r.cols(l) * CAP + 1):
+                    two_prepared(elephants, mode)
+                    poke_norm(1, first + row, n)
+                    all_calls(1)
+        for l in range(3):
+            for x in (TOP, TOP + 1, -TOP - 1):
+                two_prepared(elephants, mode)
+                r = shelf[1]
+                for row, at, _ in r.places(l, r.hash(RECORDS[5], l)):
+                    poke(1, 1, at, x)
+                    poke_norm(1, r.rows_before(l) + row, r.cols(l) * CAP)
+                all_calls(1)
+                two_prepared(elephants, mode)
+                poke(1, 4, 3 * l, x)
+                all_calls(1)
+# the state check of either tier: a norm that is not its row's, a counter, an unused entry
+for elephants in (0, 1, 3):
+    two_prepared(elephants)
+    assert check(1)
+    r = use(1)
+    for slice, at in [(1, at) for at in range(0, len(r.counters), 5)] + [(2, at) for at in range(len(r.norms))] + [(3, len(r.entries) - 1), (4, len(r.counts) - 1)]:
+        had = [None, r.counters, r.norms, r.entries, r.counts][slice][at]
+        poke(1, slice, at, had + 1)
+        assert not check(1)
+        poke(1, slice, at, had)
+        assert check(1)
+# the order: 9, 12, 5, 6, 7, 14, 9 for what is read, 11, 16; in a merge 9, 10, 6, 7, 14, 9, 11, 16; each also with a list that is too short
+often = 1
+for elephants in (0, 1, 3):
+    for mode in (STANDARD, TERMINAL):
+        other = STANDARD + TERMINAL - mode
+        two_prepared(elephants, mode)
+        b = bottom_layer(RECORDS[5][1], 3)
+
+        def heavy(i, by):
+            r = use(i)
+            for l in range(3):
+                for row, at, sign in r.places(l, r.hash(RECORDS[5], l)):
+                    poke(i, 1, at, sign * (TOP + by))
+                    poke_norm(i, r.rows_before(l) + row, r.cols(l) * CAP)
+
+        heavy(1, 1)
+        for at, x in ((WEIGHT, TOP), (UPDATES, TOP), (ELEPHANT_LAYERS, 20)):
+            poke(1, 0, at, x)
+        assert update(1, 5, -1, other, 7, lists=[0]) == 9 and merge(5, 1, lists=[0]) == 9 and merge(1, 5, lists=[0]) == 9
+        poke(1, 0, ELEPHANT_LAYERS, elephants)
+        for length in (0, 7, 9, 40):
+            assert update(1, 5, -1, other, length, lists=[0]) == 12
+        for w, kind, n in ((-1, other, 5), (-(1 << 63), other, 5), (1, other, 6), (1, mode, 7), ((1 << 63) - 1, mode, 7), (0, mode, 14)):
+            assert update(1, 5, w, kind, lists=[0]) == n
+        poke(5, 0, MODE, other)
+        assert merge(5, 1, lists=[0]) == 6
+        poke(5, 0, ELEPHANT_ROWS if elephants == 0 else MOUSE_ROWS if elephants == 3 else HEAP, 1 if elephants == 0 else 2 if elephants == 3 else 3)
+        assert merge(5, 1, lists=[0]) == (6 if elephants == 1 else 10)
+        two_prepared(elephants, mode)
+        heavy(1, 1)
+        poke(5, 0, WEIGHT, TOP)
+        poke(5, 0, UPDATES, TOP)
+        assert merge(5, 1, lists=[0]) == 7
+        poke(5, 0, WEIGHT, 0)
+        assert merge(5, 1, lists=[0]) == 14
+        poke(5, 0, UPDATES, TOP - 3)
+        assert update(1, 5, 1, mode, lists=[0]) == 9 and merge(5, 1, lists=[0]) == 9 and merge(1, 5, lists=[0]) == 9
+        heavy(1, 0)
+        assert update(1, 5, 1, mode, lists=[0]) == 11 and merge(5, 1, lists=[0]) == (11 if any(x for x in shelf[5].counters) else 16)
+        assert update(1, 5, 0, mode, lists=[5, 6]) == 0
+        two_prepared(elephants, mode)
+        poke(5, 0, UPDATES, TOP - 3)
+        assert merge(5, 1, lists=[35, 36]) == 0 and shelf[5].updates == TOP
+        two_prepared(elephants, mode)
+        poke(1, 0, UPDATES, TOP - 1)
+        assert update(1, 5, 0, mode, lists=[0, 5, 7]) == 0 and update(1, 5, 0, mode, lists=[7]) == 14 and clear(1) == 0 and shelf[1].updates == 0
 
 
 def agree(want, have):

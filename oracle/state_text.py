@@ -9,7 +9,7 @@ text that is accepted has to be what is written again. Bad texts are made of two
 import random
 import re
 
-from model import MASK, STANDARD, TERMINAL, TOP, Relay, capped, cell, read_text, shape_refusal, write_text
+from model import MASK, STANDARD, TERMINAL, TOP, Relay, capped, cell, one_tier, read_text, shape_refusal, write_text
 from vectors import ROOT, oracle, words
 
 rng = random.Random(20261116)
@@ -27,7 +27,7 @@ def tell(line, want="ok"):
 
 def lengths_of(shape):
     r = Relay()
-    r.shape = list(shape)
+    r.shape = one_tier(*shape)
     return r.lengths()
 
 
@@ -56,16 +56,16 @@ for key, answer in zip(KEYS, oracle(["new r 1 1 1 19"] + ["rec r %d" % k for k i
 
 def fresh(*shape):
     r = Relay()
-    r.shape = list(shape)
+    r.shape = one_tier(*shape)
     r.zero()
-    assert r.new(*shape) == 0
+    assert r.new(r.shape) == 0
     r.name = "R%d" % len(script)
     tell("new %s %d %d %d %d" % (r.name, *shape))
     return r
 
 
 def record(r, key):
-    return RECORDS[key][:2 + 2 * r.shape[3]]
+    return RECORDS[key][:2 + 2 * r.layers]
 
 
 def update(r, key, w, mode):
@@ -74,8 +74,8 @@ def update(r, key, w, mode):
 
 
 def delta(r, key, count, promoted_only):
-    l, row = rng.randrange(r.shape[3]), rng.randrange(r.shape[1])
-    col = rng.choice([rng.randrange(r.shape[2]), cell(r.hash(RECORDS[key], l), row, r.shape[2])[0]])
+    l, row = rng.randrange(r.layers), rng.randrange(r.rows(0))
+    col = rng.choice([rng.randrange(r.cols(l)), cell(r.hash(RECORDS[key], l), row, r.cols(l))[0]])
     if r.delta(l, row, col, count, record(r, key), promoted_only, [0] * r.list_words()) == 0:
         tell("delta %s %d %d %d %d %d %d" % (r.name, l, row, col, count, key, promoted_only))
 
@@ -91,7 +91,7 @@ def some_call(r, o, mode, size, keys):
         if r.merge(o, [0] * r.merge_words()) == 0:
             tell("merge %s %s" % (r.name, o.name))
     elif what < 0.95:
-        l = rng.randrange(r.shape[3])
+        l = rng.randrange(r.layers)
         assert r.mark(l) == 0
         tell("mark %s %d" % (r.name, l))
     elif r.set_total_weight(rng.choice([0, 7, TOP // 4])) == 0:
@@ -112,7 +112,7 @@ def after_calls(shape, mode, calls):
 def shape(limit):
     while True:
         s = rng.choice([1, 2, 3, 4, 8]), rng.choice([1, 2, 3, 5, 8]), rng.choice([1, 2, 3, 4, 8, 13]), rng.choice([1, 2, 3, 4, 6])
-        if not shape_refusal(*s) and s[1] * s[2] * s[3] <= limit:
+        if not shape_refusal(one_tier(*s)) and s[1] * s[2] * s[3] <= limit:
             return s
 
 
@@ -303,7 +303,7 @@ def spoken(text, lengths):
     bad = state.copy()
     bad.weight = MASK
     rooms = [(state, len(text) - 1), (state, len(text)), (state, LONGEST), (bad, len(text) - 1)]
-    return "0 %d" % state.digest() + "".join(" %d %d 1" % (n, len(bytes)) for n, bytes in (write_text(r, room) for r, room in rooms)) + "\n"
+    return "0 %d" % state.digest(shape=[state.heap, state.rows(0), state.cols(0), state.layers]) + "".join(" %d %d 1" % (n, len(bytes)) for n, bytes in (write_text(r, room) for r, room in rooms)) + "\n"
 
 
 def broken(texts, lengths):

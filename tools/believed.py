@@ -23,13 +23,15 @@ STATED = {
     "state_check": ["Reached"],
     "state_text": ["Restored"],
     "univmon_c": ["SameCalls"],
+    "univmon_two_tier": ["SameCalls"],
+    "header": ["OneTier"],
     "panel_lines": ["Ask"],
     "figures": ["Figures"],
     "shared_streams": ["SharedStreams"],
     "panel_stream": ["PanelStream"],
 }
 # whose every contract counts: the calls from C, and the program
-WHOLE = {"univmon_c": True, "panel": True}
+WHOLE = {"univmon_c": True, "univmon_two_tier": True, "panel": True}
 USE = re.compile(r"^(?:ghost )?use (\S+?)\.\{([^}]*)\};?", re.M)
 ALIAS = re.compile(r"^(?:ghost )?use (\S+) as (\S+?);?$", re.M)
 HEAD = re.compile(r"^( *)(?:abbrev |unfoldable )*pub (record |data )?([^\s:({]+)")

@@ -4,18 +4,30 @@
 use std::hint::black_box;
 
 use asap_sketchlib::{
-    hash128_seeded, hash64_seeded, DataInput, UnivMon, UNIVMON_BOTTOM_LAYER_SEED_INDEX,
+    hash128_seeded, hash64_seeded, DataInput, UnivMon, UnivMonTwoTier, UNIVMON_BOTTOM_LAYER_SEED_INDEX,
 };
+use originals::Original;
 use random::Random;
-use univmon::{Owned, Shape, State, G};
+use univmon::{Owned, Shape, State, Tiers, TwoTierShape, G};
 
+mod originals;
 #[path = "../random.rs"]
 mod random;
 
 const ROWS: usize = 5;
 const COLS: usize = 2048;
 const LAYERS: usize = 8;
-const RECORD: usize = 2 + 2 * LAYERS;
+
+/// The default dimensions of the original's `UnivMonTwoTier`.
+const TWO_TIERS: TwoTierShape = TwoTierShape {
+    heap_size: 32,
+    layers: 16,
+    elephant_layers: 8,
+    elephant_rows: 3,
+    elephant_cols: 2048,
+    mouse_rows: 3,
+    mouse_cols: 512,
+};
 
 /// Zipf with exponent 1, as the original's own bench draws it.
 fn stream(seed: u64, updates: usize, keys: usize) -> Vec<u64> {
@@ -35,26 +47,23 @@ fn stream(seed: u64, updates: usize, keys: usize) -> Vec<u64> {
         .collect()
 }
 
-/// What both are handed for a key: the record's words, and the same hashes as the original has them.
-struct Key {
-    words: [u64; RECORD],
-    bottom: u64,
-    hashes: [u128; LAYERS],
+/// What both are handed for a key, for `N` - 1 layers: the record's words in pairs, key and bottom hash first, and the
+/// same hashes as the original has them.
+struct Key<const N: usize> {
+    words: [[u64; 2]; N],
+    hashes: [u128; N],
 }
 
-fn key(n: u64) -> Key {
+fn key<const N: usize>(n: u64) -> Key<N> {
     let input = DataInput::U64(n);
-    let bottom = hash64_seeded(UNIVMON_BOTTOM_LAYER_SEED_INDEX, &input);
-    let mut words = [0; RECORD];
-    let mut hashes = [0; LAYERS];
-    words[0] = n;
-    words[1] = bottom;
-    for layer in 0..LAYERS {
+    let mut words = [[0; 2]; N];
+    let mut hashes = [0; N];
+    words[0] = [n, hash64_seeded(UNIVMON_BOTTOM_LAYER_SEED_INDEX, &input)];
+    for layer in 0..N - 1 {
         hashes[layer] = hash128_seeded(layer, &input);
-        words[2 + 2 * layer] = (hashes[layer] >> 64) as u64;
-        words[3 + 2 * layer] = hashes[layer] as u64;
+        words[layer + 1] = [(hashes[layer] >> 64) as u64, hashes[layer] as u64];
     }
-    Key { words, bottom, hashes }
+    Key { words, hashes }
 }
 
 fn shape(heap_size: usize) -> Shape {
@@ -62,30 +71,32 @@ fn shape(heap_size: usize) -> Shape {
 }
 
 /// The original's update with the record's hashes handed in: its own steps, no hashing of the layers.
-fn original_update(u: &mut UnivMon, complete: &mut [bool; LAYERS], k: &Key, first: bool) {
-    u.total_weight += 1;
-    let bottom = UnivMon::bottom_layer_for_hash(k.bottom, LAYERS);
+fn original_update<O: Original, const N: usize>(u: &mut O, complete: &mut [bool; N], k: &Key<N>, first: bool) {
+    u.add_weight(1);
+    let [key, hash] = k.words[0];
+    let bottom = UnivMon::bottom_layer_for_hash(hash, N - 1);
     let from = if first { 0 } else { bottom };
-    let input = DataInput::U64(k.words[0]);
+    let input = DataInput::U64(key);
     for layer in from..=bottom {
-        let sketch = &mut u.layer_sketches[layer];
+        let (sketch, heap) = u.parts(layer);
         sketch.update_weighted_with_hash(k.hashes[layer], 1);
         let count = sketch.estimate_with_hash(k.hashes[layer]) as i64;
-        if !u.layer_heaps[layer].update(&input, count) {
+        if !heap.update(&input, count) {
             complete[layer] = false;
         }
     }
 }
 
-fn ours(heap: usize, stream: &[u64], keys: &[Key], terminal: bool) -> Owned {
-    let mut state = Owned::new(shape(heap)).unwrap();
-    state.with(|s| run(s, stream, keys, terminal, &mut [0; 2 * LAYERS]));
+fn ours<S: Tiers, const N: usize>(shape: S, stream: &[u64], keys: &[Key<N>], terminal: bool) -> Owned<S> {
+    let mut state = Owned::new(shape).unwrap();
+    state.with(|s| run(s, stream, keys, terminal, &mut [[0; 2]; N]));
     state
 }
 
-fn run(s: &mut State<'_>, stream: &[u64], keys: &[Key], terminal: bool, list: &mut [u64]) {
+fn run<S: Tiers, const N: usize>(s: &mut State<'_, S>, stream: &[u64], keys: &[Key<N>], terminal: bool, list: &mut [[u64; 2]; N]) {
+    let list = list[1..].as_flattened_mut();
     for &n in stream {
-        let words = &keys[n as usize].words;
+        let words = keys[n as usize].words.as_flattened();
         if terminal {
             s.update_weighted_terminal(words, 1, list).unwrap();
         } else {
@@ -95,14 +106,10 @@ fn run(s: &mut State<'_>, stream: &[u64], keys: &[Key], terminal: bool, list: &m
 }
 
 /// The original by its own calls, so that its mode and flags are set.
-fn theirs(heap: usize, stream: &[u64], terminal: bool) -> UnivMon {
-    let mut u = UnivMon::new(heap, ROWS, COLS, LAYERS);
+fn theirs<O: Original>(shape: O::Shape, stream: &[u64], terminal: bool) -> O {
+    let mut u = O::fresh(shape);
     for &n in stream {
-        if terminal {
-            u.update_weighted_terminal(&DataInput::U64(n), 1);
-        } else {
-            u.update_weighted(&DataInput::U64(n), 1);
-        }
+        u.update(n, 1, terminal);
     }
     u
 }
@@ -141,66 +148,67 @@ fn median(xs: &mut [f64]) -> f64 {
     xs[xs.len() / 2]
 }
 
-fn main() {
-    let mut args = std::env::args().skip(1);
-    let rounds: usize = args.next().map_or(15, |a| a.parse().unwrap());
-    let updates: usize = args.next().map_or(200_000, |a| a.parse().unwrap());
-    let many: usize = args.next().map_or(2_000, |a| a.parse().unwrap());
-    let stream_a = stream(42, updates, many);
-    let stream_b = stream(43, updates, many);
-    let keys: Vec<Key> = (0..=many as u64).map(key).collect();
-    let (sa, sb, keys) = (&stream_a, &stream_b, &keys);
-    println!("{updates} updates, {many} keys by Zipf, {ROWS} x {COLS}, {LAYERS} layers, {rounds} rounds");
-
+/// Both updates in each of these shapes.
+fn updates_of<'a, O: Original + 'a, const N: usize>(shapes: &[(String, O::Shape)], stream: &'a [u64], keys: &'a [Key<N>]) -> Vec<Item<'a>>
+where
+    O::Shape: 'a,
+{
     let mut items: Vec<Item> = Vec::new();
     for terminal in [false, true] {
-        for heap in [32, 1024] {
+        for (name, shape) in shapes {
+            let shape = *shape;
             let kind = if terminal { "terminal update" } else { "update" };
             items.push(Item {
-                name: format!("{kind}, heap {heap}, hashes handed in"),
-                per: updates as f64,
+                name: format!("{kind}, {name}, hashes handed in"),
+                per: stream.len() as f64,
                 original: Box::new(move || {
-                    let mut u = UnivMon::new(heap, ROWS, COLS, LAYERS);
-                    let mut complete = [true; LAYERS];
+                    let mut u = O::fresh(shape);
+                    let mut complete = [true; N];
                     timed(|| {
-                        for &n in sa {
+                        for &n in stream {
                             original_update(&mut u, &mut complete, &keys[n as usize], !terminal);
                         }
                     })
                 }),
                 this: Box::new(move || {
-                    let mut state = Owned::new(shape(heap)).unwrap();
-                    let mut list = [0; 2 * LAYERS];
-                    timed(|| state.with(|s| run(s, sa, keys, terminal, &mut list)))
+                    let mut state = Owned::new(shape).unwrap();
+                    let mut list = [[0; 2]; N];
+                    timed(|| state.with(|s| run(s, stream, keys, terminal, &mut list)))
                 }),
                 times: Vec::new(),
             });
         }
     }
+    items
+}
+
+/// A merge and the answers, in both modes, in each of these shapes.
+fn answers_of<'a, O: Original + 'a, const N: usize>(shapes: &[(String, O::Shape)], [sa, sb]: [&'a [u64]; 2], keys: &'a [Key<N>]) -> Vec<Item<'a>>
+where
+    O::Shape: 'a,
+{
+    let mut items: Vec<Item> = Vec::new();
     for terminal in [false, true] {
-        for heap in [32, 1024] {
+        for (name, shape) in shapes {
             let kind = if terminal { "terminal" } else { "standard" };
-            let (u, v) = (theirs(heap, sa, terminal), theirs(heap, sb, terminal));
-            let (mut o, mut p) = (ours(heap, sa, keys, terminal), ours(heap, sb, keys, terminal));
+            let (u, v) = (theirs::<O>(*shape, sa, terminal), theirs::<O>(*shape, sb, terminal));
+            let (mut o, mut p) = (ours(*shape, sa, keys, terminal), ours(*shape, sb, keys, terminal));
             // Both hold the same, or the times say nothing.
-            let same = |a: f64, b: f64| assert_eq!(a.to_bits(), b.to_bits(), "{kind} {heap}");
-            same(u.estimate_l2(), o.with(|s| s.estimate_l2()).unwrap());
-            same(u.estimate_cardinality(), o.with(|s| s.estimate_cardinality()).unwrap());
-            same(
-                u.estimate_g_sum(|x| x * x, false),
-                o.with(|s| s.estimate_g_sum(G::Square, false)).unwrap(),
-            );
+            let same = |a: f64, b: f64| assert_eq!(a.to_bits(), b.to_bits(), "{kind} {name}");
+            same(u.l2(), o.with(|s| s.estimate_l2()).unwrap());
+            same(u.cardinality(), o.with(|s| s.estimate_cardinality()).unwrap());
+            same(u.g_sum(G::Square, false), o.with(|s| s.estimate_g_sum(G::Square, false)).unwrap());
             const MERGES: usize = 5;
             let (u1, v1, o1) = (u.clone(), v.clone(), o.clone());
-            let mut list = vec![0; shape(heap).lengths().unwrap().merge_list];
+            let mut list = vec![0; Tiers::lengths(*shape).unwrap().merge_list];
             items.push(Item {
-                name: format!("merge, {kind}, heap {heap}"),
+                name: format!("merge, {kind}, {name}"),
                 per: MERGES as f64,
                 original: Box::new(move || {
                     (0..MERGES)
                         .map(|_| {
                             let mut a = u1.clone();
-                            timed(|| a.merge(&v1))
+                            timed(|| a.merge_in(&v1))
                         })
                         .sum()
                 }),
@@ -214,20 +222,16 @@ fn main() {
                 }),
                 times: Vec::new(),
             });
-            let answers: [(&str, usize, fn(&UnivMon) -> f64, fn(&State) -> f64); 4] = [
-                ("L2", 20_000, |u| u.estimate_l2(), |s| s.estimate_l2().unwrap()),
-                ("cardinality", 40, |u| u.estimate_cardinality(), |s| s.estimate_cardinality().unwrap()),
-                ("g-sum value", 40, |u| u.estimate_g_sum(|x| x, false), |s| {
-                    s.estimate_g_sum(G::Value, false).unwrap()
-                }),
-                ("g-sum square", 40, |u| u.estimate_g_sum(|x| x * x, false), |s| {
-                    s.estimate_g_sum(G::Square, false).unwrap()
-                }),
+            let answers: [(&str, usize, fn(&O) -> f64, fn(&State<'_, O::Shape>) -> f64); 4] = [
+                ("L2", 20_000, |u| u.l2(), |s| s.estimate_l2().unwrap()),
+                ("cardinality", 40, |u| u.cardinality(), |s| s.estimate_cardinality().unwrap()),
+                ("g-sum value", 40, |u| u.g_sum(G::Value, false), |s| s.estimate_g_sum(G::Value, false).unwrap()),
+                ("g-sum square", 40, |u| u.g_sum(G::Square, false), |s| s.estimate_g_sum(G::Square, false).unwrap()),
             ];
-            for (name, times, f, g) in answers {
+            for (answer, times, f, g) in answers {
                 let (u, mut o) = (u.clone(), o.clone());
                 items.push(Item {
-                    name: format!("{name}, {kind}, heap {heap}"),
+                    name: format!("{answer}, {kind}, {name}"),
                     per: times as f64,
                     original: Box::new(move || timed(|| for _ in 0..times { black_box(f(black_box(&u))); })),
                     this: Box::new(move || {
@@ -238,6 +242,29 @@ fn main() {
             }
         }
     }
+    items
+}
+
+fn main() {
+    let mut args = std::env::args().skip(1);
+    let rounds: usize = args.next().map_or(15, |a| a.parse().unwrap());
+    let updates: usize = args.next().map_or(200_000, |a| a.parse().unwrap());
+    let many: usize = args.next().map_or(2_000, |a| a.parse().unwrap());
+    let stream_a = stream(42, updates, many);
+    let stream_b = stream(43, updates, many);
+    let keys: Vec<Key<{ LAYERS + 1 }>> = (0..=many as u64).map(key).collect();
+    let more: Vec<Key<{ TWO_TIERS.layers + 1 }>> = (0..=many as u64).map(key).collect();
+    let streams = [&stream_a[..], &stream_b[..]];
+    println!("{updates} updates, {many} keys by Zipf, {ROWS} x {COLS}, {LAYERS} layers, {rounds} rounds");
+    let TwoTierShape { layers, elephant_layers, elephant_rows, elephant_cols, mouse_rows, mouse_cols, .. } = TWO_TIERS;
+    println!("two tiers: {elephant_layers} layers of {elephant_rows} x {elephant_cols} and {mouse_rows} x {mouse_cols} up to {layers} layers");
+
+    let shapes = [(String::from("heap 32"), shape(32)), (String::from("heap 1024"), shape(1024))];
+    let tiers = [(String::from("two tiers"), TWO_TIERS)];
+    let mut items = updates_of::<UnivMon, _>(&shapes, streams[0], &keys);
+    items.extend(updates_of::<UnivMonTwoTier, _>(&tiers, streams[0], &more));
+    items.extend(answers_of::<UnivMon, _>(&shapes, streams, &keys));
+    items.extend(answers_of::<UnivMonTwoTier, _>(&tiers, streams, &more));
     for round in 0..rounds {
         for item in &mut items {
             let (a, b) = if round % 2 == 0 {

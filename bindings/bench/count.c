@@ -1,5 +1,6 @@
 /* Calls of each kind on one stream, for callgrind to count: `bindings/bench/count` builds and runs it.
- *   count HEAP      5 rows, 2,048 columns, 8 layers; 5,000 updates of 2,000 keys */
+ *   count HEAP      5 rows, 2,048 columns, 8 layers; 5,000 updates of 2,000 keys; the same with two tiers, the first
+ *                   8 of 16 layers of 3 rows and 2,048 columns, the others of 3 and 512 */
 #include <stdint.h>
 #include <stdio.h>
 #include <stdlib.h>
@@ -18,7 +19,19 @@ struct state {
 };
 
 static struct state first, second;
-static uint64_t list[UNIVMON_MERGE_LIST(HEAP, LAYERS)];
+
+enum { WIDE_ROWS = 3, WIDE_COLS = 2048, MOUSE_COLS = 512, ELEPHANTS = 8, WIDE_LAYERS = 16 };
+
+struct wide_state {
+    univmon_two_tier_header header;
+    int64_t counters[UNIVMON_TWO_TIER_COUNTERS(ELEPHANTS, WIDE_ROWS, WIDE_COLS, WIDE_ROWS, MOUSE_COLS, WIDE_LAYERS)];
+    uint64_t norms[UNIVMON_TWO_TIER_NORMS(ELEPHANTS, WIDE_ROWS, WIDE_ROWS, WIDE_LAYERS)];
+    uint64_t entries[UNIVMON_ENTRIES(HEAP, WIDE_LAYERS)];
+    int64_t counts[UNIVMON_COUNTS(HEAP, WIDE_LAYERS)];
+};
+
+static struct wide_state third, fourth;
+static uint64_t list[UNIVMON_MERGE_LIST(HEAP, WIDE_LAYERS)];
 static size_t heap;
 
 #define SLICES(s) \
@@ -41,10 +54,10 @@ static void fresh(struct state *s) {
     s->header = a.header;
 }
 
-static void record_of(uint64_t i, uint64_t *record) {
+static void record_of(uint64_t i, uint64_t *record, size_t words) {
     uint64_t key = mixed(i, 77) % KEYS;
     record[0] = key;
-    for (size_t k = 1; k < UNIVMON_RECORD(LAYERS); k++) {
+    for (size_t k = 1; k < words; k++) {
         record[k] = mixed(key, k);
     }
 }
@@ -55,7 +68,7 @@ static void by_value(struct state *s, int terminal) {
     uint64_t record[UNIVMON_RECORD(LAYERS)];
     fresh(s);
     for (uint64_t i = 0; i < UPDATES; i++) {
-        record_of(i, record);
+        record_of(i, record, UNIVMON_RECORD(LAYERS));
         univmon_answered a = terminal
             ? univmon_update_weighted_terminal(s->header, SLICES(s), RECORD, weight_of(i), LIST)
             : univmon_update_weighted(s->header, SLICES(s), RECORD, weight_of(i), LIST);
@@ -69,7 +82,7 @@ static void lent(struct state *s, int terminal) {
     univmon_shape shape = {heap, ROWS, COLS, LAYERS};
     fresh(s);
     for (uint64_t i = 0; i < UPDATES; i++) {
-        record_of(i, record);
+        record_of(i, record, UNIVMON_RECORD(LAYERS));
         univmon_step a = terminal
             ? univmon_update_weighted_terminal_lent(shape, s->header.weight, s->header.updates, s->header.mode, s->header.lens, UNIVMON_MAX_LAYERS, s->header.flags,
                   UNIVMON_MAX_LAYERS, SLICES(s), RECORD, weight_of(i), LIST)
@@ -79,6 +92,42 @@ static void lent(struct state *s, int terminal) {
         s->header.weight = a.weight;
         s->header.updates = a.updates;
         s->header.mode = a.mode;
+    }
+}
+
+#define WIDE(s) \
+    (s)->counters, sizeof (s)->counters / 8, (s)->norms, sizeof (s)->norms / 8, (s)->entries, UNIVMON_ENTRIES(heap, WIDE_LAYERS), \
+        (s)->counts, UNIVMON_COUNTS(heap, WIDE_LAYERS)
+#define WIDE_RECORD record, UNIVMON_RECORD(WIDE_LAYERS)
+#define WIDE_LIST list, UNIVMON_LIST(WIDE_LAYERS)
+
+/* The updates of two tiers, with the header by value and with lengths and flags lent. */
+static void wide(struct wide_state *s, int terminal, int lent) {
+    uint64_t record[UNIVMON_RECORD(WIDE_LAYERS)];
+    univmon_two_tier_shape shape = {heap, WIDE_LAYERS, ELEPHANTS, WIDE_ROWS, WIDE_COLS, WIDE_ROWS, MOUSE_COLS};
+    univmon_two_tier_answered a =
+        univmon_two_tier_new(heap, ELEPHANTS, WIDE_ROWS, WIDE_COLS, WIDE_ROWS, MOUSE_COLS, WIDE_LAYERS, WIDE(s));
+    must(a.refusal, 0, "new of two tiers");
+    s->header = a.header;
+    for (uint64_t i = 0; i < UPDATES; i++) {
+        univmon_two_tier_header *h = &s->header;
+        record_of(i, record, UNIVMON_RECORD(WIDE_LAYERS));
+        if (!lent) {
+            a = terminal ? univmon_two_tier_update_weighted_terminal(*h, WIDE(s), WIDE_RECORD, weight_of(i), WIDE_LIST)
+                         : univmon_two_tier_update_weighted(*h, WIDE(s), WIDE_RECORD, weight_of(i), WIDE_LIST);
+            must(a.refusal, 0, "an update of two tiers");
+            *h = a.header;
+            continue;
+        }
+        univmon_step b = terminal
+            ? univmon_two_tier_update_weighted_terminal_lent(shape, h->weight, h->updates, h->mode, h->lens, UNIVMON_MAX_LAYERS, h->flags,
+                  UNIVMON_MAX_LAYERS, WIDE(s), WIDE_RECORD, weight_of(i), WIDE_LIST)
+            : univmon_two_tier_update_weighted_lent(shape, h->weight, h->updates, h->mode, h->lens, UNIVMON_MAX_LAYERS, h->flags,
+                  UNIVMON_MAX_LAYERS, WIDE(s), WIDE_RECORD, weight_of(i), WIDE_LIST);
+        must(b.refusal, 0, "a lent update of two tiers");
+        h->weight = b.weight;
+        h->updates = b.updates;
+        h->mode = b.mode;
     }
 }
 
@@ -94,7 +143,7 @@ int main(int argc, char **argv) {
     lent(&first, 0);
     by_value(&second, 0);
     for (uint64_t i = 0; i < UPDATES; i++) {
-        record_of(i, record);
+        record_of(i, record, UNIVMON_RECORD(LAYERS));
         univmon_answered a = univmon_apply_delta(first.header, SLICES(&first), RECORD, i % LAYERS, i % ROWS,
             mixed(i, 5) % COLS, (int32_t)(1 + i % 100), 0, LIST);
         must(a.refusal, 0, "a delta");
@@ -102,5 +151,12 @@ int main(int argc, char **argv) {
     }
     univmon_answered m = univmon_merge(first.header, SLICES(&first), second.header, SLICES(&second), list, UNIVMON_MERGE_LIST(heap, LAYERS));
     must(m.refusal, 0, "a merge");
+    for (int kind = 0; kind < 4; kind++) {
+        wide(&third, kind % 2, kind / 2);
+    }
+    wide(&fourth, 1, 1);
+    univmon_two_tier_answered n =
+        univmon_two_tier_merge(third.header, WIDE(&third), fourth.header, WIDE(&fourth), list, UNIVMON_MERGE_LIST(heap, WIDE_LAYERS));
+    must(n.refusal, 0, "a merge of two tiers");
     return 0;
 }

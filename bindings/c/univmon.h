@@ -1,7 +1,9 @@
-/* UnivMon for a relay's own loop: the proved library under plain C names.
+/* UnivMon and UnivMonTwoTier for a relay's own loop: the proved library under plain C names.
  *
- * Build:  rt staticlib univmon_c     (writes target/staticlib/libunivmon_c.a)
+ * Build:  rt staticlib univmon_c           (writes target/staticlib/libunivmon_c.a)
+ *         rt staticlib univmon_two_tier    (libunivmon_two_tier.a, for the functions univmon_two_tier_*)
  * Link:   cc relay.c -I bindings/c target/staticlib/libunivmon_c.a
+ * Each archive is whole in itself: a program links the one it calls, or both.
  *
  * The library needs memcpy and memset and nothing else. It allocates nothing, keeps nothing between
  * calls and has no global: calls on different states may run at the same time.
@@ -12,6 +14,16 @@
  *   entries    4 * layers * heap_size     words: key, bottom hash, high and low half of the layer hash
  *   counts     layers * heap_size         signed words, the candidates' counts
  * The macros below give them. Every call tests them and refuses others.
+ *
+ * TWO TIERS. The functions univmon_two_tier_* are the same calls on states whose first layers are wider: the
+ * layers below `elephant_layers` have elephant_rows rows of elephant_cols columns, the others mouse_rows of
+ * mouse_cols. Counters and norms lie by layer, each layer with its own rows and columns:
+ *   counters   elephants * elephant_rows * elephant_cols + mice * mouse_rows * mouse_cols
+ *   norms      2 * (elephants * elephant_rows + mice * mouse_rows)
+ * where elephants is the smaller of elephant_layers and layers, and mice is the rest of the layers. elephant_layers
+ * may be 0, and it may be above layers: then all layers are wide. A tier that no layer is of has to be within its
+ * limits all the same. There are no deltas, marks, weight settings, panel, check and text of these states.
+ * States of one tier and of two are not merged with each other: their headers are different types.
  *
  * A RECORD is what a key is counted by, 2 + 2 * layers words: the key, its bottom hash, then for each
  * layer from 0 the high and the low half of its 128-bit hash. The caller hashes.
@@ -30,10 +42,10 @@
  * needed; a shorter one is refused with 16, after everything else. What a list holds before is not read.
  *
  * REFUSALS. Every call answers a number, 0 for none. A refused call leaves the header and every array
- * as they were, its floats and its number of bytes are 0, and a refused univmon_new or univmon_read_state
- * gives an all-zero header:
+ * as they were, its floats and its number of bytes are 0, and a refused univmon_new, univmon_two_tier_new or
+ * univmon_read_state gives an all-zero header:
  *   1  a dimension is 0
- *   2  layers above 19
+ *   2  layers or elephant_layers above 19
  *   3  hash bits above 128
  *   4  rows above 20, cols above 4096 or heap size above 1024
  *   5  negative weight
@@ -43,16 +55,16 @@
  *   9  wrong slice length; header out of range; a cell, norm or candidate that the call reads is
  *      out of range; a norm below the square it gives up; a number that stands for no mode,
  *      fidelity or g
- *   10 layers, rows, cols or heap sizes differ in merge
+ *   10 dimensions differ in merge
  *   11 a counter would leave -2^52 to 2^52
  *   12 record length wrong
  *   14 updates would pass 2^52
  *   15 not the text of a state that passes the check
  *   16 lent text space or list too short, or state slices not of the first line's lengths
  * (13 is the program panel's own.) Where several apply, the order is 9 for header, lengths and numbers,
- * then 12, 10, 5, 8, 6, 7, 14, 9 for what is read, 11, 16; for univmon_new 1, 2, 3, 4, 9; for
- * univmon_write_state 9, 16; for univmon_read_state 15 for the first line, then 1, 2, 3, 4, 16, and 15 for
- * the other lines.
+ * then 12, 10, 5, 8, 6, 7, 14, 9 for what is read, 11, 16; for univmon_new 1, 2, 3, 4, 9, and so for
+ * univmon_two_tier_new, each of them over both tiers before the next; for univmon_write_state 9, 16; for
+ * univmon_read_state 15 for the first line, then 1, 2, 3, 4, 16, and 15 for the other lines.
  *
  * A TEXT is a state's lines, each ending in one newline; capitals stand for numbers:
  *   (univmon HEAP ROWS COLS LAYERS)
@@ -68,8 +80,8 @@
  *
  * STACK. What a call takes at most, arguments and answer included, rounded up with a quarter of a KiB
  * for how the caller is compiled. Measured by bindings/stack.c in states of 19 full layers of 1,024
- * candidates, by 20 rows of 32 columns, 9 of 4,096 and 5 of 2,048, in both modes; no input takes a call
- * deeper, by the frames of its code (bindings/frames.py).
+ * candidates, by 20 rows of 32 columns, 9 of 4,096 and 5 of 2,048, and with two of these in two tiers, in both
+ * modes; no input takes a call deeper, by the frames of its code (bindings/frames.py).
  *   univmon_check_shape                        1 KiB
  *   univmon_bottom_layer_for_hash              1 KiB
  *   univmon_new                                1 KiB
@@ -81,16 +93,28 @@
  *   univmon_apply_delta                        2 KiB
  *   univmon_merge                             36 KiB
  *   univmon_set_total_weight                   2 KiB
- *   univmon_mark_candidates_incomplete         1 KiB
+ *   univmon_mark_candidates_incomplete         2 KiB
  *   univmon_mark_layer_candidates_incomplete   2 KiB
  *   univmon_estimate_l1                        1 KiB
  *   univmon_estimate_l2                        2 KiB
  *   univmon_estimate_g_sum                    67 KiB
  *   univmon_estimate_cardinality              67 KiB
  *   univmon_panel_answer                      67 KiB
- *   univmon_check_state                        1 KiB
+ *   univmon_check_state                        2 KiB
  *   univmon_write_state                        2 KiB
  *   univmon_read_state                        43 KiB
+ *   univmon_two_tier_check_shape                     1 KiB
+ *   univmon_two_tier_new                             1 KiB
+ *   univmon_two_tier_clear                           2 KiB
+ *   univmon_two_tier_update_weighted                 3 KiB
+ *   univmon_two_tier_update_weighted_terminal        3 KiB
+ *   univmon_two_tier_update_weighted_lent            2 KiB
+ *   univmon_two_tier_update_weighted_terminal_lent   2 KiB
+ *   univmon_two_tier_merge                          36 KiB
+ *   univmon_two_tier_estimate_l1                     1 KiB
+ *   univmon_two_tier_estimate_l2                     2 KiB
+ *   univmon_two_tier_estimate_g_sum                 67 KiB
+ *   univmon_two_tier_estimate_cardinality           67 KiB
  *
  * WHAT THE CALLER OWES. The proofs speak of every value of every argument, so no header, length,
  * number or array content needs to be right. C itself asks for this, and the library cannot test it:
@@ -122,6 +146,18 @@ extern "C" {
 #define UNIVMON_ENTRIES(heap_size, layers) ((size_t)4 * (layers) * (heap_size))
 #define UNIVMON_COUNTS(heap_size, layers) ((size_t)(layers) * (heap_size))
 #define UNIVMON_RECORD(layers) ((size_t)2 + 2 * (size_t)(layers))
+
+/* The same with two tiers; entries, counts, records and lists are as with one. How many layers are wide comes
+ * first. */
+#define UNIVMON_TWO_TIER_ELEPHANTS(elephant_layers, layers) \
+    ((size_t)(elephant_layers) < (size_t)(layers) ? (size_t)(elephant_layers) : (size_t)(layers))
+#define UNIVMON_TWO_TIER_ROWS(elephant_layers, elephant_rows, mouse_rows, layers) \
+    (UNIVMON_TWO_TIER_ELEPHANTS(elephant_layers, layers) * (elephant_rows) + \
+        ((size_t)(layers) - UNIVMON_TWO_TIER_ELEPHANTS(elephant_layers, layers)) * (mouse_rows))
+#define UNIVMON_TWO_TIER_COUNTERS(elephant_layers, elephant_rows, elephant_cols, mouse_rows, mouse_cols, layers) \
+    UNIVMON_TWO_TIER_ROWS(elephant_layers, (size_t)(elephant_rows) * (elephant_cols), (size_t)(mouse_rows) * (mouse_cols), layers)
+#define UNIVMON_TWO_TIER_NORMS(elephant_layers, elephant_rows, mouse_rows, layers) \
+    (2 * UNIVMON_TWO_TIER_ROWS(elephant_layers, elephant_rows, mouse_rows, layers))
 
 /* The least lengths of a list: an update's or a delta's, and a merge's. */
 #define UNIVMON_LIST(layers) ((size_t)2 * (layers))
@@ -181,6 +217,38 @@ typedef struct univmon_shape {
     size_t cols;
     size_t layers;
 } univmon_shape;
+
+/* The same three with two tiers. The dimensions stand in this order in the structs; the functions that take them as
+ * numbers have the order of the source, layers last. */
+typedef struct univmon_two_tier_header {
+    size_t heap_size;
+    size_t layers;
+    size_t elephant_layers;
+    size_t elephant_rows;
+    size_t elephant_cols;
+    size_t mouse_rows;
+    size_t mouse_cols;
+    uint64_t weight;
+    uint64_t updates;
+    uint64_t mode;
+    size_t lens[UNIVMON_MAX_LAYERS];
+    bool flags[UNIVMON_MAX_LAYERS];
+} univmon_two_tier_header;
+
+typedef struct univmon_two_tier_answered {
+    uint64_t refusal;
+    univmon_two_tier_header header;
+} univmon_two_tier_answered;
+
+typedef struct univmon_two_tier_shape {
+    size_t heap_size;
+    size_t layers;
+    size_t elephant_layers;
+    size_t elephant_rows;
+    size_t elephant_cols;
+    size_t mouse_rows;
+    size_t mouse_cols;
+} univmon_two_tier_shape;
 
 /* A refusal and weight, updates and mode as they were, or 0 and the new ones. */
 typedef struct univmon_step {
@@ -419,6 +487,112 @@ univmon_answered univmon_read_state(
     uint64_t *norms, size_t norms_len,
     uint64_t *entries, size_t entries_len,
     int64_t *counts, size_t counts_len);
+
+/* ---- two tiers: each call as the one of the same name without `two_tier`, on layers that may differ */
+
+/* 0 if univmon_two_tier_new takes these dimensions, else their refusal: 1, 2, 3, 4, each over both tiers before the
+ * next. */
+uint64_t univmon_two_tier_check_shape(
+    size_t heap_size, size_t elephant_layers, size_t elephant_rows, size_t elephant_cols,
+    size_t mouse_rows, size_t mouse_cols, size_t layers);
+
+/* As univmon_new. Refuses 1, 2, 3, 4, 9. */
+univmon_two_tier_answered univmon_two_tier_new(
+    size_t heap_size, size_t elephant_layers, size_t elephant_rows, size_t elephant_cols,
+    size_t mouse_rows, size_t mouse_cols, size_t layers,
+    int64_t *counters, size_t counters_len,
+    uint64_t *norms, size_t norms_len,
+    uint64_t *entries, size_t entries_len,
+    int64_t *counts, size_t counts_len);
+
+/* As univmon_clear. Refuses 9. */
+univmon_two_tier_answered univmon_two_tier_clear(
+    univmon_two_tier_header header,
+    int64_t *counters, size_t counters_len,
+    uint64_t *norms, size_t norms_len,
+    uint64_t *entries, size_t entries_len,
+    int64_t *counts, size_t counts_len);
+
+/* As univmon_update_weighted and its three other forms. Refuse 9, 12, 5, 6, 7, 14, 9, 11, 16. */
+univmon_two_tier_answered univmon_two_tier_update_weighted(
+    univmon_two_tier_header header,
+    int64_t *counters, size_t counters_len,
+    uint64_t *norms, size_t norms_len,
+    uint64_t *entries, size_t entries_len,
+    int64_t *counts, size_t counts_len,
+    const uint64_t *record, size_t record_len,
+    int64_t weight,
+    uint64_t *list, size_t list_len);
+
+univmon_two_tier_answered univmon_two_tier_update_weighted_terminal(
+    univmon_two_tier_header header,
+    int64_t *counters, size_t counters_len,
+    uint64_t *norms, size_t norms_len,
+    uint64_t *entries, size_t entries_len,
+    int64_t *counts, size_t counts_len,
+    const uint64_t *record, size_t record_len,
+    int64_t weight,
+    uint64_t *list, size_t list_len);
+
+univmon_step univmon_two_tier_update_weighted_lent(
+    univmon_two_tier_shape shape, uint64_t total_weight, uint64_t total_updates, uint64_t mode,
+    size_t *lens, size_t lens_len,
+    bool *flags, size_t flags_len,
+    int64_t *counters, size_t counters_len,
+    uint64_t *norms, size_t norms_len,
+    uint64_t *entries, size_t entries_len,
+    int64_t *counts, size_t counts_len,
+    const uint64_t *record, size_t record_len,
+    int64_t weight,
+    uint64_t *list, size_t list_len);
+
+univmon_step univmon_two_tier_update_weighted_terminal_lent(
+    univmon_two_tier_shape shape, uint64_t total_weight, uint64_t total_updates, uint64_t mode,
+    size_t *lens, size_t lens_len,
+    bool *flags, size_t flags_len,
+    int64_t *counters, size_t counters_len,
+    uint64_t *norms, size_t norms_len,
+    uint64_t *entries, size_t entries_len,
+    int64_t *counts, size_t counts_len,
+    const uint64_t *record, size_t record_len,
+    int64_t weight,
+    uint64_t *list, size_t list_len);
+
+/* As univmon_merge; 10 where any of the seven dimensions differs, one that no layer uses too. Refuses 9, 10, 6, 7,
+ * 14, 9, 11, 16. */
+univmon_two_tier_answered univmon_two_tier_merge(
+    univmon_two_tier_header header,
+    int64_t *counters, size_t counters_len,
+    uint64_t *norms, size_t norms_len,
+    uint64_t *entries, size_t entries_len,
+    int64_t *counts, size_t counts_len,
+    univmon_two_tier_header other,
+    const int64_t *other_counters, size_t other_counters_len,
+    const uint64_t *other_norms, size_t other_norms_len,
+    const uint64_t *other_entries, size_t other_entries_len,
+    const int64_t *other_counts, size_t other_counts_len,
+    uint64_t *list, size_t list_len);
+
+/* As the four answers of the same names. A norm's range is by the columns of its own layer; L2 in standard mode is
+ * layer 0's, of whichever tier that is. Refuse 9. */
+univmon_answer univmon_two_tier_estimate_l1(univmon_two_tier_header header);
+
+univmon_answer univmon_two_tier_estimate_l2(univmon_two_tier_header header, const uint64_t *norms, size_t norms_len);
+
+univmon_answer univmon_two_tier_estimate_g_sum(
+    univmon_two_tier_header header,
+    const int64_t *counters, size_t counters_len,
+    const uint64_t *norms, size_t norms_len,
+    const uint64_t *entries, size_t entries_len,
+    const int64_t *counts, size_t counts_len,
+    uint64_t g, bool count_every_key);
+
+univmon_answer univmon_two_tier_estimate_cardinality(
+    univmon_two_tier_header header,
+    const int64_t *counters, size_t counters_len,
+    const uint64_t *norms, size_t norms_len,
+    const uint64_t *entries, size_t entries_len,
+    const int64_t *counts, size_t counts_len);
 
 #ifdef __cplusplus
 }

@@ -3,6 +3,10 @@
 //! A state is a [`Header`] and four slices, held by a [`State`] that borrows them, or by an `Owned`
 //! that boxes them (feature `boxed`). Their lengths are [`Lengths`]; every call tests them.
 //!
+//! The layers of a [`Shape`] are alike. Those of a [`TwoTierShape`] are of two tiers, the first layers wider: a state
+//! of it is a [`UnivMonTwoTier`], which is a [`State`] too. It has the calls of both, but for deltas, marks, weight
+//! settings, the panel's answer, the check and texts.
+//!
 //! A record is what a key is counted by, `2 + 2 * layers` words: the key, its bottom hash, then for each
 //! layer from 0 the high and the low half of its 128-bit hash. The caller hashes.
 //!
@@ -31,7 +35,7 @@ pub mod ffi;
 #[cfg(feature = "boxed")]
 mod owned;
 #[cfg(feature = "boxed")]
-pub use owned::Owned;
+pub use owned::{Owned, OwnedTwoTier};
 
 mod refused;
 pub use refused::Refused;
@@ -94,12 +98,115 @@ pub struct Shape {
     pub layers: usize,
 }
 
+/// Dimensions of a state with two tiers: layers below `elephant_layers` have `elephant_rows` rows of
+/// `elephant_cols` columns, the others `mouse_rows` of `mouse_cols`. Each but `elephant_layers` is at least 1, and
+/// each tier has at most 128 hash bits, as in [`Shape`], one that no layer is of too.
+#[repr(C)]
+#[derive(Clone, Copy, Debug, PartialEq, Eq)]
+pub struct TwoTierShape {
+    /// Candidates of a layer, at most [`MAX_HEAP_SIZE`].
+    pub heap_size: usize,
+    /// Layers, at most [`MAX_LAYERS`].
+    pub layers: usize,
+    /// Layers of the first tier, at most [`MAX_LAYERS`]: 0 for none; all where it is not below `layers`.
+    pub elephant_layers: usize,
+    /// Rows of the first tier's layers, at most [`MAX_ROWS`].
+    pub elephant_rows: usize,
+    /// Columns of the first tier's layers, at most [`MAX_COLS`].
+    pub elephant_cols: usize,
+    /// Rows of the other layers, at most [`MAX_ROWS`].
+    pub mouse_rows: usize,
+    /// Columns of the other layers, at most [`MAX_COLS`].
+    pub mouse_cols: usize,
+}
+
+/// What [`Shape`] and [`TwoTierShape`] have alike: a [`State`] is of either.
+pub trait Tiers: ffi::Calls + core::fmt::Debug + PartialEq {
+    /// Candidates of a layer.
+    fn heap_size(self) -> usize;
+
+    /// Layers.
+    fn layers(self) -> usize;
+
+    /// Rows and columns of a layer's counters.
+    fn table(self, layer: usize) -> (usize, usize);
+
+    /// Bytes that are enough for the text of any state of the shape; 0 where there is none.
+    fn text(self) -> usize {
+        0
+    }
+
+    /// The lengths, if a fresh state takes these dimensions. Refuses 1, 2, 3, 4.
+    fn lengths(self) -> Result<Lengths, Refused> {
+        accepted(self.check_shape())?;
+        let (layers, heap_size) = (self.layers(), self.heap_size());
+        let tables = || (0..layers).map(|layer| self.table(layer));
+        Ok(Lengths {
+            counters: tables().map(|(rows, cols)| rows * cols).sum(),
+            norms: tables().map(|(rows, _)| 2 * rows).sum(),
+            entries: 4 * layers * heap_size,
+            counts: layers * heap_size,
+            record: 2 + 2 * layers,
+            list: 2 * layers,
+            merge_list: 4 * heap_size * layers,
+            text: self.text(),
+        })
+    }
+
+    /// As [`Shape::told`].
+    fn told(self, list: &[u64]) -> Told<'_> {
+        Told::of(self.layers(), 1, list)
+    }
+
+    /// As [`Shape::told_by_merge`].
+    fn told_by_merge(self, list: &[u64]) -> Told<'_> {
+        Told::of(self.layers(), self.heap_size().saturating_mul(2), list)
+    }
+}
+
+impl Tiers for Shape {
+    fn heap_size(self) -> usize {
+        self.heap_size
+    }
+
+    fn layers(self) -> usize {
+        self.layers
+    }
+
+    fn table(self, _: usize) -> (usize, usize) {
+        (self.rows, self.cols)
+    }
+
+    fn text(self) -> usize {
+        // the first four lines; a flag, a row beside its counters, a counter, a key
+        88 + self.layers * (12 + self.rows * (12 + 25 * self.cols) + 111 * self.heap_size)
+    }
+}
+
+impl Tiers for TwoTierShape {
+    fn heap_size(self) -> usize {
+        self.heap_size
+    }
+
+    fn layers(self) -> usize {
+        self.layers
+    }
+
+    fn table(self, layer: usize) -> (usize, usize) {
+        if layer < self.elephant_layers {
+            (self.elephant_rows, self.elephant_cols)
+        } else {
+            (self.mouse_rows, self.mouse_cols)
+        }
+    }
+}
+
 /// Lengths of the four slices and of a record, exact, the least of lists, and the most that a text has.
 #[derive(Clone, Copy, Debug, PartialEq, Eq)]
 pub struct Lengths {
-    /// `layers * rows * cols` signed words, by layer, then row, then column.
+    /// Rows times columns of each layer, signed words, by layer, then row, then column.
     pub counters: usize,
-    /// `2 * layers * rows` words, low half then high half of each row's norm.
+    /// Twice the rows of each layer, low half then high half of each row's norm.
     pub norms: usize,
     /// `4 * layers * heap_size` words: key, bottom hash, high and low half of the layer hash.
     pub entries: usize,
@@ -111,27 +218,22 @@ pub struct Lengths {
     pub list: usize,
     /// `4 * heap_size * layers` words or more: the list of a merge, `2 * heap_size` places for each layer.
     pub merge_list: usize,
-    /// Bytes that are enough for the text of any state of the shape; most texts are far shorter.
+    /// Bytes that are enough for the text of any state of the shape; most texts are far shorter. 0 with two tiers,
+    /// which have no text.
     pub text: usize,
 }
 
 impl Shape {
     /// The lengths, if a fresh state takes these dimensions. Refuses 1, 2, 3, 4.
     pub fn lengths(self) -> Result<Lengths, Refused> {
-        let Shape { heap_size, rows, cols, layers } = self;
-        // SAFETY: numbers in, a number out.
-        accepted(unsafe { ffi::univmon_check_shape(heap_size, rows, cols, layers) })?;
-        Ok(Lengths {
-            counters: layers * rows * cols,
-            norms: 2 * layers * rows,
-            entries: 4 * layers * heap_size,
-            counts: layers * heap_size,
-            record: 2 + 2 * layers,
-            list: 2 * layers,
-            merge_list: 4 * heap_size * layers,
-            // the first four lines; a flag, a row beside its counters, a counter, a key
-            text: 88 + layers * (12 + rows * (12 + 25 * cols) + 111 * heap_size),
-        })
+        Tiers::lengths(self)
+    }
+}
+
+impl TwoTierShape {
+    /// The lengths, if a fresh state takes these dimensions. Refuses 1, 2, 3, 4, each over both tiers before the next.
+    pub fn lengths(self) -> Result<Lengths, Refused> {
+        Tiers::lengths(self)
     }
 }
 
@@ -139,15 +241,9 @@ impl Shape {
 /// is out of range is refused with 9 by the calls.
 #[repr(C)]
 #[derive(Clone, Copy, Debug, PartialEq, Eq)]
-pub struct Header {
-    /// As in [`Shape`].
-    pub heap_size: usize,
-    /// As in [`Shape`].
-    pub rows: usize,
-    /// As in [`Shape`].
-    pub cols: usize,
-    /// As in [`Shape`].
-    pub layers: usize,
+pub struct Header<S = Shape> {
+    /// The dimensions.
+    pub shape: S,
     /// The sum of the accepted weights, at most 2^52.
     pub weight: u64,
     /// The number of accepted updates, those of merged states included, at most 2^52.
@@ -160,7 +256,7 @@ pub struct Header {
     pub flags: [bool; MAX_LAYERS],
 }
 
-impl Header {
+impl<S> Header<S> {
     /// The mode, if its number stands for one.
     pub fn mode(&self) -> Option<Mode> {
         match self.mode {
@@ -170,26 +266,16 @@ impl Header {
             _ => None,
         }
     }
-
-    /// The dimensions.
-    pub fn shape(&self) -> Shape {
-        Shape {
-            heap_size: self.heap_size,
-            rows: self.rows,
-            cols: self.cols,
-            layers: self.layers,
-        }
-    }
 }
 
 /// A refusal and the header as it was, or 0 and the new header.
 #[repr(C)]
 #[derive(Clone, Copy, Debug, PartialEq)]
-pub struct Answered {
+pub struct Answered<S = Shape> {
     /// 0 for none.
     pub refusal: u64,
     /// The header after the call.
-    pub header: Header,
+    pub header: Header<S>,
 }
 
 /// A refusal and weight, updates and mode as they were, or 0 and the new ones: what an update on lent
@@ -274,6 +360,20 @@ pub fn bottom_layer_for_hash(hash: u64, layers: usize) -> Result<usize, Refused>
 /// The slices of a state, lent to be read.
 #[derive(Clone, Copy)]
 struct Read<'a>(&'a [i64], &'a [u64], &'a [u64], &'a [i64]);
+
+impl Read<'_> {
+    /// For a call that writes through none of them.
+    fn slices(self) -> ffi::Slices {
+        let Read(a, b, c, d) = self;
+        ffi::Slices(a.as_ptr().cast_mut(), a.len(), b.as_ptr().cast_mut(), b.len(), c.as_ptr().cast_mut(), c.len(), d.as_ptr().cast_mut(), d.len())
+    }
+}
+
+/// Slices to be written.
+#[inline]
+fn written(a: &mut [i64], b: &mut [u64], c: &mut [u64], d: &mut [i64]) -> ffi::Slices {
+    ffi::Slices(a.as_mut_ptr(), a.len(), b.as_mut_ptr(), b.len(), c.as_mut_ptr(), c.len(), d.as_mut_ptr(), d.len())
+}
 
 /// A state's text at the start of `out`, and its length.
 fn write_text(header: Header, state: Read<'_>, out: &mut [u8]) -> Result<usize, Refused> {
@@ -376,41 +476,62 @@ fn write_text(header: Header, state: Read<'_>, out: &mut [u8]) -> Result<usize, 
 /// # }
 /// ```
 #[derive(Debug)]
-pub struct State<'a> {
-    header: Header,
+pub struct State<'a, S = Shape> {
+    header: Header<S>,
     counters: &'a mut [i64],
     norms: &'a mut [u64],
     entries: &'a mut [u64],
     counts: &'a mut [i64],
 }
 
-impl<'a> State<'a> {
+/// A state with two tiers, in lent slices.
+///
+/// 3 layers with 2 candidates each: the first has 2 rows of 4 columns, the other two have 1 row of 2:
+///
+/// ```
+/// use univmon::{Refused, TwoTierShape, UnivMonTwoTier};
+///
+/// # fn main() -> Result<(), Refused> {
+/// let shape = TwoTierShape {
+///     heap_size: 2,
+///     layers: 3,
+///     elephant_layers: 1,
+///     elephant_rows: 2,
+///     elephant_cols: 4,
+///     mouse_rows: 1,
+///     mouse_cols: 2,
+/// };
+/// // 2 * 4 + 1 * 2 + 1 * 2 counters, 2 * (2 + 1 + 1) words of norms
+/// let (mut counters, mut norms) = ([0i64; 12], [0u64; 8]);
+/// let (mut entries, mut counts, mut list) = ([0u64; 24], [0i64; 6], [0; 6]);
+/// let mut state = UnivMonTwoTier::new(shape, &mut counters, &mut norms, &mut entries, &mut counts)?;
+///
+/// // key 7, whose bottom layer is 1: column 2 and 1 of layer 0, with + and -, column 1 of layer 1, with -
+/// let record = [7, 2, 0x8000_0000_0000_0000, 6, 0, 1, 0, 0];
+/// state.update_weighted(&record, 5, &mut list)?;
+/// assert_eq!(state.counters(), [0, 0, 5, 0, 0, -5, 0, 0, 0, -5, 0, 0]);
+/// assert_eq!(state.estimate_cardinality()?, 1.0);
+///
+/// // both tiers are within their limits, or the shape is refused
+/// let odd = TwoTierShape { elephant_layers: 0, elephant_rows: 21, ..shape };
+/// assert_eq!(odd.lengths(), Err(Refused(4)));
+/// # Ok(())
+/// # }
+/// ```
+pub type UnivMonTwoTier<'a> = State<'a, TwoTierShape>;
+
+impl<'a, S: Tiers> State<'a, S> {
     /// A fresh state: every slice is filled with zeros, every flag of the shape's layers is true, the mode
     /// unset. Reads dimensions and lengths. Refuses 1, 2, 3, 4, 9.
     pub fn new(
-        shape: Shape,
+        shape: S,
         counters: &'a mut [i64],
         norms: &'a mut [u64],
         entries: &'a mut [u64],
         counts: &'a mut [i64],
     ) -> Result<Self, Refused> {
         // SAFETY: each pointer and length is a slice's, and no two slices overlap.
-        let a = unsafe {
-            ffi::univmon_new(
-                shape.heap_size,
-                shape.rows,
-                shape.cols,
-                shape.layers,
-                counters.as_mut_ptr(),
-                counters.len(),
-                norms.as_mut_ptr(),
-                norms.len(),
-                entries.as_mut_ptr(),
-                entries.len(),
-                counts.as_mut_ptr(),
-                counts.len(),
-            )
-        };
+        let a = unsafe { S::new(shape, written(counters, norms, entries, counts)) };
         accepted(a.refusal)?;
         Ok(State { header: a.header, counters, norms, entries, counts })
     }
@@ -418,13 +539,13 @@ impl<'a> State<'a> {
     /// A state as an earlier [`State::into_header`] left it. Reads dimensions and lengths, and refuses 1, 2,
     /// 3, 4, 9; what else is out of range in it is refused with 9 by the calls that read it.
     pub fn lend(
-        header: Header,
+        header: Header<S>,
         counters: &'a mut [i64],
         norms: &'a mut [u64],
         entries: &'a mut [u64],
         counts: &'a mut [i64],
     ) -> Result<Self, Refused> {
-        let want = header.shape().lengths()?;
+        let want = header.shape.lengths()?;
         let have = [counters.len(), norms.len(), entries.len(), counts.len()];
         if have != [want.counters, want.norms, want.entries, want.counts] {
             return Err(Refused(9));
@@ -432,41 +553,13 @@ impl<'a> State<'a> {
         Ok(State { header, counters, norms, entries, counts })
     }
 
-    /// A state from its text, all of it, in slices of its first line's lengths: every word of them is
-    /// written, whatever was there. Everything is judged first. Refuses 15, 1, 2, 3, 4, 16, 15.
-    pub fn read_text(
-        text: &[u8],
-        counters: &'a mut [i64],
-        norms: &'a mut [u64],
-        entries: &'a mut [u64],
-        counts: &'a mut [i64],
-    ) -> Result<Self, Refused> {
-        // SAFETY: each pointer and length is a slice's, and no two slices overlap.
-        let a = unsafe {
-            ffi::univmon_read_state(
-                text.as_ptr(),
-                text.len(),
-                counters.as_mut_ptr(),
-                counters.len(),
-                norms.as_mut_ptr(),
-                norms.len(),
-                entries.as_mut_ptr(),
-                entries.len(),
-                counts.as_mut_ptr(),
-                counts.len(),
-            )
-        };
-        accepted(a.refusal)?;
-        Ok(State { header: a.header, counters, norms, entries, counts })
-    }
-
     /// The header as the last accepted call left it.
-    pub fn header(&self) -> &Header {
+    pub fn header(&self) -> &Header<S> {
         &self.header
     }
 
     /// Gives the slices back; the header is what is to be kept beside them.
-    pub fn into_header(self) -> Header {
+    pub fn into_header(self) -> Header<S> {
         self.header
     }
 
@@ -495,7 +588,11 @@ impl<'a> State<'a> {
         Read(self.counters, self.norms, self.entries, self.counts)
     }
 
-    fn take(&mut self, a: Answered) -> Result<(), Refused> {
+    fn slices(&mut self) -> ffi::Slices {
+        written(self.counters, self.norms, self.entries, self.counts)
+    }
+
+    fn take(&mut self, a: Answered<S>) -> Result<(), Refused> {
         accepted(a.refusal)?;
         self.header = a.header;
         Ok(())
@@ -514,19 +611,7 @@ impl<'a> State<'a> {
     /// Refuses 9.
     pub fn clear(&mut self) -> Result<(), Refused> {
         // SAFETY: each pointer and length is a slice's, and no two slices overlap.
-        let a = unsafe {
-            ffi::univmon_clear(
-                self.header,
-                self.counters.as_mut_ptr(),
-                self.counters.len(),
-                self.norms.as_mut_ptr(),
-                self.norms.len(),
-                self.entries.as_mut_ptr(),
-                self.entries.len(),
-                self.counts.as_mut_ptr(),
-                self.counts.len(),
-            )
-        };
+        let a = unsafe { S::clear(self.header, self.slices()) };
         self.take(a)
     }
 
@@ -535,65 +620,88 @@ impl<'a> State<'a> {
     /// says what happened in each layer: [`Shape::told`]. Refuses 9, 12, 5, 6, 7, 14, 9, 11, 16. The header's
     /// lengths and flags are lent, so that no header is copied.
     pub fn update_weighted(&mut self, record: &[u64], weight: i64, list: &mut [u64]) -> Result<(), Refused> {
+        let slices = self.slices();
+        let Header { shape, weight: total, updates, mode, lens, flags } = &mut self.header;
         // SAFETY: each pointer and length is a slice's, and no two slices that are written overlap.
-        let a = unsafe {
-            ffi::univmon_update_weighted_lent(
-                self.header.shape(),
-                self.header.weight,
-                self.header.updates,
-                self.header.mode,
-                self.header.lens.as_mut_ptr(),
-                self.header.lens.len(),
-                self.header.flags.as_mut_ptr(),
-                self.header.flags.len(),
-                self.counters.as_mut_ptr(),
-                self.counters.len(),
-                self.norms.as_mut_ptr(),
-                self.norms.len(),
-                self.entries.as_mut_ptr(),
-                self.entries.len(),
-                self.counts.as_mut_ptr(),
-                self.counts.len(),
-                record.as_ptr(),
-                record.len(),
-                weight,
-                list.as_mut_ptr(),
-                list.len(),
-            )
-        };
+        let a = unsafe { S::update_weighted_lent(*shape, *total, *updates, *mode, lens, flags, slices, record, weight, list) };
         self.put(a)
     }
 
     /// Counts a key with a weight in its bottom layer only; else as [`State::update_weighted`]. Refuses 9, 12,
     /// 5, 6, 7, 14, 9, 11, 16.
     pub fn update_weighted_terminal(&mut self, record: &[u64], weight: i64, list: &mut [u64]) -> Result<(), Refused> {
+        let slices = self.slices();
+        let Header { shape, weight: total, updates, mode, lens, flags } = &mut self.header;
         // SAFETY: as in `update_weighted`.
+        let a = unsafe { S::update_weighted_terminal_lent(*shape, *total, *updates, *mode, lens, flags, slices, record, weight, list) };
+        self.put(a)
+    }
+
+    /// Puts the other state's stream behind this one's: counters and norms by the sums of the counters,
+    /// candidates counted anew. The other state stays as it is. Reads both headers and lengths, every
+    /// counter and every candidate of both. The list says what happened with each key:
+    /// [`Shape::told_by_merge`]. Refuses 9, 10, 6, 7, 14, 9, 11, 16.
+    pub fn merge(&mut self, other: &State<'_, S>, list: &mut [u64]) -> Result<(), Refused> {
+        // SAFETY: each pointer and length is a slice's; `self` is borrowed alone, so that the other
+        // state's slices are not its own.
+        let a = unsafe { S::merge(self.header, self.slices(), other.header, other.read().slices(), list) };
+        self.take(a)
+    }
+
+    /// L1: the weight. Reads the header. Refuses 9.
+    pub fn estimate_l1(&self) -> Result<f64, Refused> {
+        value(S::estimate_l1(self.header))
+    }
+
+    /// L2, from the norms: layer 0's, or in terminal mode the root of the sum over all layers. Reads the
+    /// header and these norms. Refuses 9.
+    pub fn estimate_l2(&self) -> Result<f64, Refused> {
+        value(S::estimate_l2(self.header, self.norms))
+    }
+
+    /// The sum of g over the keys. With `count_every_key` no candidate is left out for its count; without
+    /// it, weight zero gives 0.0 and reads header and lengths alone. Any other sum reads every layer's
+    /// candidates and the counters of their estimates, in terminal mode every norm too. Refuses 9.
+    pub fn estimate_g_sum(&self, g: G, count_every_key: bool) -> Result<f64, Refused> {
+        // SAFETY: each pointer and length is a slice's.
+        value(unsafe { S::estimate_g_sum(self.header, self.read().slices(), g as u64, count_every_key) })
+    }
+
+    /// The number of distinct keys: the sum of one with every key counted. Refuses 9.
+    pub fn estimate_cardinality(&self) -> Result<f64, Refused> {
+        // SAFETY: each pointer and length is a slice's.
+        value(unsafe { S::estimate_cardinality(self.header, self.read().slices()) })
+    }
+}
+
+/// What only states of one tier have.
+impl<'a> State<'a> {
+    /// A state from its text, all of it, in slices of its first line's lengths: every word of them is
+    /// written, whatever was there. Everything is judged first. Refuses 15, 1, 2, 3, 4, 16, 15.
+    pub fn read_text(
+        text: &[u8],
+        counters: &'a mut [i64],
+        norms: &'a mut [u64],
+        entries: &'a mut [u64],
+        counts: &'a mut [i64],
+    ) -> Result<Self, Refused> {
+        // SAFETY: each pointer and length is a slice's, and no two slices overlap.
         let a = unsafe {
-            ffi::univmon_update_weighted_terminal_lent(
-                self.header.shape(),
-                self.header.weight,
-                self.header.updates,
-                self.header.mode,
-                self.header.lens.as_mut_ptr(),
-                self.header.lens.len(),
-                self.header.flags.as_mut_ptr(),
-                self.header.flags.len(),
-                self.counters.as_mut_ptr(),
-                self.counters.len(),
-                self.norms.as_mut_ptr(),
-                self.norms.len(),
-                self.entries.as_mut_ptr(),
-                self.entries.len(),
-                self.counts.as_mut_ptr(),
-                self.counts.len(),
-                record.as_ptr(),
-                record.len(),
-                weight,
-                list.as_mut_ptr(),
-                list.len(),
+            ffi::univmon_read_state(
+                text.as_ptr(),
+                text.len(),
+                counters.as_mut_ptr(),
+                counters.len(),
+                norms.as_mut_ptr(),
+                norms.len(),
+                entries.as_mut_ptr(),
+                entries.len(),
+                counts.as_mut_ptr(),
+                counts.len(),
             )
         };
-        self.put(a)
+        accepted(a.refusal)?;
+        Ok(State { header: a.header, counters, norms, entries, counts })
     }
 
     /// A change of one counter that another relay saw, with the record of the key that made it. Sets an
@@ -636,41 +744,6 @@ impl<'a> State<'a> {
         self.take(a)
     }
 
-    /// Puts the other state's stream behind this one's: counters and norms by the sums of the counters,
-    /// candidates counted anew. The other state stays as it is. Reads both headers and lengths, every
-    /// counter and every candidate of both. The list says what happened with each key:
-    /// [`Shape::told_by_merge`]. Refuses 9, 10, 6, 7, 14, 9, 11, 16.
-    pub fn merge(&mut self, other: &State<'_>, list: &mut [u64]) -> Result<(), Refused> {
-        let Read(other_counters, other_norms, other_entries, other_counts) = other.read();
-        // SAFETY: each pointer and length is a slice's; `self` is borrowed alone, so that the other
-        // state's slices are not its own.
-        let a = unsafe {
-            ffi::univmon_merge(
-                self.header,
-                self.counters.as_mut_ptr(),
-                self.counters.len(),
-                self.norms.as_mut_ptr(),
-                self.norms.len(),
-                self.entries.as_mut_ptr(),
-                self.entries.len(),
-                self.counts.as_mut_ptr(),
-                self.counts.len(),
-                other.header,
-                other_counters.as_ptr(),
-                other_counters.len(),
-                other_norms.as_ptr(),
-                other_norms.len(),
-                other_entries.as_ptr(),
-                other_entries.len(),
-                other_counts.as_ptr(),
-                other_counts.len(),
-                list.as_mut_ptr(),
-                list.len(),
-            )
-        };
-        self.take(a)
-    }
-
     /// Sets the weight that a relay fed by deltas believes it has seen; an unset mode becomes standard.
     /// Reads the header. Refuses 9, 6 in terminal mode, 7.
     pub fn set_total_weight(&mut self, weight: u64) -> Result<(), Refused> {
@@ -691,61 +764,6 @@ impl<'a> State<'a> {
         // SAFETY: values in, values out.
         let a = unsafe { ffi::univmon_mark_layer_candidates_incomplete(self.header, layer) };
         self.take(a)
-    }
-
-    /// L1: the weight. Reads the header. Refuses 9.
-    pub fn estimate_l1(&self) -> Result<f64, Refused> {
-        // SAFETY: values in, values out.
-        value(unsafe { ffi::univmon_estimate_l1(self.header) })
-    }
-
-    /// L2, from the norms: layer 0's, or in terminal mode the root of the sum over all layers. Reads the
-    /// header and these norms. Refuses 9.
-    pub fn estimate_l2(&self) -> Result<f64, Refused> {
-        // SAFETY: pointer and length are the slice's.
-        value(unsafe { ffi::univmon_estimate_l2(self.header, self.norms.as_ptr(), self.norms.len()) })
-    }
-
-    /// The sum of g over the keys. With `count_every_key` no candidate is left out for its count; without
-    /// it, weight zero gives 0.0 and reads header and lengths alone. Any other sum reads every layer's
-    /// candidates and the counters of their estimates, in terminal mode every norm too. Refuses 9.
-    pub fn estimate_g_sum(&self, g: G, count_every_key: bool) -> Result<f64, Refused> {
-        let Read(counters, norms, entries, counts) = self.read();
-        // SAFETY: each pointer and length is a slice's.
-        value(unsafe {
-            ffi::univmon_estimate_g_sum(
-                self.header,
-                counters.as_ptr(),
-                counters.len(),
-                norms.as_ptr(),
-                norms.len(),
-                entries.as_ptr(),
-                entries.len(),
-                counts.as_ptr(),
-                counts.len(),
-                g as u64,
-                count_every_key,
-            )
-        })
-    }
-
-    /// The number of distinct keys: the sum of one with every key counted. Refuses 9.
-    pub fn estimate_cardinality(&self) -> Result<f64, Refused> {
-        let Read(counters, norms, entries, counts) = self.read();
-        // SAFETY: each pointer and length is a slice's.
-        value(unsafe {
-            ffi::univmon_estimate_cardinality(
-                self.header,
-                counters.as_ptr(),
-                counters.len(),
-                norms.as_ptr(),
-                norms.len(),
-                entries.as_ptr(),
-                entries.len(),
-                counts.as_ptr(),
-                counts.len(),
-            )
-        })
     }
 
     /// Whether header and slices have what every accepted call keeps: lengths and ranges hold, each norm is

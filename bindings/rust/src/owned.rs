@@ -3,7 +3,7 @@ use alloc::boxed::Box;
 use alloc::vec;
 use alloc::vec::Vec;
 
-use crate::{write_text, Header, Read, Refused, Shape, State};
+use crate::{write_text, Header, Read, Refused, Shape, State, Tiers, TwoTierShape};
 
 /// A header and four boxed slices. [`Owned::with`] lends them to a [`State`] for some calls.
 ///
@@ -59,20 +59,46 @@ use crate::{write_text, Header, Read, Refused, Shape, State};
 /// # }
 /// ```
 #[derive(Clone, Debug, PartialEq)]
-pub struct Owned {
-    header: Header,
+pub struct Owned<S = Shape> {
+    header: Header<S>,
     counters: Box<[i64]>,
     norms: Box<[u64]>,
     entries: Box<[u64]>,
     counts: Box<[i64]>,
 }
 
-impl Owned {
-    /// A fresh state, in boxes of the shape's lengths. Refuses 1, 2, 3, 4.
-    pub fn new(shape: Shape) -> Result<Self, Refused> {
-        Self::boxed(Some(shape), |a, b, c, d| State::new(shape, a, b, c, d))
-    }
+/// A state with two tiers in boxed slices: its calls are those of [`UnivMonTwoTier`](crate::UnivMonTwoTier).
+///
+/// ```
+/// use univmon::{OwnedTwoTier, Refused, TwoTierShape};
+///
+/// # fn main() -> Result<(), Refused> {
+/// let shape = TwoTierShape {
+///     heap_size: 4,
+///     layers: 2,
+///     elephant_layers: 1,
+///     elephant_rows: 3,
+///     elephant_cols: 16,
+///     mouse_rows: 2,
+///     mouse_cols: 4,
+/// };
+/// let (mut east, mut west) = (OwnedTwoTier::new(shape)?, OwnedTwoTier::new(shape)?);
+/// let mut list = vec![0; shape.lengths()?.merge_list];
+/// east.with(|s| s.update_weighted(&[7, 0, 1 << 63, 6, 0, 0], 5, &mut list))?;
+/// west.with(|s| s.update_weighted(&[8, 2, 0, 1, 0, 3], 2, &mut list))?;
+/// east.merge(&mut west, &mut list)?;
+/// assert_eq!(east.with(|s| s.estimate_cardinality())?, 2.0);
+///
+/// // all seven dimensions are equal, or nothing is merged: one that no layer uses too
+/// let (wide, wider) = (TwoTierShape { elephant_layers: 2, ..shape }, TwoTierShape { elephant_layers: 3, ..shape });
+/// let (mut one, mut two) = (OwnedTwoTier::new(wide)?, OwnedTwoTier::new(wider)?);
+/// assert_eq!(one.merge(&mut two, &mut list), Err(Refused(10)));
+/// # Ok(())
+/// # }
+/// ```
+pub type OwnedTwoTier = Owned<TwoTierShape>;
 
+impl Owned {
     /// A state from its text, in boxes of its first line's lengths, as [`State::read_text`]. Refuses 15, 1,
     /// 2, 3, 4, 15.
     pub fn from_text(text: &[u8]) -> Result<Self, Refused> {
@@ -82,7 +108,7 @@ impl Owned {
     /// The state's text, as [`State::write_text`]. Refuses 9.
     pub fn to_text(&self) -> Result<Vec<u8>, Refused> {
         // Without a shape there is no text, and the call says so.
-        let most = self.header.shape().lengths().map_or(0, |want| want.text);
+        let most = self.header.shape.lengths().map_or(0, |want| want.text);
         let mut text = vec![0; most];
         let bytes = write_text(self.header, Read(&self.counters, &self.norms, &self.entries, &self.counts), &mut text)?;
         text.truncate(bytes);
@@ -90,11 +116,19 @@ impl Owned {
         Ok(text)
     }
 
+}
+
+impl<S: Tiers> Owned<S> {
+    /// A fresh state, in boxes of the shape's lengths. Refuses 1, 2, 3, 4.
+    pub fn new(shape: S) -> Result<Self, Refused> {
+        Self::boxed(Some(shape), |a, b, c, d| State::new(shape, a, b, c, d))
+    }
+
     /// What a call makes of boxes of a shape's lengths. Where there is no such shape they are empty: the call
     /// refuses the shape before it looks at them.
-    fn boxed<F>(shape: Option<Shape>, call: F) -> Result<Self, Refused>
+    fn boxed<F>(shape: Option<S>, call: F) -> Result<Self, Refused>
     where
-        F: for<'a> FnOnce(&'a mut [i64], &'a mut [u64], &'a mut [u64], &'a mut [i64]) -> Result<State<'a>, Refused>,
+        F: for<'a> FnOnce(&'a mut [i64], &'a mut [u64], &'a mut [u64], &'a mut [i64]) -> Result<State<'a, S>, Refused>,
     {
         let want = shape.and_then(|shape| shape.lengths().ok());
         let [a, b, c, d] = want.map_or([0; 4], |w| [w.counters, w.norms, w.entries, w.counts]);
@@ -107,12 +141,12 @@ impl Owned {
     }
 
     /// The header as the last accepted call left it.
-    pub fn header(&self) -> &Header {
+    pub fn header(&self) -> &Header<S> {
         &self.header
     }
 
     /// Runs calls on the state; the header that they leave is kept.
-    pub fn with<R>(&mut self, calls: impl FnOnce(&mut State<'_>) -> R) -> R {
+    pub fn with<R>(&mut self, calls: impl FnOnce(&mut State<'_, S>) -> R) -> R {
         let mut state = State {
             header: self.header,
             counters: &mut self.counters,
@@ -126,7 +160,7 @@ impl Owned {
     }
 
     /// Puts the other state's stream behind this one's, as [`State::merge`]. Refuses 9, 10, 6, 7, 14, 9, 11, 16.
-    pub fn merge(&mut self, other: &mut Owned, list: &mut [u64]) -> Result<(), Refused> {
+    pub fn merge(&mut self, other: &mut Owned<S>, list: &mut [u64]) -> Result<(), Refused> {
         self.with(|one| other.with(|two| one.merge(two, list)))
     }
 }

@@ -23,7 +23,7 @@ impl Refused {
     pub const fn words(self) -> &'static str {
         match self.0 {
             1 => "a dimension is 0",
-            2 => "layers above 19",
+            2 => "layers or elephant_layers above 19",
             3 => "hash bits above 128",
             4 => "rows above 20, cols above 4096 or heap size above 1024",
             5 => "negative weight",
@@ -35,7 +35,7 @@ impl Refused {
                  out of range; a norm below the square it gives up; a number that stands for no mode, \
                  fidelity or g"
             }
-            10 => "layers, rows, cols or heap sizes differ in merge",
+            10 => "dimensions differ in merge",
             11 => "a counter would leave -2^52 to 2^52",
             12 => "record length wrong",
             13 => "program line unreadable, or before a shape",

@@ -1,5 +1,5 @@
 //! What a list says of each key that was offered to a layer's candidates.
-use crate::Shape;
+use crate::{Shape, Tiers, TwoTierShape};
 
 /// What was done with a key in a layer.
 #[derive(Clone, Copy, Debug, PartialEq, Eq, Hash)]
@@ -72,7 +72,7 @@ impl Shape {
     /// assert_eq!(told, [(0, Happened::Displaced(77)), (1, Happened::Seated)]);
     /// ```
     pub fn told(self, list: &[u64]) -> Told<'_> {
-        self.places(list, 1)
+        Tiers::told(self, list)
     }
 
     /// What the list of an accepted merge says: for each layer in turn what happened with each distinct key of
@@ -87,12 +87,26 @@ impl Shape {
     /// assert_eq!(told, [(0, Happened::Seated), (0, Happened::Displaced(77)), (1, Happened::Seated)]);
     /// ```
     pub fn told_by_merge(self, list: &[u64]) -> Told<'_> {
-        self.places(list, self.heap_size.saturating_mul(2))
+        Tiers::told_by_merge(self, list)
+    }
+}
+
+impl TwoTierShape {
+    /// As [`Shape::told`]: a list does not depend on rows and columns.
+    pub fn told(self, list: &[u64]) -> Told<'_> {
+        Tiers::told(self, list)
     }
 
+    /// As [`Shape::told_by_merge`].
+    pub fn told_by_merge(self, list: &[u64]) -> Told<'_> {
+        Tiers::told_by_merge(self, list)
+    }
+}
+
+impl<'a> Told<'a> {
     /// The places of all layers, each layer with so many; words behind them are not the list's.
-    fn places(self, list: &[u64], each: usize) -> Told<'_> {
-        let words = self.layers.saturating_mul(each).saturating_mul(2).min(list.len());
+    pub(crate) fn of(layers: usize, each: usize, list: &'a [u64]) -> Self {
+        let words = layers.saturating_mul(each).saturating_mul(2).min(list.len());
         Told { places: &list[..words], gone: 0, each }
     }
 }

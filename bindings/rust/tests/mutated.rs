@@ -55,11 +55,11 @@ fn record(key: u64, layers: usize) -> Vec<u64> {
 
 /// One call of any kind; a refused one changes nothing, so that its number does not matter here.
 fn step(r: &mut Random, s: &mut Owned, other: &mut Owned, terminal: bool) {
-    let Shape { rows, cols, layers, .. } = s.header().shape();
+    let Shape { rows, cols, layers, .. } = s.header().shape;
     let key = if r.one_in(9) { r.next() } else { r.below(12) as u64 };
     let words = record(key, layers);
     let weight = r.weight();
-    let mut list = vec![0; s.header().shape().lengths().unwrap().merge_list];
+    let mut list = vec![0; s.header().shape.lengths().unwrap().merge_list];
     let _ = match r.below(20) {
         0 => s.merge(other, &mut list),
         1 | 2 => {
@@ -104,7 +104,7 @@ fn state(r: &mut Random) -> Owned {
 fn plain(s: &mut Owned) -> Vec<u8> {
     s.with(|s| {
         let h = s.header();
-        let Shape { heap_size, rows, cols, layers } = h.shape();
+        let Shape { heap_size, rows, cols, layers } = h.shape;
         let mut text = format!("(univmon {heap_size} {rows} {cols} {layers})\n");
         text += &format!("(weight {})\n(updates {})\n(mode {})\n", h.weight, h.updates, h.mode);
         for l in 0..layers {
@@ -133,12 +133,12 @@ fn random_states() {
         let mut s = state(&mut r);
         let text = s.to_text().unwrap();
         assert_eq!(text, plain(&mut s));
-        assert!(text.len() <= s.header().shape().lengths().unwrap().text);
+        assert!(text.len() <= s.header().shape.lengths().unwrap().text);
         assert_eq!(Owned::from_text(&text).unwrap(), s, "not restored");
         let mut out = vec![0; text.len()];
         assert_eq!(s.with(|s| s.write_text(&mut out[1..])), Err(Refused(16)));
         assert_eq!(s.with(|s| s.write_text(&mut out)), Ok(text.len()));
-        assert_eq!(Slices::of(s.header().shape()).judge(&text), 0);
+        assert_eq!(Slices::of(s.header().shape).judge(&text), 0);
         longest = longest.max(text.len());
         modes[s.header().mode as usize] += 1;
     }
@@ -181,7 +181,7 @@ fn one_byte_changed() {
     let (few, every) = if mutated() < ENOUGH { (2, 16) } else { (12, 1) };
     let (mut tried, mut own) = (0, 0);
     for text in &texts[..few] {
-        let mut slices = Slices::of(Owned::from_text(text).unwrap().header().shape());
+        let mut slices = Slices::of(Owned::from_text(text).unwrap().header().shape);
         let mut judge = |changed: &[u8]| {
             tried += 1;
             own += (slices.judge(changed) == 0) as u64;
@@ -287,7 +287,7 @@ fn mutated_texts() {
                     break fresh;
                 }
             };
-            slices = Slices::of(fresh.header().shape());
+            slices = Slices::of(fresh.header().shape);
             if other.is_empty() {
                 other = text.clone();
             }

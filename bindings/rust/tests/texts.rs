@@ -70,7 +70,7 @@ fn one_update_as_text() {
 #[test]
 fn a_state_from_its_text() {
     let (header, slices) = state();
-    assert_eq!(header.shape(), SHAPE);
+    assert_eq!(header.shape, SHAPE);
     assert_eq!((header.weight, header.updates, header.mode), (12, 3, 1));
     assert_eq!(header.lens[..3], [2, 2, 0]);
     assert_eq!(header.flags[..3], [true, false, false]);
@@ -122,9 +122,9 @@ fn a_writing_refuses_what_fails_the_check() {
         |h, _| h.mode = u64::MAX,
         |h, _| h.weight = LIMIT as u64 + 1,
         |h, _| h.updates = LIMIT as u64 + 1,
-        |h, _| h.cols = 0,
-        |h, _| h.layers = 20,
-        |h, _| h.heap_size = 1025,
+        |h, _| h.shape.cols = 0,
+        |h, _| h.shape.layers = 20,
+        |h, _| h.shape.heap_size = 1025,
         |h, _| h.lens[0] = 3,
         |h, _| h.lens[0] = 1,
         |h, _| h.lens[2] = 1,

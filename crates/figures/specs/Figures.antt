@@ -13,6 +13,7 @@ use Rattle.countsketch_l2_norm.specs.Norms.{normsOf}
 use Rattle.countsketch_l2_norm.specs.Estimate.{estimateF}
 use Rattle.countsketch_l2_norm.specs.Merge.{rowNorm}
 use Rattle.header.specs.declared.Shape.{Shape}
+use Rattle.header.specs.OneTier.{oneTier}
 use Rattle.header.specs.declared.BottomLayer.{BottomLayer}
 use Rattle.header.specs.declared.BottomLayer.the-variants as bottom
 use Rattle.header.specs.Shape.{bottomLayer}
@@ -58,7 +59,7 @@ answerWords a = pos (a .refusal) ∷ bitsZ (a .value) ∷ []
 
 -- "heap size 2, 2 layers"; "4 cols, 2 rows"
 abbrev pub shape : Shape
-shape = record { «heap_size» = 2; rows = 2; cols = 4; layers = 2 }
+shape = oneTier 2 2 4 2
 
 unfoldable pub relay : Lent
 relay = newCall shape (replicate 16 (pos 0)) (replicate 8 0) (replicate 16 0) (replicate 4 (pos 0)) .lends

@@ -6,3 +6,4 @@ pub mod Ranges
 pub mod Sweeps
 pub mod Shapes
 pub mod Modes
+pub mod OneTier

@@ -1,31 +1,46 @@
 -- Shapes compared. Assumes nothing.
 use mathlib.Core.Path.{_≡_, refl, sym, subst}
-use mathlib.Core.Bool.{Bool, true, _&&_}
+use mathlib.Core.Bool.{true, _&&_}
+use Prim.Native.Nat.{ℕ}
 use lib.Dec.{eqb}
 use borrow.Author.Tests.{eq-eqb, eqb-true}
 use Rattle.words.proofs.Bools.{and-left, and-right, both}
 use Rattle.header.specs.declared.Shape.{Shape}
-use Rattle.header.specs.Shape.{sameShape}
+use Rattle.header.specs.Shape.{sameTable, sameShape}
+
+-- rows and columns that are the same
+pub table-of : (rows cols rows′ cols′ : ℕ) → sameTable rows cols rows′ cols′ ≡ true → (rows′ ≡ rows) × (cols′ ≡ cols)
+table-of rows cols rows′ cols′ e =
+    (sym (eqb-true rows rows′ (and-left (eqb rows rows′) (eqb cols cols′) e)), sym (eqb-true cols cols′ (and-right (eqb rows rows′) (eqb cols cols′) e)))
 
 pub same-of : (a b : Shape) → sameShape a b ≡ true → b ≡ a
 same-of a b e =
     let l = eqb (a .layers) (b .layers) in
-    let r = eqb (a .rows) (b .rows) in
-    let c = eqb (a .cols) (b .cols) in
     let z = eqb (a .«heap_size») (b .«heap_size») in
-    let lrc = and-left (l && r && c) z e in
-    let lr = and-left (l && r) c lrc in
-    let pl = sym (eqb-true (a .layers) (b .layers) (and-left l r lr)) in
-    let pr = sym (eqb-true (a .rows) (b .rows) (and-right l r lr)) in
-    let pc = sym (eqb-true (a .cols) (b .cols) (and-right (l && r) c lrc)) in
-    let pz = sym (eqb-true (a .«heap_size») (b .«heap_size») (and-right (l && r && c) z e)) in
-    λ i. record { «heap_size» = pz i; rows = pr i; cols = pc i; layers = pl i }
+    let n = eqb (a .«elephant_layers») (b .«elephant_layers») in
+    let t = sameTable (a .«elephant_rows») (a .«elephant_cols») (b .«elephant_rows») (b .«elephant_cols») in
+    let u = sameTable (a .«mouse_rows») (a .«mouse_cols») (b .«mouse_rows») (b .«mouse_cols») in
+    let first = and-left (l && z && n && t) u e in
+    let head = and-left (l && z && n) t first in
+    let elephants = table-of (a .«elephant_rows») (a .«elephant_cols») (b .«elephant_rows») (b .«elephant_cols») (and-right (l && z && n) t first) in
+    let mice = table-of (a .«mouse_rows») (a .«mouse_cols») (b .«mouse_rows») (b .«mouse_cols») (and-right (l && z && n && t) u e) in
+    let pl = sym (eqb-true (a .layers) (b .layers) (and-left l z (and-left (l && z) n head))) in
+    let pz = sym (eqb-true (a .«heap_size») (b .«heap_size») (and-right l z (and-left (l && z) n head))) in
+    let pn = sym (eqb-true (a .«elephant_layers») (b .«elephant_layers») (and-right (l && z) n head)) in
+    λ i. record {
+      «heap_size» = pz i;
+      layers = pl i;
+      «elephant_layers» = pn i;
+      «elephant_rows» = elephants .0 i;
+      «elephant_cols» = elephants .1 i;
+      «mouse_rows» = mice .0 i;
+      «mouse_cols» = mice .1 i;
+    }
 
 pub same-shape : (a b : Shape) → b ≡ a → sameShape a b ≡ true
 same-shape a b e =
     subst (λ (x : Shape). sameShape a x ≡ true) (sym e)
-    (both (both (both (eq-eqb (a .layers) (a .layers) refl) (eq-eqb (a .rows) (a .rows) refl)) (eq-eqb (a .cols) (a .cols) refl)) (eq-eqb (a .«heap_size») (a .«heap_size») refl))
-
--- three tests that hold leave the last
-pub last-test : (l r c z : Bool) → l ≡ true → r ≡ true → c ≡ true → z ≡ l && r && c && z
-last-test l r c z a b d = rw (a, b, d)
+    (both (both (both (both (self (a .layers)) (self (a .«heap_size»))) (self (a .«elephant_layers»))) (both (self (a .«elephant_rows»)) (self (a .«elephant_cols»)))) (both (self (a .«mouse_rows»)) (self (a .«mouse_cols»))))
+  where
+    self : (n : ℕ) → eqb n n ≡ true
+    self n = eq-eqb n n refl

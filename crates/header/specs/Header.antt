@@ -8,6 +8,7 @@ use lib.Signed.{nonNeg}
 use lib.Dec.{eqb, ltb, leb}
 use Rattle.words.specs.Tests.{number}
 use Rattle.header.specs.Shape.{maxLayers, shapeRefusal}
+use Rattle.header.specs.OneTier.{oneTier}
 use Rattle.header.specs.Totals.{noTotals, updateTotals, addTotals, totalsOk, totalsTests}
 use Rattle.header.specs.declared.Shape.{Shape}
 use Rattle.header.specs.declared.Mode.{Mode}
@@ -25,7 +26,7 @@ use mathlib.Core.Path.{_≡_}
 abbrev pub zeroHeader : Header
 zeroHeader =
     record {
-      shape = record { «heap_size» = 0; rows = 0; cols = 0; layers = 0 };
+      shape = oneTier 0 0 0 0;
       totals = noTotals;
       mode = mode.Unset;
       flags = replicate maxLayers false;

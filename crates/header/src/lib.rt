@@ -3,7 +3,7 @@
 // `check_shape`, `Shape::new` and `bottom_layer_for_hash` are public calls. The other functions are for
 // the crates of this repository, and may ask for what their callers have tested.
 ghost use mathlib.Core.Path.{_≡_};
-ghost use mathlib.Core.Bool.{Bool, true, false, _&&_};
+ghost use mathlib.Core.Bool.{Bool, true, false, _&&_, _||_};
 ghost use mathlib.Core.List.{List};
 ghost use Prim.Native.Nat.{ℕ, _+_, _-_, _<_, _≤_};
 ghost use lib.ListN.{length, getD, set, replicate};
@@ -12,16 +12,22 @@ ghost use Rattle.words.specs.Num.{top};
 ghost use Rattle.words.specs.Tests.{number};
 ghost use Rattle.header.specs.declared.Mode.{Mode};
 ghost use Rattle.header.specs.Totals.{noTotals, updateTotals, addTotals, setWeight, totalsOk, totalsTests};
-ghost use Rattle.header.specs.Shape.{maxLayers, shapeRefusal, checkedShape, sameShape, bottomOf, bottomLayer};
+ghost use Rattle.header.specs.Shape.{maxLayers, twoTier, noTable, bitsAbove, tableAbove, sameTable, shapeRefusal, checkedShape, sameShape, bottomOf, bottomLayer};
+ghost use Rattle.header.specs.OneTier.{oneTier, OneTiered, isOneTier};
 ghost use Rattle.header.specs.Header.{zeroHeader, freshHeader, withTotals, withMode, withFlags, withLens, withLayer, withLayers, scalarsOf, clash, joined, modeNumber, modeBy, begun, begunScalars, beginTests, beginOf, beginHeader, freshFlags, lensFrom, headerOk};
 ghost use Rattle.header.specs.Lending.{headIn};
 
-// Heap size, rows, columns and layers.
+// The dimensions of a state: heap size, layers, and rows and columns of two tiers. Layers below
+// `elephant_layers` are of the first, the others of the second. `UnivMon`'s four dimensions are a shape
+// whose tiers are alike (`Shape::one_tier`).
 pub struct Shape {
     pub heap_size: usize,
-    pub rows: usize,
-    pub cols: usize,
     pub layers: usize,
+    pub elephant_layers: usize,
+    pub elephant_rows: usize,
+    pub elephant_cols: usize,
+    pub mouse_rows: usize,
+    pub mouse_cols: usize,
 }
 
 // A shape that was checked, or its refusal.
@@ -88,83 +94,195 @@ impl Shape {
 
     pub const MAX_HEAP_SIZE: usize = heap_moves::MAX_HEAP_SIZE;
 
-    // 0, or the refusal of the dimensions: 1, 2, 3, 4 in this order.
+    // 0, or the refusal of the dimensions: 1, 2, 3, 4 in this order, each over both tiers. Tests that are
+    // joined by `|` have no jump.
     pub fn refusal(self) -> u64
         ensures { λ r. ⌜ r ≡ shapeRefusal self ⌝ }
     {
-        if self.heap_size == 0 {
+        let elephants = no_table(self.elephant_rows, self.elephant_cols);
+        let mice = no_table(self.mouse_rows, self.mouse_cols);
+        if (self.heap_size == 0) | ((self.layers == 0) | (elephants | mice)) {
             return 1;
         }
-        if self.rows == 0 {
-            return 1;
-        }
-        if self.cols == 0 {
-            return 1;
-        }
-        if self.layers == 0 {
-            return 1;
-        }
-        if Self::MAX_LAYERS < self.layers {
+        if (Self::MAX_LAYERS < self.layers) | (Self::MAX_LAYERS < self.elephant_layers) {
             return 2;
         }
-        if matrix_storage::bits_above(self.rows, self.cols) {
+        if self.bits_above() {
             return 3;
         }
-        if Self::MAX_ROWS < self.rows {
-            return 4;
-        }
-        if Self::MAX_COLS < self.cols {
-            return 4;
-        }
-        if Self::MAX_HEAP_SIZE < self.heap_size {
+        let wide = table_above(self.elephant_rows, self.elephant_cols);
+        let narrow = table_above(self.mouse_rows, self.mouse_cols);
+        if wide | (narrow | (Self::MAX_HEAP_SIZE < self.heap_size)) {
             return 4;
         }
         0
     }
 
-    // The shape of these dimensions, if none is refused.
-    pub fn new(heap_size: usize, rows: usize, cols: usize, layers: usize) -> CheckedShape
-        ensures { λ r. ⌜ r ≡ checkedShape (record { «heap_size» = «heap_size»; rows = rows; cols = cols; layers = layers }) ⌝ }
+    // Whether a tier takes more hash bits than there are. Tiers that are alike are asked once.
+    fn bits_above(self) -> bool
+        requires { ⌜ (1 ≤ self .«elephant_cols») × (1 ≤ self .«mouse_cols») ⌝ }
+        ensures { λ r. ⌜ r ≡ bitsAbove (self .«elephant_rows») (self .«elephant_cols») || bitsAbove (self .«mouse_rows») (self .«mouse_cols») ⌝ }
     {
-        let shape = Shape {
-            heap_size,
-            rows,
-            cols,
-            layers,
-        };
-        let n = shape.refusal();
+        if matrix_storage::bits_above(self.mouse_rows, self.mouse_cols) {
+            return true;
+        }
+        if same_table(
+            self.elephant_rows,
+            self.elephant_cols,
+            self.mouse_rows,
+            self.mouse_cols,
+        ) {
+            return false;
+        }
+        matrix_storage::bits_above(self.elephant_rows, self.elephant_cols)
+    }
+
+    // The shape itself, or its refusal.
+    fn checked(self) -> CheckedShape
+        ensures { λ r. ⌜ r ≡ checkedShape self ⌝ }
+    {
+        let n = self.refusal();
         if n != 0 {
             return CheckedShape::Refused(n);
         }
-        CheckedShape::Good(shape)
+        CheckedShape::Good(self)
     }
 
-    // Whether two shapes have the same dimensions.
+    // The shape of these dimensions, if none is refused.
+    pub fn new(
+        heap_size: usize,
+        elephant_layers: usize,
+        elephant_rows: usize,
+        elephant_cols: usize,
+        mouse_rows: usize,
+        mouse_cols: usize,
+        layers: usize,
+    ) -> CheckedShape
+        ensures { λ r. ⌜ r ≡ checkedShape (twoTier «heap_size» «elephant_layers» «elephant_rows» «elephant_cols» «mouse_rows» «mouse_cols» layers) ⌝ }
+    {
+        let shape = Shape {
+            heap_size,
+            layers,
+            elephant_layers,
+            elephant_rows,
+            elephant_cols,
+            mouse_rows,
+            mouse_cols,
+        };
+        shape.checked()
+    }
+
+    // The same of the four dimensions of `UnivMon`.
+    pub fn new_one_tier(heap_size: usize, rows: usize, cols: usize, layers: usize) -> CheckedShape
+        ensures { λ r. ⌜ r ≡ checkedShape (oneTier «heap_size» rows cols layers) ⌝ }
+    {
+        Shape::one_tier(heap_size, rows, cols, layers).checked()
+    }
+
+    // The shape whose layers all have these rows and columns, as those of `UnivMon`; of any numbers.
+    pub fn one_tier(heap_size: usize, rows: usize, cols: usize, layers: usize) -> Self
+        ensures { λ r. ⌜ r ≡ oneTier «heap_size» rows cols layers ⌝ }
+    {
+        Shape {
+            heap_size,
+            layers,
+            elephant_layers: 0,
+            elephant_rows: rows,
+            elephant_cols: cols,
+            mouse_rows: rows,
+            mouse_cols: cols,
+        }
+    }
+
+    // Whether it is a shape of that form.
+    pub fn is_one_tier(self) -> bool
+        ensures { λ r. ⌜ r ≡ isOneTier self ⌝ }
+    {
+        let alike = Shape::one_tier(
+            self.heap_size,
+            self.mouse_rows,
+            self.mouse_cols,
+            self.layers,
+        );
+        alike.same(self)
+    }
+
+    // Whether two shapes have the same dimensions, also those that no layer uses.
     pub fn same(self, other: Shape) -> bool
         ensures { λ r. ⌜ r ≡ sameShape self other ⌝ }
     {
-        if self.layers != other.layers {
-            return false;
-        }
-        if self.rows != other.rows {
-            return false;
-        }
-        if self.cols != other.cols {
-            return false;
-        }
-        self.heap_size == other.heap_size
+        let elephants = same_table(
+            self.elephant_rows,
+            self.elephant_cols,
+            other.elephant_rows,
+            other.elephant_cols,
+        );
+        let mice = same_table(
+            self.mouse_rows,
+            self.mouse_cols,
+            other.mouse_rows,
+            other.mouse_cols,
+        );
+        (self.layers == other.layers)
+            & (self.heap_size == other.heap_size)
+            & (self.elephant_layers == other.elephant_layers)
+            & elephants
+            & mice
     }
 }
 
-// 0, or the refusal of these dimensions.
-pub fn check_shape(heap_size: usize, rows: usize, cols: usize, layers: usize) -> u64
-    ensures { λ r. ⌜ r ≡ shapeRefusal (record { «heap_size» = «heap_size»; rows = rows; cols = cols; layers = layers }) ⌝ }
+// ---- one tier's rows and columns
+
+fn no_table(rows: usize, cols: usize) -> bool
+    ensures { λ r. ⌜ r ≡ noTable rows cols ⌝ }
 {
-    let checked = Shape::new(heap_size, rows, cols, layers);
-    match checked {
-        CheckedShape::Good(_) => 0,
-        CheckedShape::Refused(n) => n,
+    (rows == 0) | (cols == 0)
+}
+
+fn table_above(rows: usize, cols: usize) -> bool
+    ensures { λ r. ⌜ r ≡ tableAbove rows cols ⌝ }
+{
+    (Shape::MAX_ROWS < rows) | (Shape::MAX_COLS < cols)
+}
+
+fn same_table(rows: usize, cols: usize, other_rows: usize, other_cols: usize) -> bool
+    ensures { λ r. ⌜ r ≡ sameTable rows cols «other_rows» «other_cols» ⌝ }
+{
+    (rows == other_rows) & (cols == other_cols)
+}
+
+// 0, or the refusal of the four dimensions of `UnivMon`: its layers are alike, and so one tier is asked.
+pub fn check_shape(heap_size: usize, rows: usize, cols: usize, layers: usize) -> u64
+    ensures { λ r. ⌜ r ≡ shapeRefusal (oneTier «heap_size» rows cols layers) ⌝ }
+{
+    if heap_size == 0 {
+        return 1;
     }
+    if rows == 0 {
+        return 1;
+    }
+    if cols == 0 {
+        return 1;
+    }
+    if layers == 0 {
+        return 1;
+    }
+    if Shape::MAX_LAYERS < layers {
+        return 2;
+    }
+    if matrix_storage::bits_above(rows, cols) {
+        return 3;
+    }
+    if Shape::MAX_ROWS < rows {
+        return 4;
+    }
+    if Shape::MAX_COLS < cols {
+        return 4;
+    }
+    if Shape::MAX_HEAP_SIZE < heap_size {
+        return 4;
+    }
+    0
 }
 
 // The last layer that a key with this bottom hash reaches: the number of ones in a row from bit 1 on, at
@@ -255,14 +373,8 @@ impl Header {
     pub fn zero() -> Self
         ensures { λ r. ⌜ r ≡ zeroHeader ⌝ }
     {
-        let shape = Shape {
-            heap_size: 0,
-            rows: 0,
-            cols: 0,
-            layers: 0,
-        };
         Header {
-            shape,
+            shape: Shape::one_tier(0, 0, 0, 0),
             totals: Totals::zero(),
             mode: Mode::Unset,
             flags: [false; Shape::MAX_LAYERS],
@@ -595,6 +707,25 @@ fn rest_clear(lens: &[usize], flags: &[bool], layers: usize) -> bool
     clear
 }
 
+// Whether totals, lengths and flags are in range, beside dimensions that are.
+fn rest_in_range(
+    layers: usize,
+    heap_size: usize,
+    totals: Totals,
+    lens: &[usize],
+    flags: &[bool],
+) -> bool
+    requires { ⌜ (layers ≤ maxLayers) × ((length (now lens) ≡ maxLayers) × (length (now flags) ≡ maxLayers)) ⌝ }
+    ensures { λ r. ⌜ r ≡ totalsOk totals && lensFrom layers «heap_size» (now (lens .entry)) (now (flags .entry)) maxLayers 0 ⌝ }
+{
+    if !totals.in_range() {
+        return false;
+    }
+    let few = lens_few(lens, layers, heap_size);
+    let clear = rest_clear(lens, flags, layers);
+    few & clear
+}
+
 // Whether dimensions, totals, lengths and flags are in range; of the mode nothing is asked.
 pub fn fields_in_range(shape: Shape, totals: Totals, lens: &[usize], flags: &[bool]) -> bool
     requires { ⌜ (length (now lens) ≡ maxLayers) × (length (now flags) ≡ maxLayers) ⌝ }
@@ -603,10 +734,29 @@ pub fn fields_in_range(shape: Shape, totals: Totals, lens: &[usize], flags: &[bo
     if shape.refusal() != 0 {
         return false;
     }
-    if !totals.in_range() {
+    rest_in_range(shape.layers, shape.heap_size, totals, lens, flags)
+}
+
+// The same of a shape whose layers are alike.
+pub fn fields_in_range_one_tier(
+    shape: Shape,
+    totals: Totals,
+    lens: &[usize],
+    flags: &[bool],
+) -> bool
+    requires { ⌜ (length (now lens) ≡ maxLayers) × (length (now flags) ≡ maxLayers) ⌝ }
+    requires { ⌜ OneTiered shape ⌝ }
+    ensures { λ r. ⌜ ((m : Mode) → r ≡ headerOk (headIn (record { shape = shape; totals = totals; mode = m }) lens flags)) ⌝ }
+{
+    if check_shape(
+        shape.heap_size,
+        shape.mouse_rows,
+        shape.mouse_cols,
+        shape.layers,
+    )
+        != 0
+    {
         return false;
     }
-    let few = lens_few(lens, shape.layers, shape.heap_size);
-    let clear = rest_clear(lens, flags, shape.layers);
-    few & clear
+    rest_in_range(shape.layers, shape.heap_size, totals, lens, flags)
 }

@@ -195,16 +195,17 @@ unfolding mergeLayer mergeAnswer
 merge-len d a b = offers-len d _ (bothItems (a .table) (b .table)) (noTable (d .size)) ∙ omega arith
 
 module _ (d : Dims) (some : 0 < d .size) (a b : Layer) where
-  distinct : All NotRescored (mergeAnswer d a b) × (allKept (mergeAnswer d a b) ≡ leb (0 + length (bothItems (a .table) (b .table))) (d .size))
+  -- a merge offers each key once: none is rescored, and all are kept exactly if there are seats for them
+  merge-new : All NotRescored (mergeAnswer d a b) × (allKept (mergeAnswer d a b) ≡ leb (0 + length (bothItems (a .table) (b .table))) (d .size))
   unfolding mergeAnswer
-  distinct = offers-new d _ some [] (bothItems (a .table) (b .table)) (noTable (d .size)) (none-known (d .size)) (firsts-new [] _)
+  merge-new = offers-new d _ some [] (bothItems (a .table) (b .table)) (noTable (d .size)) (none-known (d .size)) (firsts-new [] _)
 
   pub merge-never-rescored : All NotRescored (mergeAnswer d a b)
-  merge-never-rescored = distinct .0
+  merge-never-rescored = merge-new .0
 
   pub merge-flag : mergeLayer d a b .flag ≡ (a .flag && b .flag && allKept (mergeAnswer d a b))
   unfolding mergeLayer
-  merge-flag = ap (λ (k : Bool). a .flag && b .flag && k) (sym (distinct .1 ∙ ap (λ (n : ℕ). leb n (d .size)) many))
+  merge-flag = ap (λ (k : Bool). a .flag && b .flag && k) (sym (merge-new .1 ∙ ap (λ (n : ℕ). leb n (d .size)) many))
     where
       many : 0 + length (bothItems (a .table) (b .table)) ≡ length (bothItems (a .table) (b .table))
       many = omega arith

@@ -1,4 +1,5 @@
 pub mod Offsets
+pub mod OneTier
 pub mod States
 pub mod Lengths
 pub mod InTurn

@@ -1,10 +1,12 @@
 -- A call with a list: 16 behind its other tests. Assumes nothing.
-use mathlib.Core.Path.{_≡_, refl}
+use mathlib.Core.Path.{_≡_, refl, sym, _∙_}
 use mathlib.Core.Bool.{Bool, true, false, cond}
 use mathlib.Core.List.{List, [], _∷_, _++_}
-use Prim.Native.Nat.{ℕ, _≤_}
-use borrow.Author.Tests.{ltb-false, le-ltb}
-use lib.Dec.{ltb}
+use Prim.Native.Nat.{ℕ, _≤_, _<_}
+use borrow.Author.Tests.{eqb-true, eqb-false, ltb-false, lt-ltb, le-ltb}
+use lib.Dec.{eqb, ltb}
+use Rattle.words.specs.Tests.{number, numbered}
+use Rattle.words.proofs.Tests.{off-number, number-first, number-rest}
 use Rattle.layout.specs.Slices.{Lent}
 use Rattle.layout.specs.Outcomes.{Outcome, judge}
 use Rattle.layout.specs.Answers.{listCall}
@@ -33,3 +35,28 @@ list-judge least n (x ∷ ts) t = go (list-judge least n ts t) (x .0)
     go : listCall least n (judge ts t) ≡ judge (ts ++ listTests least n) t → (b : Bool) → listCall least n (cond b (Outcome.no (x .1)) (judge ts t)) ≡ cond b (Outcome.no (x .1)) (judge (ts ++ listTests least n) t)
     go ih true = refl
     go ih false = ih
+
+-- ---- the number of any tests with the list's behind them
+
+module _ (ts : List (Bool × ℕ)) (least n : ℕ) where
+  -- a test of their own refuses first
+  pub list-before : (m : ℕ) → m ≡ number ts → (m ≡ 0 → ⊥) → m ≡ number (ts ++ listTests least n)
+  list-before m e h = e ∙ sym (number-first ts (listTests least n) (λ z. h (e ∙ z)))
+
+  -- where none does, the list's test is left
+  list-left : numbered ts ≡ true → number ts ≡ 0 → number (ts ++ listTests least n) ≡ number (listTests least n)
+  list-left d z = number-rest ts (listTests least n) (off-number ts d z)
+
+  pub list-short : numbered ts ≡ true → number ts ≡ 0 → n < least → 16 ≡ number (ts ++ listTests least n)
+  list-short d z h = sym (list-left d z ∙ rw (lt-ltb n least h))
+
+  pub list-enough : numbered ts ≡ true → number ts ≡ 0 → least ≤ n → 0 ≡ number (ts ++ listTests least n)
+  list-enough d z h = sym (list-left d z ∙ rw (le-ltb n least h))
+
+  -- where nothing is refused, no test of their own refuses, and the list is long enough
+  pub list-none : numbered ts ≡ true → number (ts ++ listTests least n) ≡ 0 → (number ts ≡ 0) × (least ≤ n)
+  list-none d z = go (eqb (number ts) 0) refl
+    where
+      go : (b : Bool) → eqb (number ts) 0 ≡ b → (number ts ≡ 0) × (least ≤ n)
+      go true q = let e = eqb-true (number ts) 0 q in (e, ltb-false n least (off-number (listTests least n) refl (sym (list-left d e) ∙ z) .0))
+      go false q = let h = eqb-false (number ts) 0 q in absurd (h (list-before (number ts) refl h ∙ z))

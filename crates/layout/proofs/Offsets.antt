@@ -1,6 +1,9 @@
 -- Where layers stand in the slices. Assumes nothing.
-use mathlib.Core.Path.{_≡_, sym, _∙_}
-use Prim.Native.Nat.{ℕ, zero, suc, _+_, _*_, _≤_, _<_}
+use mathlib.Core.Path.{_≡_, refl, sym, ap, _∙_}
+use mathlib.Core.Bool.{Bool, true, false, cond}
+use Prim.Native.Nat.{ℕ, zero, suc, _+_, _-_, _*_, _≤_, _<_, min}
+use lib.Dec.{ltb}
+use borrow.Author.Tests.{ltb-true, ltb-false}
 use native.Mathlib.Nat.{suc-mul, mul-assoc, mul-le-mul, le-trans, le-refl}
 use native.Mathlib.Decide.{ℕ-discrete}
 use native.Mathlib.Omega.{arith}
@@ -12,6 +15,7 @@ use Rattle.header.specs.Shape.{maxLayers, maxHeap}
 use Rattle.header.specs.inner.Accepted.{Accepted}
 use Rattle.layout.specs.State.{rowsAt, colsAt, cellOff, normOff, candOff}
 use Rattle.layout.specs.Slices.{cellsIn, normsIn, candsIn}
+use Rattle.layout.specs.inner.Spans.{elephantsBefore}
 
 -- a part ends where the next begins, or before
 pub off-step : (f : ℕ → ℕ) (l m : ℕ) → l < m → sumBelow l f + f l ≤ sumBelow m f
@@ -42,7 +46,11 @@ module _ (sh : Shape) (l : ℕ) (h : l < sh .layers) where
 -- every layer has rows and columns that are refused by nothing
 pub shaped-at : (sh : Shape) → Accepted sh → (l : ℕ) → Shaped (rowsAt sh l) (colsAt sh l)
 unfolding rowsAt colsAt
-shaped-at sh a l = a .shaped
+shaped-at sh a l = go (ltb l (sh .«elephant_layers»))
+  where
+    go : (b : Bool) → Shaped (cond b (sh .«elephant_rows») (sh .«mouse_rows»)) (cond b (sh .«elephant_cols») (sh .«mouse_cols»))
+    go true = a .elephant
+    go false = a .mouse
 
 pub table-bound : (sh : Shape) → Accepted sh → (l : ℕ) → rowsAt sh l * colsAt sh l ≤ maxRows * maxCols
 table-bound sh a l = mul-le-mul (shaped-at sh a l .few) (shaped-at sh a l .wide)
@@ -69,25 +77,54 @@ module _ (sh : Shape) (a : Accepted sh) (l : ℕ) (h : l ≤ sh .layers) where
   unfolding candOff
   seats-bound = most maxHeap (λ m. sh .«heap_size») (λ m. a .small)
 
--- ---- every layer has the shape's rows and columns, so an offset is a product: only for this crate's functions that work it out
+-- ---- a tier's layers have the same rows and columns, so an offset is two products: only for this crate's functions that work it out
 
 sum-same : (n c : ℕ) → sumBelow n (λ m. c) ≡ n * c
 unfolding sumBelow
 sum-same zero c = omega arith
 sum-same (suc n) c = omega (arith, sum-same n c, suc-mul n c)
 
-pub cell-off : (sh : Shape) (l : ℕ) → cellOff sh l ≡ l * (sh .rows * sh .cols)
-unfolding cellOff rowsAt colsAt
-cell-off sh l = sum-same l (sh .rows * sh .cols)
+-- w terms of a, and then terms of b
+sum-tiers : (w a b : ℕ) (f : ℕ → ℕ) → ((m : ℕ) → f m ≡ cond (ltb m w) a b) → (n : ℕ) → sumBelow n f ≡ min n w * a + (n - min n w) * b
+unfolding sumBelow
+sum-tiers w a b f h zero =
+    let p : min 0 w ≡ 0 = omega arith in
+    rw p (omega arith)
+sum-tiers w a b f h (suc n) = go (sum-tiers w a b f h n) (ltb n w) refl
+  where
+    go : sumBelow n f ≡ min n w * a + (n - min n w) * b → (t : Bool) → ltb n w ≡ t → sumBelow n f + f n ≡ min (suc n) w * a + (suc n - min (suc n) w) * b
+    go ih true e =
+        let l : n < w = ltb-true n w e in
+        let p : min n w ≡ n = omega arith in
+        let q : min (suc n) w ≡ suc n = omega arith in
+        let z : suc n - suc n ≡ n - n = omega arith in
+        rw q (rw z (omega (arith, rw p at ih, h n ∙ ap (λ (x : Bool). cond x a b) e, suc-mul n a)))
+    go ih false e =
+        let l : w ≤ n = ltb-false n w e in
+        let p : min n w ≡ w = omega arith in
+        let q : min (suc n) w ≡ w = omega arith in
+        let z : suc n - w ≡ suc (n - w) = omega arith in
+        rw q (rw z (omega (arith, rw p at ih, h n ∙ ap (λ (x : Bool). cond x a b) e, suc-mul (n - w) b)))
 
--- the same product, with the rows of all layers first
-pub cells-are : (sh : Shape) (l : ℕ) → cellOff sh l ≡ l * sh .rows * sh .cols
-cells-are sh l = cell-off sh l ∙ sym (mul-assoc l (sh .rows) (sh .cols))
+both-mul : (t : Bool) (a b c d : ℕ) → cond t a b * cond t c d ≡ cond t (a * c) (b * d)
+both-mul true a b c d = refl
+both-mul false a b c d = refl
 
-pub norm-off : (sh : Shape) (l : ℕ) → normOff sh l ≡ l * sh .rows
-unfolding normOff rowsAt
-norm-off sh l = sum-same l (sh .rows)
+module _ (sh : Shape) (l : ℕ) where
+  abbrev elephants : ℕ
+  elephants = elephantsBefore sh l
 
-pub cand-off : (sh : Shape) (l : ℕ) → candOff sh l ≡ l * sh .«heap_size»
-unfolding candOff
-cand-off sh l = sum-same l (sh .«heap_size»)
+  pub cell-off : cellOff sh l ≡ elephants * sh .«elephant_rows» * sh .«elephant_cols» + (l - elephants) * sh .«mouse_rows» * sh .«mouse_cols»
+  unfolding cellOff rowsAt colsAt
+  cell-off =
+      sum-tiers (sh .«elephant_layers») (sh .«elephant_rows» * sh .«elephant_cols») (sh .«mouse_rows» * sh .«mouse_cols») (λ m. rowsAt sh m * colsAt sh m)
+      (λ m. both-mul (ltb m (sh .«elephant_layers»)) (sh .«elephant_rows») (sh .«mouse_rows») (sh .«elephant_cols») (sh .«mouse_cols»)) l
+      ∙ sym (rw (mul-assoc elephants (sh .«elephant_rows») (sh .«elephant_cols»), mul-assoc (l - elephants) (sh .«mouse_rows») (sh .«mouse_cols»)))
+
+  pub norm-off : normOff sh l ≡ elephants * sh .«elephant_rows» + (l - elephants) * sh .«mouse_rows»
+  unfolding normOff rowsAt
+  norm-off = sum-tiers (sh .«elephant_layers») (sh .«elephant_rows») (sh .«mouse_rows») (λ m. rowsAt sh m) (λ m. refl) l
+
+  pub cand-off : candOff sh l ≡ l * sh .«heap_size»
+  unfolding candOff
+  cand-off = sum-same l (sh .«heap_size»)

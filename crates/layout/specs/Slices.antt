@@ -33,7 +33,8 @@ normsIn sh = normOff sh (sh .layers)
 abbrev pub candsIn : Shape → ℕ
 candsIn sh = candOff sh (sh .layers)
 
--- "Their lengths are exactly layers × rows × cols counters, 2 × layers × rows norm words, 4 × layers × heap size entry words and layers × heap size counts."
+-- "Their lengths are exactly layers × rows × cols counters, 2 × layers × rows norm words, 4 × layers × heap size entry words and layers × heap size counts.",
+-- layer by layer with that layer's rows and columns
 unfoldable pub lengthsOk : Shape → ℕ → ℕ → ℕ → ℕ → Bool
 lengthsOk sh xs ws es ns = eqb xs (cellsIn sh) && eqb ws (2 * normsIn sh) && eqb es (4 * candsIn sh) && eqb ns (candsIn sh)
 

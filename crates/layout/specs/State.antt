@@ -1,9 +1,10 @@
 -- A state: the header, and the layers in their slices.
 use Prim.Native.Nat.{ℕ, zero, suc, _*_}
-use mathlib.Core.Bool.{Bool, true, false, _&&_}
+use mathlib.Core.Bool.{Bool, true, false, cond, _&&_}
 use mathlib.Core.List.{List}
 use lib.ListN.{getD, replicate}
 use lib.IntN.{ℤ, pos}
+use lib.Dec.{ltb}
 use Rattle.words.specs.Parts.{part, putPart}
 use Rattle.countsketch_l2_norm.specs.Merge.{sumBelow}
 use Rattle.heap_moves.specs.Cands.{Cand, noCand}
@@ -25,12 +26,12 @@ shapeOf s = s .head .shape
 
 -- ---- "Slices run by layer, then row, then column, or by layer, then entry."
 
--- rows and columns of a layer: every layer has the shape's
+-- rows and columns of a layer: "layers below `elephant_layers` have one number of rows and columns, the others another"
 unfoldable pub rowsAt : Shape → ℕ → ℕ
-rowsAt sh l = sh .rows
+rowsAt sh l = cond (ltb l (sh .«elephant_layers»)) (sh .«elephant_rows») (sh .«mouse_rows»)
 
 unfoldable pub colsAt : Shape → ℕ → ℕ
-colsAt sh l = sh .cols
+colsAt sh l = cond (ltb l (sh .«elephant_layers»)) (sh .«elephant_cols») (sh .«mouse_cols»)
 
 abbrev pub dimsAt : Shape → ℕ → Dims
 dimsAt sh l = record { rows = rowsAt sh l; cols = colsAt sh l; size = sh .«heap_size» }

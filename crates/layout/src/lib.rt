@@ -18,10 +18,10 @@ ghost use lib.ListN.{length};
 ghost use Rattle.words.specs.Tests.{number};
 ghost use Rattle.header.specs.Shape.{maxLayers};
 ghost use Rattle.header.specs.inner.Accepted.{Accepted};
-ghost use Rattle.layout.specs.State.{dimsAt};
+ghost use Rattle.layout.specs.State.{dimsAt, cellOff, normOff};
 ghost use Rattle.layout.specs.Slices.{lengthsOk, extentOf};
 ghost use Rattle.layout.specs.Outcomes.{lentTests};
-ghost use Rattle.layout.specs.inner.Spans.{spanOf};
+ghost use Rattle.layout.specs.inner.Spans.{spanOf, elephantsBefore};
 ghost use Rattle.layout.specs.Records.{itemAt};
 ghost use Rattle.layout.specs.Lending.{lentIn};
 
@@ -33,15 +33,46 @@ pub struct Extent {
     pub seats: usize,
 }
 
+// Counters and rows of the layers before one.
+struct Start {
+    cells: usize,
+    rows: usize,
+}
+
+// How many of the layers before l are of the first tier.
+fn elephants_before(shape: Shape, l: usize) -> usize
+    ensures { λ r. ⌜ r ≡ elephantsBefore shape l ⌝ }
+{
+    if shape.elephant_layers < l {
+        return shape.elephant_layers;
+    }
+    l
+}
+
+fn start_of(shape: Shape, l: usize) -> Start
+    requires { ⌜ Accepted shape ⌝ }
+    requires { ⌜ l ≤ shape .layers ⌝ }
+    ensures { λ r. ⌜ (r .cells ≡ cellOff shape l) × (r .rows ≡ normOff shape l) ⌝ }
+{
+    let elephants = elephants_before(shape, l);
+    let mice = l - elephants;
+    let elephant_rows = elephants * shape.elephant_rows;
+    let mouse_rows = mice * shape.mouse_rows;
+    Start {
+        cells: elephant_rows * shape.elephant_cols + mouse_rows * shape.mouse_cols,
+        rows: elephant_rows + mouse_rows,
+    }
+}
+
 pub fn extent_of(shape: Shape) -> Extent
     requires { ⌜ Accepted shape ⌝ }
     ensures { λ r. ⌜ r ≡ extentOf shape ⌝ }
 {
-    let rows = shape.layers * shape.rows;
+    let end = start_of(shape, shape.layers);
     let seats = shape.layers * shape.heap_size;
     Extent {
-        cells: rows * shape.cols,
-        norms: 2 * rows,
+        cells: end.cells,
+        norms: 2 * end.rows,
         words: 4 * seats,
         seats,
     }
@@ -113,12 +144,12 @@ pub fn span_of(shape: Shape, l: usize) -> Span
     requires { ⌜ l < shape .layers ⌝ }
     ensures { λ r. ⌜ r ≡ spanOf shape l ⌝ }
 {
-    let table = shape.rows * shape.cols;
-    let cells = l * table;
-    let cells_end = cells + table;
-    let row_start = l * shape.rows;
-    let norms = 2 * row_start;
-    let norms_end = norms + 2 * shape.rows;
+    let start = start_of(shape, l);
+    let d = dims(shape, l);
+    let cells = start.cells;
+    let cells_end = cells + d.rows * d.cols;
+    let norms = 2 * start.rows;
+    let norms_end = norms + 2 * d.rows;
     let size = shape.heap_size;
     let seats = l * size;
     let seats_end = seats + size;
@@ -140,10 +171,18 @@ pub fn span_of(shape: Shape, l: usize) -> Span
 pub fn dims(shape: Shape, l: usize) -> Dims
     ensures { λ r. ⌜ r ≡ dimsAt shape l ⌝ }
 {
+    let size = shape.heap_size;
+    if l < shape.elephant_layers {
+        return Dims {
+            rows: shape.elephant_rows,
+            cols: shape.elephant_cols,
+            size,
+        };
+    }
     Dims {
-        rows: shape.rows,
-        cols: shape.cols,
-        size: shape.heap_size,
+        rows: shape.mouse_rows,
+        cols: shape.mouse_cols,
+        size,
     }
 }
 

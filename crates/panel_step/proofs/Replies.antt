@@ -10,6 +10,7 @@ use lib.Seq.{sets}
 use lib.IntN.{ℤ}
 use lib.Ieee.{binary64, toBits}
 use Rattle.header.specs.declared.Shape.{Shape}
+use Rattle.header.specs.OneTier.{oneTier}
 use Rattle.header.specs.declared.Header.{Header}
 use Rattle.header.specs.Header.{headerOk}
 use Rattle.header.proofs.Ranges.{ranged-of}
@@ -86,7 +87,7 @@ pub line-put : (r : Lent) (line o : List ℕ) (q : Request) → longest ≤ leng
 unfolding answerWithin answerLine
 line-put r line o q h e = rw (le-ltb (length o) longest h, ← e)
 
-pub asks-shape : (r : Lent) (h k c l : ℕ) (words : List ℕ) → replied (shapeCall r (record { «heap_size» = h; rows = k; cols = c; layers = l })) ≡ answerTo r (ask.Shape h k c l) words
+pub asks-shape : (r : Lent) (h k c l : ℕ) (words : List ℕ) → replied (shapeCall r (oneTier h k c l)) ≡ answerTo r (ask.Shape h k c l) words
 unfolding answerTo
 asks-shape r h k c l words = refl
 

@@ -11,6 +11,7 @@ use lib.Ieee.{binary64, toBits}
 use Rattle.header.specs.declared.Shape.{Shape}
 use Rattle.header.specs.declared.Header.{Header}
 use Rattle.header.specs.Shape.{maxLayers, shapeRefusal}
+use Rattle.header.specs.OneTier.{oneTier}
 use Rattle.layout.specs.declared.Extent.{Extent}
 use Rattle.layout.specs.Slices.{Lent, lent, cellsIn, candsIn, freshLent, extentOf}
 use Rattle.layout.specs.Outcomes.{Outcome, Left, left, leftBy}
@@ -116,7 +117,7 @@ replied l = reply (l .lends) (replyText (l .refusal))
 
 -- "In the program 13 comes first.": an unreadable line looks at nothing else, and without a shape `add` and `show` do not either
 unfoldable pub answerTo : Lent → Request → List ℕ → Reply
-answerTo r (ask.Shape heap rows cols layers) words = replied (shapeCall r (record { «heap_size» = heap; rows = rows; cols = cols; layers = layers }))
+answerTo r (ask.Shape heap rows cols layers) words = replied (shapeCall r (oneTier heap rows cols layers))
 answerTo r (ask.Add weight n) words = replied (addCall r words weight)
 answerTo r ask.Show words = reply r (showLine r)
 answerTo r ask.Unreadable words = replied (left 13 r)

@@ -55,10 +55,13 @@ pub fn start(
     let sums = e.norms;
     let words = e.words;
     let seats = e.seats;
-    univmon::new(
+    univmon::new_two_tier(
         shape.heap_size,
-        shape.rows,
-        shape.cols,
+        shape.elephant_layers,
+        shape.elephant_rows,
+        shape.elephant_cols,
+        shape.mouse_rows,
+        shape.mouse_cols,
         shape.layers,
         &mut counters[..cells],
         &mut norms[..sums],

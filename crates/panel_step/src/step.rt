@@ -123,12 +123,12 @@ pub fn answer_line(
     let q = read_line(line, &mut words);
     match q {
         Request::Shape(heap_size, rows, cols, layers) => {
-            let shape = Shape {
-                heap_size: heap_size as usize,
-                rows: rows as usize,
-                cols: cols as usize,
-                layers: layers as usize,
-            };
+            let shape = Shape::one_tier(
+                heap_size as usize,
+                rows as usize,
+                cols as usize,
+                layers as usize,
+            );
             answer_shape(header, counters, norms, entries, counts, shape, out)
         }
         Request::Add(weight, n) => {

@@ -10,6 +10,7 @@ use lib.Dec.{eqb}
 use borrow.Author.Tests.{eqb-true, ne-eqb}
 use Rattle.words.proofs.Bools.{never}
 use Rattle.words.proofs.Lists.{all-append}
+use Rattle.header.specs.OneTier.{oneTier}
 use Rattle.header.specs.declared.Shape.{Shape}
 use Rattle.header.specs.declared.Header.{Header}
 use Rattle.header.specs.declared.Mode.the-variants as mode
@@ -36,7 +37,7 @@ use Rattle.panel_lines.specs.Split.{lines, wholeOf}
 use Rattle.panel_step.specs.Panel.{inUse, putBack, panelRefusal, paperRefusal, refusalIn, shapeCall, started, backBy, addCall, panelText, showLine, Reply, replyText, answerTo, answerLine, answersOf, runOf}
 use Rattle.panel_step.proofs.Rooms.{fit-of, own-refusal}
 use Rattle.panel_step.proofs.Runs.{run-whole}
-use Rattle.panel_stream.specs.PanelStream.{Log, shapeBy, blank, addNumber, logShaped, logAdded, logAfter, logOf, isOk, fedAfter, timesFed, relayIn, Shown, NextLine, Theorem, Own, Corollary}
+use Rattle.panel_stream.specs.PanelStream.{Log, blank, addNumber, logShaped, logAdded, logAfter, logOf, isOk, fedAfter, timesFed, relayIn, Shown, NextLine, Theorem, Own, Corollary}
 use Rattle.panel_stream.proofs.Backs.{Just, just, back-in, back-room}
 use Rattle.panel_stream.proofs.Adds.{Standards, not-six}
 use Rattle.panel_stream.proofs.Shows.{panel-is, panel-keys, panel-flags}
@@ -182,7 +183,7 @@ module _ (f : Shape → ℕ) (r : Lent) (g : Log) (k : Kept f r g) (words : List
 
 to-kept : (f : Shape → ℕ) (r : Lent) (g : Log) (q : Request) (words : List ℕ) → Kept f r g → Kept f (answerTo r q words .lends) (logAfter f g q words)
 unfolding answerTo
-to-kept f r g (ask.Shape heap rows cols layers) words k = shape-kept f r g k (shapeBy heap rows cols layers)
+to-kept f r g (ask.Shape heap rows cols layers) words k = shape-kept f r g k (oneTier heap rows cols layers)
 to-kept f r g (ask.Add w n) words k = add-kept f r g k words w
 to-kept f r g ask.Show words k = k
 to-kept f r g ask.Unreadable words k = k
@@ -210,7 +211,7 @@ to-fed f r g (ask.Shape heap rows cols layers) words n k e =
     ap (λ (b : Bool). cond b 0 n) (ok-said (shapeCall r sh .refusal) ∙ ap (λ (m : ℕ). eqb m 0) (next-shape f r g k sh)) ∙ go (eqb (f sh) 0)
   where
     sh : Shape
-    sh = shapeBy heap rows cols layers
+    sh = oneTier heap rows cols layers
 
     go : (b : Bool) → cond b 0 n ≡ length (cond b (record { started = true; shape = sh; book = [] }) g .book)
     go true = refl

@@ -16,6 +16,7 @@ use Rattle.matrix_storage.specs.Bits.{maxRows}
 use Rattle.countsketch_l2_norm.specs.L2.{l2Of}
 use Rattle.header.specs.declared.Shape.{Shape}
 use Rattle.header.specs.Shape.{maxLayers}
+use Rattle.header.specs.OneTier.{oneTier}
 use Rattle.header.specs.Header.{zeroHeader}
 use Rattle.layout.specs.State.{rowsAt}
 use Rattle.layout.specs.Slices.{Lent}
@@ -40,12 +41,9 @@ pub record Log : Type 0 where
   pub shape : Shape
   pub book : Book
 
-abbrev pub shapeBy : ℕ → ℕ → ℕ → ℕ → Shape
-shapeBy heap rows cols layers = record { «heap_size» = heap; rows = rows; cols = cols; layers = layers }
-
 -- before the first line
 abbrev pub blank : Log
-blank = record { started = false; shape = shapeBy 0 0 0 0; book = [] }
+blank = record { started = false; shape = oneTier 0 0 0 0; book = [] }
 
 -- what an add is answered with: 13 "before a shape", then as an update by the book; "Add is a standard update"
 unfoldable pub addNumber : Log → List ℕ → ℤ → ℕ
@@ -61,7 +59,7 @@ logAdded n g words w = cond (eqb n 0) (record { started = g .started; shape = g 
 
 -- after one line, where f says what a shape is refused with
 abbrev pub logAfter : (Shape → ℕ) → Log → Request → List ℕ → Log
-logAfter f g (ask.Shape heap rows cols layers) words = logShaped (f (shapeBy heap rows cols layers)) g (shapeBy heap rows cols layers)
+logAfter f g (ask.Shape heap rows cols layers) words = logShaped (f (oneTier heap rows cols layers)) g (oneTier heap rows cols layers)
 logAfter f g (ask.Add w n) words = logAdded (addNumber g words w) g words w
 logAfter f g ask.Show words = g
 logAfter f g ask.Unreadable words = g

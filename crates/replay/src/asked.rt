@@ -24,7 +24,9 @@ use crate::shelf::lent;
 use crate::shelf::take_signed;
 use estimates::Answer;
 use header::BottomLayer;
+use header::CheckedShape;
 use header::Header;
+use header::Shape;
 use sums::G;
 
 fn print_answer(a: Answer) {
@@ -140,6 +142,23 @@ pub fn shape(call: Call) {
         call.d as usize,
     );
     say(n, false, 0);
+}
+
+// 20: the refusal of a shape of two tiers.
+pub fn two_tier_shape(call: Call) {
+    let checked = Shape::new(
+        call.a as usize,
+        call.b as usize,
+        call.c as usize,
+        call.d as usize,
+        call.e as usize,
+        call.f as usize,
+        call.g as usize,
+    );
+    match checked {
+        CheckedShape::Good(_) => say(0, false, 0),
+        CheckedShape::Refused(n) => say(n, false, 0),
+    }
 }
 
 // 17: a bottom layer, or its refusal.

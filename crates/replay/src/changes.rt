@@ -159,7 +159,7 @@ fn merge(
 }
 
 // Fills the lent slices from the shelf, marks the list and makes a call on them. 1: `new`. 5, 6, 7: the calls on
-// a header alone. 8: `clear`.
+// a header alone. 8: `clear`. 19: `new` of two tiers.
 fn on_lent(
     call: Call,
     counters: &mut [i64],
@@ -182,6 +182,19 @@ fn on_lent(
             call.b as usize,
             call.c as usize,
             call.d as usize,
+            counters,
+            norms,
+            entries,
+            counts,
+        ),
+        19 => univmon::new_two_tier(
+            call.a as usize,
+            call.b as usize,
+            call.c as usize,
+            call.d as usize,
+            call.e as usize,
+            call.f as usize,
+            call.g as usize,
             counters,
             norms,
             entries,

@@ -1,4 +1,4 @@
-// Headers as words: the shape's four, weight, updates, mode, a flag for each layer, a length for each layer.
+// Headers as words: the shape's seven, weight, updates, mode, a flag for each layer, a length for each layer.
 use crate::shelf::get;
 use header::Header;
 use header::Mode;
@@ -6,7 +6,7 @@ use header::Shape;
 use header::Totals;
 ghost use Prim.Native.Nat.{_<_};
 
-const WEIGHT: usize = 4;
+const WEIGHT: usize = 7;
 
 const UPDATES: usize = WEIGHT + 1;
 
@@ -52,9 +52,12 @@ pub fn words_of(h: Header) -> [u64; HEAD_WORDS] {
     let mode = h.mode;
     let mut words = [0u64; HEAD_WORDS];
     words[0] = h.shape.heap_size as u64;
-    words[1] = h.shape.rows as u64;
-    words[2] = h.shape.cols as u64;
-    words[3] = h.shape.layers as u64;
+    words[1] = h.shape.layers as u64;
+    words[2] = h.shape.elephant_layers as u64;
+    words[3] = h.shape.elephant_rows as u64;
+    words[4] = h.shape.elephant_cols as u64;
+    words[5] = h.shape.mouse_rows as u64;
+    words[6] = h.shape.mouse_cols as u64;
     words[WEIGHT] = h.totals.weight;
     words[UPDATES] = h.totals.updates;
     words[MODE] = number_of(mode);
@@ -79,9 +82,12 @@ pub fn header_of(xs: &[u64], at: usize) -> Header {
     }
     let shape = Shape {
         heap_size: get(xs, at, 0) as usize,
-        rows: get(xs, at, 1) as usize,
-        cols: get(xs, at, 2) as usize,
-        layers: get(xs, at, 3) as usize,
+        layers: get(xs, at, 1) as usize,
+        elephant_layers: get(xs, at, 2) as usize,
+        elephant_rows: get(xs, at, 3) as usize,
+        elephant_cols: get(xs, at, 4) as usize,
+        mouse_rows: get(xs, at, 5) as usize,
+        mouse_cols: get(xs, at, 6) as usize,
     };
     Header {
         shape,

@@ -1,6 +1,6 @@
 // Runs stored calls on whole states and prints what they answer and leave: `stdout` holds what the oracle
 // and, where it cannot be asked, the definitions of oracle/model.py say. A line of `stdin` is an operation,
-// the number of its words, and the words. Operations 1 to 9 change the relay at work.
+// the number of its words, and the words. Operations 1 to 9 and 19 change the relay at work.
 mod asked;
 mod changes;
 mod digest;
@@ -93,6 +93,7 @@ fn turn(call: Call, shelf: &mut [u64]) {
         16 => asked::shape(call),
         17 => asked::bottom(call),
         18 => vectors::print_flag(asked::ask(op, &*shelf)),
+        20 => asked::two_tier_shape(call),
         _ => changes::run(call, shelf),
     }
 }

@@ -21,8 +21,9 @@ use Rattle.heap_moves.specs.Cands.{up, down, updateAt, leftOr, lower}
 use Rattle.heap_moves.specs.Flat.{candsOf, entriesOf}
 use Rattle.heap.specs.Offer.{find, rescore, replaceRoot, displace, seat, offer}
 use Rattle.header.specs.Header.{freshHeader, lensFrom, headerOk}
-use Rattle.header.specs.Shape.{shapeRefusal, bottomFrom, bottomOf}
+use Rattle.header.specs.Shape.{twoTier, shapeRefusal, bottomFrom, bottomOf}
 use Rattle.header.specs.declared.Shape.{Shape}
+use Rattle.header.specs.OneTier.{oneTier}
 use Rattle.layer.specs.Layer.{addSketch, addLayer, addReads, addFits}
 use Rattle.layer.specs.Merge.{hasKey, firsts, items, offerAll, mergeLayer, mergeReads, mergeFits}
 use Rattle.layout.specs.Slices.{lengthsOk, view, flat, freshLent}
@@ -43,7 +44,11 @@ use Rattle.shared_streams.specs.Relays.{feedOf, Relay, Call, run, accept
 use Rattle.shared_streams.specs.Ledger.{Account, feedNumber, joinNumber, listNumber, answeredWith, joinedWith, booked, ledger, books}
 
 abbrev shape : Shape
-shape = record { «heap_size» = 2; rows = 2; cols = 4; layers = 2 }
+shape = oneTier 2 2 4 2
+
+-- wide on top: layer 0 has 2 rows of 4 columns, layer 1 one row of 2
+abbrev wideTop : Shape
+wideTop = twoTier 2 1 2 4 1 2 2
 
 abbrev high : ℕ
 high = 0x8000000000000000
@@ -85,17 +90,23 @@ shortLists =
     feed 0 (feedOf kind.Standard recordB (pos 1) four) ∷ feed 2 (feedOf kind.Standard recordA (pos 1) four) ∷ feed 2 (feedOf kind.Standard recordB (pos 1) (replicate 3 0)) ∷ join 2 0 (replicate 15 0) ∷ []
 
 -- of relay 2 of three: its updates by the book and by the header, their weight and distinct keys, all accepted updates, and the cardinality as it is answered
-abbrev said : List Call → List ℕ
-said cs =
-    let r : Relay = relayAt shape (run shape (start shape 3) cs) 2 in
-    length (r .book) ∷ r .lends .head .totals .updates ∷ weightOf (r .book) ∷ distinct (bookKeys (r .book)) ∷ length (accepted shape (start shape 3) cs) ∷ cardinalityCall (r .lends) .refusal
+abbrev said : Shape → List Call → List ℕ
+said sh cs =
+    let r : Relay = relayAt sh (run sh (start sh 3) cs) 2 in
+    length (r .book) ∷ r .lends .head .totals .updates ∷ weightOf (r .book) ∷ distinct (bookKeys (r .book)) ∷ length (accepted sh (start sh 3) cs) ∷ cardinalityCall (r .lends) .refusal
     ∷ toBits binary64 (cardinalityCall (r .lends) .value) ∷ []
 
-pub examples : map said (standards ∷ terminals ∷ twoRecords ∷ twoHashes ∷ shortLists ∷ [])
+pub examples : map (said shape) (standards ∷ terminals ∷ twoRecords ∷ twoHashes ∷ shortLists ∷ [])
     ≡ (3 ∷ 3 ∷ 8 ∷ 2 ∷ 3 ∷ 0 ∷ 0x4000000000000000 ∷ []) ∷ (3 ∷ 3 ∷ 0 ∷ 2 ∷ 3 ∷ 0 ∷ 0x4000000000000000 ∷ []) ∷ (2 ∷ 2 ∷ 2 ∷ 1 ∷ 2 ∷ 0 ∷ 0x4008000000000000 ∷ [])
     ∷ (2 ∷ 2 ∷ 2 ∷ 1 ∷ 2 ∷ 0 ∷ 0x3FF0000000000000 ∷ []) ∷ (1 ∷ 1 ∷ 1 ∷ 1 ∷ 2 ∷ 0 ∷ 0x3FF0000000000000 ∷ []) ∷ []
 unfolding ofInt ofBits toBits add sub mul div le inRange capped allIn log2In log2 maskBits hashOf column signed insertBy sortBy middleF median middle estimates estimateF estimateOf cellsInRange sums sumBelow squaresFrom rowNorms normsOf wordsOf addCell addRows rowsRead rowsFit up down updateAt leftOr lower candsOf entriesOf find rescore replaceRoot displace seat offer freshHeader lensFrom headerOk shapeRefusal bottomFrom bottomOf addSketch addLayer addReads addFits hasKey firsts items offerAll mergeLayer mergeReads mergeFits updateCall updateListCall lengthsOk view flat freshLent rowsAt colsAt cellOff normOff candOff layerAt putLayer overLayers allLayers updateTests updated mergeTests merged mergeCall mergeListCall called feeds.run gSum standardSum gOf factor counted addTerm sumOver sumCall ownAt gSumOf itemsRead layerReads weightOf distinct feeds.accepted normRead root l2Squared l2Of normsInRange heavyThreshold gatherOne gatherEntries ahead rankIn ranked gathered flagged complete squares terminalSum
 examples = refl
+
+-- the same of a shape of two tiers: books, answers and cardinality are what they were
+pub wide-examples : map (said wideTop) (standards ∷ terminals ∷ [])
+    ≡ (3 ∷ 3 ∷ 8 ∷ 2 ∷ 3 ∷ 0 ∷ 0x4000000000000000 ∷ []) ∷ (3 ∷ 3 ∷ 0 ∷ 2 ∷ 3 ∷ 0 ∷ 0x4000000000000000 ∷ []) ∷ []
+unfolding ofInt ofBits toBits add sub mul div le inRange capped allIn log2In log2 maskBits hashOf column signed insertBy sortBy middleF median middle estimates estimateF estimateOf cellsInRange sums sumBelow squaresFrom rowNorms normsOf wordsOf addCell addRows rowsRead rowsFit up down updateAt leftOr lower candsOf entriesOf find rescore replaceRoot displace seat offer freshHeader lensFrom headerOk shapeRefusal bottomFrom bottomOf addSketch addLayer addReads addFits hasKey firsts items offerAll mergeLayer mergeReads mergeFits updateCall updateListCall lengthsOk view flat freshLent rowsAt colsAt cellOff normOff candOff layerAt putLayer overLayers allLayers updateTests updated mergeTests merged mergeCall mergeListCall called feeds.run gSum standardSum gOf factor counted addTerm sumOver sumCall ownAt gSumOf itemsRead layerReads weightOf distinct feeds.accepted normRead root l2Squared l2Of normsInRange heavyThreshold gatherOne gatherEntries ahead rankIn ranked gathered flagged complete squares terminalSum
+wide-examples = refl
 
 -- from the list alone: who is retired, how many updates each book has, and what lists that are short by one word are answered with
 pub from-the-list : (map (λ (a : Account). a .retired) (books shape 3 standards) ≡ true ∷ true ∷ false ∷ []) × (map (λ (a : Account). length (a .book)) (books shape 3 standards) ≡ 2 ∷ 1 ∷ 3 ∷ [])

@@ -181,11 +181,11 @@ module _ (sh : Shape) (v : shapeRefusal sh ≡ 0) (n : ℕ) (calls : List Call) 
   b = relayAt sh (run sh (start sh n) calls) j .book
 
   one : OneMode (a ++ b)
-  one f g m k = p .mode f g (among f (List·Memᴰ·append-cases a m)) (among g (List·Memᴰ·append-cases a k))
+  one f g m k = p .mode f g (was-accepted f (List·Memᴰ·append-cases a m)) (was-accepted g (List·Memᴰ·append-cases a k))
     where
-      among : (z : Update) → Among z a ⊎ Among z b → Among z (accepted sh (start sh n) calls)
-      among z (inl q) = all-at (λ u. Among u all) a (x .all) z q
-      among z (inr q) = all-at (λ u. Among u all) b (y .all) z q
+      was-accepted : (z : Update) → Among z a ⊎ Among z b → Among z (accepted sh (start sh n) calls)
+      was-accepted z (inl q) = all-at (λ u. Among u all) a (x .all) z q
+      was-accepted z (inr q) = all-at (λ u. Among u all) b (y .all) z q
 
   within : Within (addTotals (totalsOf a) (totalsOf b))
   within =

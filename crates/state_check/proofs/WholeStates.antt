@@ -1,5 +1,5 @@
 -- What the check asks of a state, as facts instead of tests, and layers that are replaced. Assumes nothing.
-use mathlib.Core.Path.{_≡_, sym, ap, _∙_, subst}
+use mathlib.Core.Path.{_≡_, refl, sym, ap, _∙_, subst}
 use mathlib.Core.Bool.{Bool, true, false, not, _&&_}
 use Prim.Native.Nat.{ℕ, _+_, _≤_, _<_}
 use native.Mathlib.Omega.{arith}
@@ -31,7 +31,7 @@ use Rattle.layout.specs.inner.Needs.{Standing}
 use Rattle.layout.proofs.States as univmon
 use Rattle.layout.proofs.Lengths.{standing-of, long-view}
 use Rattle.layout.proofs.States.{layers-step, layers-none}
-use Rattle.layout.proofs.Replaced.{Sized, Over, over}
+use Rattle.layout.proofs.Replaced.{Sized, Over, over, head-sized}
 use Rattle.layout.proofs.Flatten.{view-flat, flat-lengths}
 use Rattle.layout.proofs.Offsets.{shaped-at}
 use Rattle.state_check.specs.Check.{layerOk, layersOk, stateOk}
@@ -197,7 +197,7 @@ pub head-whole : (s : State) (t : Totals) (m : Mode) → WholeState s → Within
 unfolding layerAt
 head-whole s t m w h =
     record {
-      sized = record { counters = w .sized .counters; norms = w .sized .norms; cands = w .sized .cands; flags = w .sized .flags; lens = w .sized .lens; few = w .sized .few };
+      sized = head-sized s (w .sized) (withMode (withTotals (s .head) t) m) refl (w .sized .flags) (w .sized .lens);
       shape = w .shape;
       totals = h;
       pastLens = w .pastLens;
@@ -209,7 +209,7 @@ pub flags-whole : (s : State) (fs : List Bool) → WholeState s → length fs �
 unfolding layerAt
 flags-whole s fs w h p =
     record {
-      sized = record { counters = w .sized .counters; norms = w .sized .norms; cands = w .sized .cands; flags = h; lens = w .sized .lens; few = w .sized .few };
+      sized = head-sized s (w .sized) (withFlags (s .head) fs) refl h (w .sized .lens);
       shape = w .shape;
       totals = w .totals;
       pastLens = w .pastLens;

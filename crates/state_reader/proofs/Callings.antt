@@ -12,15 +12,18 @@ use Rattle.text.specs.Decimals.{Word}
 use Rattle.header.specs.declared.Shape.{Shape}
 use Rattle.header.specs.declared.Header.{Header}
 use Rattle.header.specs.Shape.{maxLayers, shapeRefusal}
+use Rattle.header.specs.OneTier.{OneTiered}
 use Rattle.header.specs.Header.{freshHeader}
 use Rattle.header.proofs.Refusals.{accepted-of}
+use Rattle.layer.specs.declared.Dims.{Dims}
 use Rattle.layer.specs.inner.Needs.{Fits}
-use Rattle.layout.specs.State.{State, dimsAt, rowsAt, colsAt, overLayers, newState, withHead}
+use Rattle.layout.specs.State.{State, dimsAt, overLayers, newState, withHead}
 use Rattle.layout.specs.Slices.{Lent, lent, lengthsOk, view, flat}
 use Rattle.layout.specs.inner.Needs.{Standing}
 use Rattle.layout.proofs.Flatten.{lent-is}
+use Rattle.layout.proofs.OneTier.{dims-alike}
 use Rattle.layout.proofs.Lengths.{sizes-of, long-view}
-use Rattle.layout.proofs.Replaced.{Sized, Over, over}
+use Rattle.layout.proofs.Replaced.{Sized, Over, over, head-sized}
 use Rattle.state_check.proofs.KeptStates.{new-whole}
 use Rattle.state_forms.specs.Formats.{Got, got, bad, thenRead}
 use Rattle.state_forms.specs.Grammar.{Page, Frame, pageFormat, pagesR, firstFormat, headFormat}
@@ -118,21 +121,18 @@ module _ (sh : Shape) (v : shapeRefusal sh ≡ 0) (hd : ℕ × (ℕ × ℕ)) whe
 
   base-sized : Sized (withHead (newState sh) head-by)
   unfolding newState freshHeader
-  base-sized = let z = new-whole sh v .sized in record { counters = z .counters; norms = z .norms; cands = z .cands; flags = z .flags; lens = z .lens; few = z .few }
+  base-sized = let z = new-whole sh v .sized in head-sized (newState sh) z head-by refl (z .flags) (z .lens)
 
   lent-sized : (xs : List ℤ) (ws es : List ℕ) (ns : List ℤ) → Standing (lent head-by xs ws es ns) → Sized (view (lent head-by xs ws es ns))
   unfolding newState freshHeader view
   lent-sized xs ws es ns y = let z = new-whole sh v .sized in let g = long-view (lent head-by xs ws es ns) y in record { counters = g .counters; norms = g .norms; cands = g .cands; flags = z .flags; lens = z .lens; few = z .few }
 
-  module _ (ps : List Page) (fits : (i : ℕ) → i < sh .layers → pageFormat (frameOf (dimsOf sh)) 0 .In (getD ps i noPage)) where
+  module _ (o : OneTiered sh) (ps : List Page) (fits : (i : ℕ) → i < sh .layers → pageFormat (frameOf (dimsOf sh)) 0 .In (getD ps i noPage)) where
     over-any : (s : State) → Sized s → s .head ≡ head-by → Over (each sh ps) (sh .layers) 0 s (overLayers (each sh ps) (sh .layers) 0 s)
-    unfolding freshHeader rowsAt colsAt
+    unfolding freshHeader
     over-any s z e =
         let k : s .head .shape ≡ sh = ap (λ (h : Header). h .shape) e in
-        over (each sh ps) (sh .layers) 0 s z (omega (arith, ap (λ (x : Shape). x .layers) k)) (λ i p q. subst (λ (x : Shape). Fits-of x i) (sym k) (page-whole (dimsOf sh) 0 (getD ps i noPage) (fits i (omega arith)) .fits))
-      where
-        Fits-of : Shape → ℕ → Type 0
-        Fits-of x i = Fits (dimsAt x i) (layerFrom (dimsOf sh) (getD ps i noPage))
+        over (each sh ps) (sh .layers) 0 s z (omega (arith, ap (λ (x : Shape). x .layers) k)) (λ i p q. subst (λ (x : Dims). Fits x (layerFrom (dimsOf sh) (getD ps i noPage))) (sym (ap (λ (x : Shape). dimsAt x i) k ∙ dims-alike sh o i)) (page-whole (dimsOf sh) 0 (getD ps i noPage) (fits i (omega arith)) .fits))
 
     -- whatever stood in the slices: each layer is replaced
     pub state-is : (xs : List ℤ) (ws es : List ℕ) (ns : List ℤ) → Standing (lent head-by xs ws es ns)
@@ -155,17 +155,17 @@ module _ (sh : Shape) (v : shapeRefusal sh ≡ 0) (hd : ℕ × (ℕ × ℕ)) whe
         })
 
 -- the slices after an accepted reading
-module _ (sh : Shape) (v : shapeRefusal sh ≡ 0) (hd : ℕ × (ℕ × ℕ)) (ps : List Page) (s : List ℕ) (e : pagesR (frameOf (dimsOf sh)) 0 (sh .layers) s ≡ got ps []) where
+module _ (sh : Shape) (o : OneTiered sh) (v : shapeRefusal sh ≡ 0) (hd : ℕ × (ℕ × ℕ)) (ps : List Page) (s : List ℕ) (e : pagesR (frameOf (dimsOf sh)) 0 (sh .layers) s ≡ got ps []) where
   pages-fit : (i : ℕ) → i < sh .layers → pageFormat (frameOf (dimsOf sh)) 0 .In (getD ps i noPage)
   pages-fit i h =
       let a = small sh (accepted-of sh v) in
       let z : Word (0 + sh .layers) = omega (arith, a .1 .1 .0) in
-      let o = pages-exact (frameOf (dimsOf sh)) (a .0) (a .1 .0) 0 (sh .layers) z .sound s ps [] e in
-      pages-at (frameOf (dimsOf sh)) 0 ps (o .0 .1) i (omega (arith, h, o .0 .0))
+      let x = pages-exact (frameOf (dimsOf sh)) (a .0) (a .1 .0) 0 (sh .layers) z .sound s ps [] e in
+      pages-at (frameOf (dimsOf sh)) 0 ps (x .0 .1) i (omega (arith, h, x .0 .0))
 
   pub lends-are : (xs : List ℤ) (ws es : List ℕ) (ns : List ℤ) (r : Lent)
       → Standing (lent (head-by sh v hd) xs ws es ns)
       → view r ≡ overLayers (each sh ps) (sh .layers) 0 (view (lent (head-by sh v hd) xs ws es ns))
       → Standing r → ((k : ℕ) → getD (r .norms) k 0 < wordSize) → r ≡ flat (stateFrom sh (hd, ps))
   unfolding stateFrom newState
-  lends-are xs ws es ns r y g z k = lent-is r (stateFrom sh (hd, ps)) z k (g ∙ state-is sh v hd ps pages-fit xs ws es ns y)
+  lends-are xs ws es ns r y g z k = lent-is r (stateFrom sh (hd, ps)) z k (g ∙ state-is sh v hd o ps pages-fit xs ws es ns y)

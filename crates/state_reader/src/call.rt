@@ -43,12 +43,7 @@ pub fn read_state(
     let FirstLine::At(heap, rows, cols, layers, p) = x else {
         return refused(15);
     };
-    let shape = Shape {
-        heap_size: heap as usize,
-        rows: rows as usize,
-        cols: cols as usize,
-        layers: layers as usize,
-    };
+    let shape = Shape::one_tier(heap as usize, rows as usize, cols as usize, layers as usize);
     let n = shape.refusal();
     if n != 0 {
         return refused(n);

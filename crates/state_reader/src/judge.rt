@@ -52,8 +52,8 @@ pub fn judge_layers(s: &[u8], at: usize, shape: Shape) -> Next
     let mut words = [0u64; 4 * Shape::MAX_HEAP_SIZE];
     let mut seats = [0i64; Shape::MAX_HEAP_SIZE];
     let dims = Dims {
-        rows: shape.rows,
-        cols: shape.cols,
+        rows: shape.mouse_rows,
+        cols: shape.mouse_cols,
         size: shape.heap_size,
     };
     let layers = shape.layers;

@@ -8,6 +8,7 @@ ghost use mathlib.Core.Path.{_≡_};
 ghost use mathlib.Core.List.{List};
 ghost use Prim.Native.Nat.{ℕ, _<_};
 ghost use lib.ListN.{drop, getD};
+ghost use Rattle.header.specs.OneTier.{OneTiered};
 ghost use Rattle.layout.specs.State.{putLayer, overLayers};
 ghost use Rattle.layout.specs.Slices.{view};
 ghost use Rattle.layout.specs.inner.Needs.{Standing};
@@ -34,6 +35,7 @@ fn keep_layer(
     counts: &mut [i64],
     l: usize,
 ) -> Kept
+    requires { ⌜ OneTiered (h .shape) ⌝ }
     requires { ⌜ Standing (lentNow h counters norms entries counts) ⌝ }
     requires { ⌜ l < h .shape .layers ⌝ }
     requires { ⌜ Legible (pageFormat (frameOf (dimsOf (h .shape))) l .read (drop at (now s))) ⌝ }
@@ -83,6 +85,7 @@ pub fn keep_layers(
     entries: &mut [u64],
     counts: &mut [i64],
 ) -> Header
+    requires { ⌜ OneTiered (h .shape) ⌝ }
     requires { ⌜ Standing (lentNow h counters norms entries counts) ⌝ }
     requires { ⌜ Legible (pagesR (frameOf (dimsOf (h .shape))) 0 (h .shape .layers) (drop at (now s))) ⌝ }
     ensures { λ r. ⌜ ((ps : List Page) (t : List ℕ) → pagesR (frameOf (dimsOf (h .shape))) 0 (h .shape .layers) (drop at (now (s .entry))) ≡ got ps t

@@ -142,7 +142,7 @@ module _ (r : Lent) (z : Standing r) where
   unfolding layerAt view
   layer-most l h =
       let y = layerAt (view r) l in
-      page-most (frameOf d) l (d .rows) (d .cols) (y .table .len) (y .flag) (y .sketch .cells) (y .table .cands) (z .accepted .shaped .few) (omega (arith, z .accepted .shaped .wide)) (omega (arith, z .lens l h, z .accepted .small))
+      page-most (frameOf d) l (d .rows) (d .cols) (y .table .len) (y .flag) (y .sketch .cells) (y .table .cands) (z .accepted .mouse .few) (omega (arith, z .accepted .mouse .wide)) (omega (arith, z .lens l h, z .accepted .small))
       (omega (arith, page-parts (frameOf d) l (pageOf d y), flag-most l (y .flag), rows-most l (d .rows) (d .cols) (y .sketch .cells), keys-most l (take (y .table .len) (y .table .cands))))
 
   layers-most : (n l : ℕ) → l + n ≤ r .head .shape .layers → length (pagesText (frameOf d) l (pagesOf (view r) n l)) ≤ n * 100000000

@@ -1,5 +1,5 @@
 -- The state of a text that was read: it is whole, and its text is the one that was read. Assumes nothing.
-use mathlib.Core.Path.{_≡_, refl, sym, ap, _∙_}
+use mathlib.Core.Path.{_≡_, refl, sym, ap, subst, _∙_}
 use mathlib.Core.List.{List, [], _∷_}
 use Prim.Native.Nat.{ℕ, zero, suc, _+_, _≤_, _<_}
 use native.Mathlib.Omega.{arith}
@@ -8,11 +8,14 @@ use borrow.Author.Tests.{leb-true}
 use Rattle.words.specs.Num.{top}
 use Rattle.header.specs.declared.Shape.{Shape}
 use Rattle.header.specs.Shape.{shapeRefusal}
+use Rattle.header.specs.OneTier.{OneTiered}
 use Rattle.header.specs.Header.{freshHeader, modeNumber, modeBy}
 use Rattle.header.proofs.Bounds.{Within}
 use Rattle.header.proofs.Modes.{number-back}
+use Rattle.layer.specs.declared.Dims.{Dims}
 use Rattle.layer.specs.Layer.{Layer}
-use Rattle.layout.specs.State.{State, shapeOf, rowsAt, colsAt, layerAt, newState, withHead}
+use Rattle.layout.specs.State.{State, shapeOf, dimsAt, layerAt, newState, withHead}
+use Rattle.layout.proofs.OneTier.{dims-alike}
 use Rattle.layout.proofs.Replaced.{Over, over}
 use Rattle.state_check.proofs.Whole.{Whole}
 use Rattle.state_check.proofs.WholeStates.{WholeState, over-whole, head-whole}
@@ -62,7 +65,7 @@ pages-are s (suc k) l (p ∷ ps) e h =
 abbrev pub each : Shape → List Page → ℕ → Layer → Layer
 each sh ps l y = layerFrom (dimsOf sh) (getD ps l noPage)
 
-module _ (sh : Shape) (v : shapeRefusal sh ≡ 0) (d : Others) (i : othersFormat (frameOf (dimsOf sh)) (sh .layers) .In d) where
+module _ (sh : Shape) (o : OneTiered sh) (v : shapeRefusal sh ≡ 0) (d : Others) (i : othersFormat (frameOf (dimsOf sh)) (sh .layers) .In d) where
   base : State
   base = withHead (newState sh) (headFrom (newState sh .head) (d .0))
 
@@ -79,13 +82,17 @@ module _ (sh : Shape) (v : shapeRefusal sh ≡ 0) (d : Others) (i : othersFormat
   layer-of : (m : ℕ) → m < sh .layers → Whole (dimsOf sh) (layerFrom (dimsOf sh) (getD (d .1) m noPage))
   layer-of m h = page-whole (dimsOf sh) 0 (getD (d .1) m noPage) (page-of m h)
 
+  -- a layer of the shape has these dimensions
+  layer-in : (m : ℕ) → m < sh .layers → Whole (dimsAt sh m) (layerFrom (dimsOf sh) (getD (d .1) m noPage))
+  layer-in m h = subst (λ (q : Dims). Whole q (layerFrom (dimsOf sh) (getD (d .1) m noPage))) (sym (dims-alike sh o m)) (layer-of m h)
+
   built-over : Over (each sh (d .1)) (sh .layers) 0 base (stateFrom sh d)
-  unfolding base stateFrom newState freshHeader rowsAt colsAt
-  built-over = over (each sh (d .1)) (sh .layers) 0 base (base-whole .sized) (omega arith) (λ m p q. layer-of m (omega arith) .fits)
+  unfolding base stateFrom newState freshHeader
+  built-over = over (each sh (d .1)) (sh .layers) 0 base (base-whole .sized) (omega arith) (λ m p q. layer-in m (omega arith) .fits)
 
   pub built-whole : WholeState (stateFrom sh d)
-  unfolding base stateFrom newState freshHeader rowsAt colsAt
-  built-whole = over-whole (each sh (d .1)) (sh .layers) 0 base base-whole (omega arith) (λ m p q x. layer-of m (omega arith))
+  unfolding base stateFrom newState freshHeader
+  built-whole = over-whole (each sh (d .1)) (sh .layers) 0 base base-whole (omega arith) (λ m p q x. layer-in m (omega arith))
 
   pub built-shape : stateFrom sh d .head .shape ≡ sh
   unfolding base newState freshHeader

@@ -10,12 +10,14 @@ use borrow.Author.Tests.{lt-ltb, le-ltb}
 use Rattle.layer.specs.declared.Dims.{Dims}
 use Rattle.words.specs.Parts.{part}
 use Rattle.heap_moves.specs.Cands.{mostCands}
+use Rattle.header.specs.OneTier.{OneTiered, isOneTier}
 use Rattle.header.specs.Header.{modeNumber}
 use Rattle.layer.specs.Layer.{Layer}
-use Rattle.layout.specs.State.{State, shapeOf, rowsAt, colsAt, candOff, layerAt}
+use Rattle.layout.specs.State.{State, shapeOf, candOff, layerAt}
 use Rattle.layout.specs.inner.Needs.{Standing}
 use Rattle.layout.proofs.Views.{layerHere, layer-view, housed-here}
 use Rattle.layout.proofs.Pieces.{words-long}
+use Rattle.layout.proofs.OneTier.{dims-alike}
 use Rattle.layout.specs.Slices.{Lent, view}
 use Rattle.state_check.specs.Check.{stateOk}
 use Rattle.state_forms.specs.Grammar.{Frame, pageText, pageFormat, pagesText, firstFormat, headFormat}
@@ -23,7 +25,7 @@ use Rattle.state_forms.specs.Whole.{docText}
 use Rattle.state_forms.specs.inner.Laying.{TextRoom, LaidText}
 use Rattle.state_forms.proofs.Layings.{three-long}
 use Rattle.state_text.specs.Pages.{pageOf, frameOf, dimsOf, firstOf, pagesOf, othersOf, textOf}
-use Rattle.state_text.specs.Calls.{copied, notCopied, writeCall}
+use Rattle.state_text.specs.Calls.{copied, notCopied, hasText, writeCall}
 
 -- a layer's text by its parts
 pub page-text : (d : Dims) (l : ℕ) (y : Layer) → pageText l (y .flag) (d .rows) (d .cols) (y .sketch .cells) (take (y .table .len) (y .table .cands)) ≡ pageFormat (frameOf d) l .write (pageOf d y)
@@ -63,11 +65,15 @@ module _ (r : Lent) (l : List ℕ) where
   unfolding writeCall
   fails e = sym (rw e)
 
-  pub short : (n : ℕ) → stateOk r ≡ true → n ≡ 0 + length (textOf (view r)) → length l < n → notCopied 16 l ≡ writeCall r l
+  pub two-tiers : stateOk r ≡ true → isOneTier (r .head .shape) ≡ false → notCopied 9 l ≡ writeCall r l
+  unfolding writeCall
+  two-tiers e t = sym (rw (e, t))
+
+  pub short : (n : ℕ) → hasText r ≡ true → n ≡ 0 + length (textOf (view r)) → length l < n → notCopied 16 l ≡ writeCall r l
   unfolding writeCall
   short n e q k = let m : length l < length (textOf (view r)) = omega arith in sym (rw (e, lt-ltb (length l) (length (textOf (view r))) m))
 
-  pub done : (n k : ℕ) (o : List ℕ) → stateOk r ≡ true → n ≡ 0 + length (textOf (view r)) → n ≤ length l → LaidText l 0 (textOf (view r)) o k → copied (record { refusal = 0; bytes = k }) o ≡ writeCall r l
+  pub done : (n k : ℕ) (o : List ℕ) → hasText r ≡ true → n ≡ 0 + length (textOf (view r)) → n ≤ length l → LaidText l 0 (textOf (view r)) o k → copied (record { refusal = 0; bytes = k }) o ≡ writeCall r l
   unfolding writeCall
   done n k o e q m x =
       let b : length (textOf (view r)) ≤ length l = omega arith in
@@ -80,7 +86,7 @@ module _ (r : Lent) (z : Standing r) (l : ℕ) (h : l < r .head .shape .layers) 
   abbrev pub textHere : List ℕ
   textHere =
       let y = layerHere r l in
-      pageText l (y .flag) (r .head .shape .rows) (r .head .shape .cols) (y .sketch .cells) (take (y .table .len) (y .table .cands))
+      pageText l (y .flag) (r .head .shape .«mouse_rows») (r .head .shape .«mouse_cols») (y .sketch .cells) (take (y .table .len) (y .table .cands))
 
   pub layer-text : textHere ≡ pageFormat (frameOf (dimsOf (r .head .shape))) l .write (pageOf (dimsOf (r .head .shape)) (layerAt (view r) l))
   layer-text =
@@ -88,13 +94,12 @@ module _ (r : Lent) (z : Standing r) (l : ℕ) (h : l < r .head .shape .layers) 
       ∙ sym (ap (λ (y : Layer). pageFormat (frameOf (dimsOf (r .head .shape))) l .write (pageOf (dimsOf (r .head .shape)) y)) (layer-view r (z .sizes) l h))
 
   -- what laying its page asks
-  pub layer-ready : (at : ℕ) → TextRoom at (pageFormat (frameOf (dimsOf (r .head .shape))) l .write (pageOf (dimsOf (r .head .shape)) (layerAt (view r) l)))
-      → (length (layerHere r l .sketch .cells) ≡ r .head .shape .rows * r .head .shape .cols)
+  pub layer-ready : (at : ℕ) → OneTiered (r .head .shape) → TextRoom at (pageFormat (frameOf (dimsOf (r .head .shape))) l .write (pageOf (dimsOf (r .head .shape)) (layerAt (view r) l)))
+      → (length (layerHere r l .sketch .cells) ≡ r .head .shape .«mouse_rows» * r .head .shape .«mouse_cols»)
       × (((getD (r .head .lens) l 0 ≤ length (part (candOff (r .head .shape) l) (r .head .shape .«heap_size») (r .counts)))
       × (4 * getD (r .head .lens) l 0 ≤ length (part (4 * candOff (r .head .shape) l) (4 * r .head .shape .«heap_size») (r .entries))))
       × ((getD (r .head .lens) l 0 ≤ mostCands) × TextRoom at textHere))
-  unfolding rowsAt colsAt
-  layer-ready at m =
+  layer-ready at o m =
       let y = housed-here r z l h in
       let w = words-long (r .head .shape) l h (r .entries) (z .sizes .entries) in
-      (y .cells, ((omega (arith, y .seats, y .used), omega (arith, w, y .used)), (omega (arith, y .used, y .few), subst (TextRoom at) (sym layer-text) m)))
+      (y .cells ∙ ap (λ (d : Dims). d .rows * d .cols) (dims-alike (r .head .shape) o l), ((omega (arith, y .seats, y .used), omega (arith, w, y .used)), (omega (arith, y .used, y .few), subst (TextRoom at) (sym layer-text) m)))

@@ -1,12 +1,13 @@
 -- The two calls: writing a state, and reading one.
 use Prim.Native.Nat.{ℕ}
-use mathlib.Core.Bool.{cond, not}
+use mathlib.Core.Bool.{Bool, cond, not, _&&_}
 use mathlib.Core.List.{List}
 use lib.ListN.{length}
 use lib.Seq.{sets}
 use lib.Dec.{eqb, ltb}
 use Rattle.header.specs.declared.Shape.{Shape}
 use Rattle.header.specs.Shape.{shapeRefusal}
+use Rattle.header.specs.OneTier.{isOneTier}
 use Rattle.header.specs.Header.{zeroHeader}
 use Rattle.layout.specs.Slices.{Lent, lent, lengthsOk, view, flat}
 use Rattle.layout.specs.Outcomes.{Left, left}
@@ -31,10 +32,14 @@ copied a o = record { answer = a; out = o }
 abbrev pub notCopied : ℕ → List ℕ → Copied
 notCopied n o = copied (record { refusal = n; bytes = 0 }) o
 
+-- a state that has a text: it passes the check, and has one tier
+abbrev pub hasText : Lent → Bool
+hasText r = stateOk r && isOneTier (r .head .shape)
+
 -- "The writer gives 9, then 16"
 unfoldable pub writeCall : Lent → List ℕ → Copied
 writeCall r out =
-    cond (not (stateOk r)) (notCopied 9 out)
+    cond (not (hasText r)) (notCopied 9 out)
     (cond (ltb (length out) (length (textOf (view r)))) (notCopied 16 out)
     (copied (record { refusal = 0; bytes = length (textOf (view r)) }) (sets out 0 (textOf (view r)))))
 

@@ -7,6 +7,7 @@ use Rattle.countsketch_l2_norm.specs.Merge.{rowNorms}
 use Rattle.heap_moves.specs.Cands.{Cand, noCand}
 use Rattle.heap.specs.Offer.{Table}
 use Rattle.header.specs.declared.Shape.{Shape}
+use Rattle.header.specs.OneTier.{oneTier}
 use Rattle.header.specs.declared.Header.{Header}
 use Rattle.header.specs.Header.{withTotals, withMode, modeNumber, modeBy}
 use Rattle.layer.specs.declared.Dims.{Dims}
@@ -40,15 +41,15 @@ frameOf d = record { size = d .size; rows = d .rows; cols = d .cols; test = λ c
 
 -- ---- a state
 
+-- a text is of a state with one tier ("Text, panel, later calls and later claims keep to one tier", 02, W4): every layer has the shape's rows and columns
 abbrev pub firstOf : Shape → First
-firstOf sh = (sh .«heap_size», (sh .rows, (sh .cols, sh .layers)))
+firstOf sh = (sh .«heap_size», (sh .«mouse_rows», (sh .«mouse_cols», sh .layers)))
 
 abbrev pub shapeFrom : First → Shape
-shapeFrom f = record { «heap_size» = f .0; rows = f .1 .0; cols = f .1 .1 .0; layers = f .1 .1 .1 }
+shapeFrom f = oneTier (f .0) (f .1 .0) (f .1 .1 .0) (f .1 .1 .1)
 
--- every layer has the shape's rows and columns: a text is of a state with one tier
 abbrev pub dimsOf : Shape → Dims
-dimsOf sh = record { rows = sh .rows; cols = sh .cols; size = sh .«heap_size» }
+dimsOf sh = record { rows = sh .«mouse_rows»; cols = sh .«mouse_cols»; size = sh .«heap_size» }
 
 -- k layers from layer l on
 unfoldable pub pagesOf : State → ℕ → ℕ → List Page

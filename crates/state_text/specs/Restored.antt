@@ -6,6 +6,7 @@ use Prim.Native.Nat.{ℕ, _≤_, _<_}
 use lib.ListN.{length, getD, take}
 use lib.Seq.{sets}
 use Rattle.words.specs.Num.{wordSize}
+use Rattle.header.specs.OneTier.{OneTiered}
 use Rattle.layout.specs.Slices.{Lent, lengthsOk, view}
 use Rattle.layout.specs.Outcomes.{left}
 use Rattle.state_check.specs.Reached.{Passing}
@@ -17,8 +18,9 @@ pub record Words (r : Lent) : Type 0 where
   pub norms : (k : ℕ) → getD (r .norms) k 0 < wordSize
   pub entries : (k : ℕ) → getD (r .entries) k 0 < wordSize
 
--- a state that passes the check, in a header and words as the code holds them
+-- a state of one tier that passes the check, in a header and words as the code holds them
 pub record Checked (r : Lent) : Type 0 where
+  pub tier : OneTiered (r .head .shape)
   pub passing : Passing r
   pub words : Words r
 
@@ -30,8 +32,9 @@ SameLengths r q = lengthsOk (r .head .shape) (length (q .counters)) (length (q .
 abbrev pub RestoredExactly : Type 0
 RestoredExactly = (r q : Lent) → Checked r → SameLengths r q → readCall (textOf (view r)) q ≡ left 0 r
 
--- what was read passes the check, and the text is that which the writer gives for it
+-- what was read has one tier and passes the check, and the text is that which the writer gives for it
 pub record WrittenFor (t : List ℕ) (r : Lent) : Type 0 where
+  pub tier : OneTiered (r .head .shape)
   pub passing : Passing r
   pub text : textOf (view r) ≡ t
 

@@ -7,6 +7,7 @@ use state_forms::lay::lay_number;
 use state_forms::lay::lay_word;
 ghost use mathlib.Core.Path.{_≡_};
 ghost use Prim.Native.Nat.{ℕ, _+_, _<_};
+ghost use Rattle.header.specs.OneTier.{OneTiered};
 ghost use Rattle.layout.specs.State.{layerAt};
 ghost use Rattle.layout.specs.Slices.{view};
 ghost use Rattle.layout.specs.inner.Needs.{Standing};
@@ -33,8 +34,8 @@ fn lay_first(out: &mut [u8], at: usize, shape: Shape) -> usize
 {
     let a = lay_word(out, at, b"(univmon ");
     let b = lay_number(out, a, shape.heap_size as u64, b' ');
-    let d = lay_number(out, b, shape.rows as u64, b' ');
-    let e = lay_number(out, d, shape.cols as u64, b' ');
+    let d = lay_number(out, b, shape.mouse_rows as u64, b' ');
+    let e = lay_number(out, d, shape.mouse_cols as u64, b' ');
     let f = lay_number(out, e, shape.layers as u64, b')');
     lay_word(out, f, b"\n")
 }
@@ -60,6 +61,7 @@ fn lay_layer(
     counts: &[i64],
     l: usize,
 ) -> usize
+    requires { ⌜ OneTiered (header .shape) ⌝ }
     requires { ⌜ Standing (lentNow header counters norms entries counts) ⌝ }
     requires { ⌜ l < header .shape .layers ⌝ }
     requires { ⌜ TextRoom at (pageFormat (frameOf (dimsOf (header .shape))) l .write (pageOf (dimsOf (header .shape)) (layerAt (view (lentNow header counters norms entries counts)) l))) ⌝ }
@@ -75,8 +77,8 @@ fn lay_layer(
         at,
         l,
         flags[l],
-        shape.rows,
-        shape.cols,
+        shape.mouse_rows,
+        shape.mouse_cols,
         layout::cells_at(shape, l, counters),
         lens[l],
         layout::words_at(shape, l, entries),
@@ -94,6 +96,7 @@ fn lay_layers(
     entries: &[u64],
     counts: &[i64],
 ) -> usize
+    requires { ⌜ OneTiered (header .shape) ⌝ }
     requires { ⌜ Standing (lentNow header counters norms entries counts) ⌝ }
     requires { ⌜ TextRoom at (pagesText (frameOf (dimsOf (header .shape))) 0 (pagesOf (view (lentNow header counters norms entries counts)) (header .shape .layers) 0)) ⌝ }
     ensures { λ r. ⌜ LaidText (now (out .entry)) at
@@ -119,6 +122,7 @@ fn lay_state(
     entries: &[u64],
     counts: &[i64],
 ) -> usize
+    requires { ⌜ OneTiered (header .shape) ⌝ }
     requires { ⌜ Standing (lentNow header counters norms entries counts) ⌝ }
     requires { ⌜ TextRoom 0 (textOf (view (lentNow header counters norms entries counts))) ⌝ }
     ensures { λ r. ⌜ LaidText (now (out .entry)) 0 (textOf (view (lentIn header counters norms entries counts))) (now (out .exit)) r ⌝ }
@@ -137,8 +141,8 @@ pub struct Written {
     pub bytes: usize,
 }
 
-// 9 for a state that fails the check, 16 for a space that is too short; else the text at its start. Laid
-// into nothing first, the text is measured.
+// 9 for a state that fails the check or has two tiers, 16 for a space that is too short; else the text at
+// its start. Laid into nothing first, the text is measured.
 pub fn write_state(
     header: Header,
     counters: &[i64],
@@ -150,6 +154,12 @@ pub fn write_state(
     ensures { λ r. ⌜ copied r (now (out .exit)) ≡ writeCall (lentIn header counters norms entries counts) (now (out .entry)) ⌝ }
 {
     if !state_check::check_state(header, counters, norms, entries, counts) {
+        return Written {
+            refusal: 9,
+            bytes: 0,
+        };
+    }
+    if !header.shape.is_one_tier() {
         return Written {
             refusal: 9,
             bytes: 0,

@@ -28,8 +28,8 @@ fn words_of(h: Header) -> [u64; HEAD_WORDS] {
     let mode = h.mode;
     let mut words = [0u64; HEAD_WORDS];
     words[0] = h.shape.heap_size as u64;
-    words[1] = h.shape.rows as u64;
-    words[2] = h.shape.cols as u64;
+    words[1] = h.shape.mouse_rows as u64;
+    words[2] = h.shape.mouse_cols as u64;
     words[3] = h.shape.layers as u64;
     words[WEIGHT] = h.totals.weight;
     words[UPDATES] = h.totals.updates;

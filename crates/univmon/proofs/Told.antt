@@ -1,5 +1,5 @@
 -- What the list of an update decides: the statement stands in specs/Told.antt. Assumes nothing.
-use mathlib.Core.Path.{sym, ap, _∙_, subst}
+use mathlib.Core.Path.{refl, sym, ap, _∙_, subst}
 use mathlib.Core.Bool.{Bool, true, _&&_}
 use mathlib.Core.List.{List}
 use Prim.Native.Nat.{ℕ, _+_, _≤_}
@@ -21,7 +21,7 @@ use Rattle.layout.specs.inner.Needs.{Standing}
 use Rattle.layout.proofs.Lengths.{standing-of, long-view}
 use Rattle.layout.proofs.States.{at-fits}
 use Rattle.layout.proofs.Flatten.{sized-view}
-use Rattle.layout.proofs.Replaced.{Over, over}
+use Rattle.layout.proofs.Replaced.{Over, over, head-sized}
 use Rattle.layout.proofs.Judged.{judged}
 use Rattle.layout.proofs.Deciding.{decided}
 use Rattle.univmon.specs.declared.Kind.{Kind}
@@ -52,7 +52,7 @@ module _ (k : Kind) (r : Lent) (words : List ℕ) (w : ℤ) (z : Standing r) (h 
   unfolding view layerAt
   replaced =
       let v = sized-view r z h in
-      over adds many first start (record { counters = v .counters; norms = v .norms; cands = v .cands; flags = v .flags; lens = v .lens; few = v .few }) room
+      over adds many first start (head-sized (view r) v (start .head) refl (v .flags) (v .lens)) room
       (λ l p q. add-lengths (dimsAt (r .head .shape) l) (layerUpdateAt words (natAbs w) l) (layerAt (view r) l) (at-fits (view r) (long-view r z) l (omega (arith, room))))
 
   tells : Decides true (updateAnswers k (view r) words w) (r .head) (overLayers adds many first start .head)

@@ -4,7 +4,7 @@ use mathlib.Core.Bool.{Bool, cond, not}
 use mathlib.Core.List.{List, _∷_, _++_}
 use Prim.Native.Nat.{ℕ, zero, suc, _+_, _*_, _≤_, _<_}
 use native.Mathlib.Omega.{arith}
-use borrow.Author.Tests.{eqb-true, eq-eqb, ne-eqb, not-false, lt-ltb, le-ltb}
+use borrow.Author.Tests.{eqb-true, eq-eqb, ne-eqb, not-false}
 use lib.ListN.{length, getD, drop, replicate}
 use lib.IntN.{ℤ, natAbs}
 use lib.Dec.{eqb}
@@ -27,7 +27,7 @@ use Rattle.layout.specs.inner.Telling.{listTests, tellLayers}
 use Rattle.layout.proofs.Lengths.{standing-of}
 use Rattle.layout.proofs.Flatten.{lent-is}
 use Rattle.layout.proofs.Judged.{judge-rest, judge-told, left-refused, left-done, left-by}
-use Rattle.layout.proofs.ListCalls.{list-judge}
+use Rattle.layout.proofs.ListCalls.{list-judge, list-before, list-short, list-enough}
 use Rattle.layout.proofs.Telling.{length-layers, told-touched, list-told}
 use Rattle.univmon.specs.declared.Kind.{Kind}
 use Rattle.univmon.specs.Updates.{modeOf, firstSent, manySent, bottomBy, sentTests, updateTests, updated, addsAt, answerAt, updateAnswers, layersTests}
@@ -57,13 +57,12 @@ module _ (words : List ℕ) (w many first : ℕ) (r : Lent) where
   -- 9 or 11
   pub sent-refused : (n m : ℕ) → m ≡ number tests → (m ≡ 0 → ⊥) → left m r ≡ sentBy words w many first n r
   unfolding sentBy
-  sent-refused n m e h = left-refused (tests ++ room n) r _ m (e ∙ sym (number-first tests (room n) (λ z. h (e ∙ z)))) h
+  sent-refused n m e h = left-refused (tests ++ room n) r _ m (list-before tests (2 * r .head .shape .layers) n m e h) h
 
   -- 16
   pub sent-short : (n : ℕ) → number tests ≡ 0 → n < 2 * r .head .shape .layers → left 16 r ≡ sentBy words w many first n r
   unfolding sentBy
-  sent-short n z h =
-      left-refused (tests ++ room n) r _ 16 (sym (number-rest tests (room n) (off-number tests refl z) ∙ rw (lt-ltb n (2 * r .head .shape .layers) h))) (λ e. omega (arith, e))
+  sent-short n z h = left-refused (tests ++ room n) r _ 16 (list-short tests (2 * r .head .shape .layers) n refl z h) (λ e. omega (arith, e))
 
   pub sends-ready : JudgeReady r words w many first → number tests ≡ 0 → SendsReady r words w many first
   sends-ready p z =
@@ -74,8 +73,7 @@ module _ (words : List ℕ) (w many first : ℕ) (r : Lent) where
       → view t ≡ overLayers (addsAt (r .head .shape) words w) many first (view r) → left 0 t ≡ sentBy words w many first n r
   unfolding sentBy
   sent-done n t z h s b e =
-      ap (left 0) (lent-is t _ s b e)
-      ∙ left-done (tests ++ room n) r _ refl (number-rest tests (room n) (off-number tests refl z) ∙ rw (le-ltb n (2 * r .head .shape .layers) h))
+      ap (left 0) (lent-is t _ s b e) ∙ left-done (tests ++ room n) r _ refl (sym (list-enough tests (2 * r .head .shape .layers) n refl z h))
 
   -- what the list tells: zeros first, then the layers that were sent to
   pub sent-told : (list out : List ℕ) → first + many ≤ r .head .shape .layers

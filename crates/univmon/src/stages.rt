@@ -9,11 +9,15 @@ use header::Shape;
 use layout::lengths_match;
 use layout::zero_places;
 ghost use mathlib.Core.Path.{_≡_};
+ghost use mathlib.Core.Bool.{true};
 ghost use Prim.Native.Nat.{ℕ, _≤_};
 ghost use lib.ListN.{length};
 ghost use lib.IntN.{natAbs};
 ghost use Rattle.words.specs.Num.{top};
 ghost use Rattle.words.specs.Tests.{number};
+ghost use Rattle.header.specs.Shape.{maxLayers};
+ghost use Rattle.header.specs.OneTier.{OneTiered};
+ghost use Rattle.header.specs.Header.{headerOk};
 ghost use Rattle.header.specs.Lending.{headIn, headNow, headOut};
 ghost use Rattle.layout.specs.Slices.{view};
 ghost use Rattle.layout.specs.Outcomes.{left};
@@ -41,6 +45,18 @@ fn first_sent(kind: Kind, bottom: usize) -> usize
     }
 }
 
+// Whether a header whose lengths and flags are lent is in range; of layers that are alike less is asked.
+fn in_range(h: Scalars, lens: &[usize], flags: &[bool], alike: bool) -> bool
+    requires { ⌜ (length (now lens) ≡ maxLayers) × (length (now flags) ≡ maxLayers) ⌝ }
+    requires { ⌜ (alike ≡ true → OneTiered (h .shape)) ⌝ }
+    ensures { λ r. ⌜ r ≡ headerOk (headIn h lens flags) ⌝ }
+{
+    if alike {
+        return header::fields_in_range_one_tier(h.shape, h.totals, lens, flags);
+    }
+    header::fields_in_range(h.shape, h.totals, lens, flags)
+}
+
 // 9 for a header out of range or a wrong slice length, 12 for a wrong record length, 0 for none. It is 9
 // too where the lent lengths or flags do not have 19 places.
 fn sound_refusal(
@@ -52,7 +68,9 @@ fn sound_refusal(
     entries: usize,
     counts: usize,
     record: usize,
+    alike: bool,
 ) -> u64
+    requires { ⌜ (alike ≡ true → OneTiered (scalars .shape)) ⌝ }
     ensures { λ r. ⌜ r ≡ number (soundTests (headIn scalars lens flags) counters norms entries counts «record») ⌝ }
 {
     if lens.len() != Shape::MAX_LAYERS {
@@ -62,7 +80,7 @@ fn sound_refusal(
         return 9;
     }
     let shape = scalars.shape;
-    if !header::fields_in_range(shape, scalars.totals, lens, flags) {
+    if !in_range(scalars, lens, flags, alike) {
         return 9;
     }
     if !lengths_match(shape, counters, norms, entries, counts) {
@@ -173,7 +191,32 @@ fn send_key(
     )
 }
 
-// All of an update but its beginning; `begins` is the number that the beginning is refused with, or 0.
+// The same scalars. Where the caller says that all layers are alike, the shape is written so, and then
+// the compiler knows it too: rows, columns and mask bits are the same for every layer.
+fn said_alike(scalars: Scalars, alike: bool) -> Scalars
+    requires { ⌜ (alike ≡ true → OneTiered (scalars .shape)) ⌝ }
+    ensures { λ r. ⌜ r ≡ scalars ⌝ }
+{
+    if !alike {
+        return scalars;
+    }
+    let shape = scalars.shape;
+    let totals = scalars.totals;
+    let mode = scalars.mode;
+    Scalars {
+        shape: Shape::one_tier(
+            shape.heap_size,
+            shape.mouse_rows,
+            shape.mouse_cols,
+            shape.layers,
+        ),
+        totals,
+        mode,
+    }
+}
+
+// All of an update but its beginning; `begins` is the number that the beginning is refused with, or 0,
+// and `alike` says that the shape has one tier.
 // Answers 9, 12, then `begins`, then 9, 11, 16.
 pub fn update(
     kind: Kind,
@@ -188,15 +231,18 @@ pub fn update(
     record: &[u64],
     weight: i64,
     list: &mut [u64],
+    alike: bool,
 ) -> u64
     requires { ⌜ (begins ≡ 0 → natAbs weight ≤ top) ⌝ }
+    requires { ⌜ (alike ≡ true → OneTiered (scalars .shape)) ⌝ }
     ensures { λ r. ⌜ left r (lentOut (headOut scalars lens flags) counters norms entries counts)
         ≡ sentAfter kind begins (now («record» .entry)) weight (length (now (list .entry))) (lentIn (headIn scalars lens flags) counters norms entries counts) ⌝ }
     ensures { λ r. ⌜ now (list .exit)
         ≡ listLeft r (updateAnswers kind (view (lentIn (headIn scalars lens flags) counters norms entries counts)) (now («record» .entry)) weight) (now (list .entry)) ⌝ }
 {
+    let h = said_alike(scalars, alike);
     let refusal = sound_refusal(
-        scalars,
+        h,
         &*lens,
         &*flags,
         counters.len(),
@@ -204,6 +250,7 @@ pub fn update(
         entries.len(),
         counts.len(),
         record.len(),
+        alike,
     );
     if refusal != 0 {
         return refusal;
@@ -213,7 +260,7 @@ pub fn update(
     }
     send_key(
         kind,
-        scalars,
+        h,
         lens,
         flags,
         counters,

@@ -1,11 +1,13 @@
 -- Calls from C on what the library left are the library's own: the statements stand in specs/SameCalls.antt. Assumes nothing.
-use mathlib.Core.Path.{_≡_, refl, ap, ap₂}
+use mathlib.Core.Path.{_≡_, refl, ap, ap₂, _∙_}
 use mathlib.Core.Bool.{true}
 use mathlib.Core.List.{List}
 use Prim.Native.Nat.{ℕ}
 use Rattle.header.specs.declared.Mode.{Mode}
 use Rattle.header.specs.declared.Mode.the-variants as mode
+use Rattle.header.specs.declared.Header.{Header}
 use Rattle.header.specs.Header.{modeNumber}
+use Rattle.header.specs.OneTier.{OneTiered}
 use Rattle.header.proofs.Modes.{mode-back}
 use Rattle.layout.specs.Slices.{Lent, lent}
 use Rattle.layout.specs.Outcomes.{Outcome, leftBy}
@@ -13,37 +15,45 @@ use Rattle.univmon.specs.Calls.{updateListCall, lentUpdateListCall}
 use Rattle.univmon_merge.specs.Merges.{mergeListCall}
 use Rattle.state_text.specs.Calls.{writeCall}
 use Rattle.univmon_c.specs.Crossing.{isMode}
-use Rattle.univmon_c.specs.Calls.{ofLent, crossed, changeBy, mergeBy, crossedCopy, writeBy}
-use Rattle.univmon_c.specs.SameCalls.{ThereAndBack, FromC}
+use Rattle.univmon_c.specs.Calls.{Face, oneTierFace, ofLent, crossed, changeBy, mergeBy, crossedCopy, writeBy}
+use Rattle.univmon_c.specs.SameCalls.{Crosses, SameCalls, OneTierFromC}
 
 is-mode : (m : Mode) → isMode (modeNumber m) ≡ true
 is-mode mode.Unset = refl
 is-mode mode.Standard = refl
 is-mode mode.Terminal = refl
 
-pub there-and-back : ThereAndBack
-there-and-back r =
-    λ i. lent (record { shape = r .head .shape; totals = r .head .totals; mode = mode-back (r .head .mode) i; flags = r .head .flags; lens = r .head .lens }) (r .counters) (r .norms) (r .entries) (r .counts)
+-- ---- over any face that keeps the mode's number
 
-change-same : (f : Lent → Outcome) (r : Lent) → changeBy true f (ofLent r) ≡ crossed (leftBy r (f r))
-unfolding changeBy
-change-same f r = rw (is-mode (r .head .mode)) (ap (λ (z : Lent). crossed (leftBy z (f z))) (there-and-back r))
+module _ {H : Type 0} (f : Face H) (same : (h : Header) → f .mode (f .back h) ≡ modeNumber (h .mode)) where
+  its-mode : (r : Lent) → isMode (f .mode (f .back (r .head))) ≡ true
+  its-mode r = ap isMode (same (r .head)) ∙ is-mode (r .head .mode)
 
-merge-same : (f : Lent → Lent → Outcome) (r t : Lent) → mergeBy f (ofLent r) (ofLent t) ≡ crossed (leftBy r (f r t))
-unfolding mergeBy
-merge-same f r t =
-    rw (is-mode (r .head .mode), is-mode (t .head .mode))
-    (ap₂ (λ (y z : Lent). crossed (leftBy y (f y z))) (there-and-back r) (there-and-back t))
+  change-same : (g : Lent → Outcome) (r : Lent) → Crosses f r → changeBy f true g (ofLent f r) ≡ crossed f (leftBy r (g r))
+  unfolding changeBy
+  change-same g r e = rw (its-mode r) (ap (λ (z : Lent). crossed f (leftBy z (g z))) e)
 
-write-same : (r : Lent) (out : List ℕ) → writeBy writeCall (ofLent r) out ≡ crossedCopy (writeCall r out)
+  merge-same : (g : Lent → Lent → Outcome) (r t : Lent) → Crosses f r → Crosses f t → mergeBy f g (ofLent f r) (ofLent f t) ≡ crossed f (leftBy r (g r t))
+  unfolding mergeBy
+  merge-same g r t e d = rw (its-mode r, its-mode t) (ap₂ (λ (y z : Lent). crossed f (leftBy y (g y z))) e d)
+
+  pub same-calls : (r : Lent) → Crosses f r → SameCalls f r
+  same-calls r e =
+      record {
+        update = λ k words w n. change-same (λ s. updateListCall k s words w n) r e;
+        lent = λ k words w n. change-same (λ s. lentUpdateListCall k s words w n) r e;
+        merge = λ t n d. merge-same (λ s u. mergeListCall s u n) r t e d;
+      }
+
+-- ---- one tier
+
+crosses : (r : Lent) → OneTiered (r .head .shape) → Crosses oneTierFace r
+crosses r e =
+    λ i. lent (record { shape = e i; totals = r .head .totals; mode = mode-back (r .head .mode) i; flags = r .head .flags; lens = r .head .lens }) (r .counters) (r .norms) (r .entries) (r .counts)
+
+write-same : (r : Lent) → Crosses oneTierFace r → (out : List ℕ) → writeBy writeCall (ofLent oneTierFace r) out ≡ crossedCopy (writeCall r out)
 unfolding writeBy
-write-same r out = rw (is-mode (r .head .mode)) (ap (λ (z : Lent). crossedCopy (writeCall z out)) (there-and-back r))
+write-same r e out = rw (is-mode (r .head .mode)) (ap (λ (z : Lent). crossedCopy (writeCall z out)) e)
 
-pub from-c : FromC
-from-c r =
-    record {
-      update = λ k words w n. change-same (λ s. updateListCall k s words w n) r;
-      lent = λ k words w n. change-same (λ s. lentUpdateListCall k s words w n) r;
-      write = write-same r;
-      merge = λ t n. merge-same (λ s u. mergeListCall s u n) r t;
-    }
+pub one-tier-from-c : OneTierFromC
+one-tier-from-c r e = record { crosses = crosses r e; same = same-calls oneTierFace (λ h. refl) r (crosses r e); write = write-same r (crosses r e) }

@@ -19,52 +19,66 @@ use Rattle.univmon_c.specs.declared.CPanel.{CPanel}
 use Rattle.univmon_c.specs.declared.CWritten.{CWritten}
 use Rattle.univmon_c.specs.Crossing.{isMode, headerOf, cHeader, cAnswered, cAnswer, cWritten, cPanel}
 
+-- ---- headers as C has them
+
+-- what a type of headers is to the library: the number of a header's mode, the header that it stands for, and what stands for a header. `UnivMon`'s has four
+-- dimensions and `UnivMonTwoTier`'s seven; all that is said of calls from C is said over such a face
+pub record Face (H : Type 0) : Type 0 where
+  pub mode : H → ℕ
+  pub stands : H → Header
+  pub back : Header → H
+
 -- ---- a state as C lends it
 
-pub record CLent : Type 0 where
-  pub head : CHeader
+pub record CLent (H : Type 0) : Type 0 where
+  pub head : H
   pub counters : List ℤ
   pub norms : List ℕ
   pub entries : List ℕ
   pub counts : List ℤ
 
-abbrev pub cLent : CHeader → List ℤ → List ℕ → List ℕ → List ℤ → CLent
+abbrev pub cLent : {H : Type 0} → H → List ℤ → List ℕ → List ℕ → List ℤ → CLent H
 cLent h xs ws es ns = record { head = h; counters = xs; norms = ws; entries = es; counts = ns }
 
 -- the state that it stands for, and back
-abbrev pub lentOf : CLent → Lent
-lentOf r = lent (headerOf (r .head)) (r .counters) (r .norms) (r .entries) (r .counts)
+abbrev pub lentOf : {H : Type 0} → Face H → CLent H → Lent
+lentOf f r = lent (f .stands (r .head)) (r .counters) (r .norms) (r .entries) (r .counts)
 
-abbrev pub ofLent : Lent → CLent
-ofLent r = cLent (cHeader (r .head)) (r .counters) (r .norms) (r .entries) (r .counts)
+abbrev pub ofLent : {H : Type 0} → Face H → Lent → CLent H
+ofLent f r = cLent (f .back (r .head)) (r .counters) (r .norms) (r .entries) (r .counts)
 
 -- ---- the number that is answered, 0 for none, and what is left
 
-pub record CLeft : Type 0 where
+pub record CLeft (H : Type 0) : Type 0 where
   pub refusal : ℕ
-  pub lends : CLent
+  pub lends : CLent H
 
-abbrev pub cLeft : ℕ → CLent → CLeft
+abbrev pub cLeft : {H : Type 0} → ℕ → CLent H → CLeft H
 cLeft n r = record { refusal = n; lends = r }
 
-abbrev pub crossed : Left → CLeft
-crossed a = cLeft (a .refusal) (ofLent (a .lends))
+abbrev pub crossed : {H : Type 0} → Face H → Left → CLeft H
+crossed f a = cLeft (a .refusal) (ofLent f (a .lends))
 
 -- a call that changes a state; `ok` says whether the call's own numbers stand for something
-unfoldable pub changeBy : Bool → (Lent → Outcome) → CLent → CLeft
-changeBy ok f r = cond (isMode (r .head .mode) && ok) (crossed (leftBy (lentOf r) (f (lentOf r)))) (cLeft 9 r)
+unfoldable pub changeBy : {H : Type 0} → Face H → Bool → (Lent → Outcome) → CLent H → CLeft H
+changeBy f ok g r = cond (isMode (f .mode (r .head)) && ok) (crossed f (leftBy (lentOf f r) (g (lentOf f r)))) (cLeft 9 r)
 
 -- a merge: both modes must be modes
-unfoldable pub mergeBy : (Lent → Lent → Outcome) → CLent → CLent → CLeft
-mergeBy f r t = cond (isMode (r .head .mode) && isMode (t .head .mode)) (crossed (leftBy (lentOf r) (f (lentOf r) (lentOf t)))) (cLeft 9 r)
+unfoldable pub mergeBy : {H : Type 0} → Face H → (Lent → Lent → Outcome) → CLent H → CLent H → CLeft H
+mergeBy f g r t = cond (isMode (f .mode (r .head)) && isMode (f .mode (t .head))) (crossed f (leftBy (lentOf f r) (g (lentOf f r) (lentOf f t)))) (cLeft 9 r)
+
+-- a call that answers with a float, on a header whose mode has the number m
+unfoldable pub answerBy : Bool → ℕ → Answer → CAnswer
+answerBy ok m a = cond (isMode m && ok) (cAnswer a) (cAnswer (refusedBy 9))
+
+-- ---- of one tier
+
+abbrev pub oneTierFace : Face CHeader
+oneTierFace = record { mode = λ h. h .mode; stands = headerOf; back = cHeader }
 
 -- a call on the header alone
 unfoldable pub headBy : (Header → Answered) → CHeader → CAnswered
 headBy f h = cond (isMode (h .mode)) (cAnswered (f (headerOf h))) (record { refusal = 9; header = h })
-
--- a call that answers with a float
-unfoldable pub answerBy : Bool → CHeader → Answer → CAnswer
-answerBy ok h a = cond (isMode (h .mode) && ok) (cAnswer a) (cAnswer (refusedBy 9))
 
 -- the panel answer
 unfoldable pub panelBy : CHeader → PanelAnswer → CPanel
@@ -81,9 +95,9 @@ cCopied a o = record { answer = a; out = o }
 abbrev pub crossedCopy : Copied → CCopied
 crossedCopy a = cCopied (cWritten (a .answer)) (a .out)
 
-unfoldable pub writeBy : (Lent → List ℕ → Copied) → CLent → List ℕ → CCopied
-writeBy f r o = cond (isMode (r .head .mode)) (crossedCopy (f (lentOf r) o)) (crossedCopy (notCopied 9 o))
+unfoldable pub writeBy : (Lent → List ℕ → Copied) → CLent CHeader → List ℕ → CCopied
+writeBy f r o = cond (isMode (r .head .mode)) (crossedCopy (f (lentOf oneTierFace r) o)) (crossedCopy (notCopied 9 o))
 
 -- a yes or no on a whole state: no, where the mode's number stands for no mode
-unfoldable pub checkBy : (Lent → Bool) → CLent → Bool
-checkBy f r = isMode (r .head .mode) && f (lentOf r)
+unfoldable pub checkBy : (Lent → Bool) → CLent CHeader → Bool
+checkBy f r = isMode (r .head .mode) && f (lentOf oneTierFace r)

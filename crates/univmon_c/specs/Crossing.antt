@@ -7,6 +7,7 @@ use Rattle.header.specs.declared.Header.{Header}
 use Rattle.header.specs.declared.Answered.{Answered}
 use Rattle.header.specs.declared.Scalars.{Scalars}
 use Rattle.header.specs.declared.AnsweredLent.{AnsweredLent}
+use Rattle.header.specs.OneTier.{oneTier}
 use Rattle.header.specs.Header.{modeNumber, modeBy}
 use Rattle.header.specs.declared.BottomLayer.{BottomLayer}
 use Rattle.header.specs.declared.BottomLayer.the-variants as bottom
@@ -45,12 +46,12 @@ isFidelity n = leb n 1
 unfoldable pub fidelityOf : ℕ → Fidelity
 fidelityOf n = cond (eqb n 1) fidelity.PromotedOnly fidelity.EveryInsert
 
--- ---- headers
+-- ---- headers: C's has the four dimensions of `UnivMon`
 
 abbrev pub headerOf : CHeader → Header
 headerOf h =
     record {
-      shape = record { «heap_size» = h .«heap_size»; rows = h .rows; cols = h .cols; layers = h .layers };
+      shape = oneTier (h .«heap_size») (h .rows) (h .cols) (h .layers);
       totals = record { weight = h .weight; updates = h .updates };
       mode = modeBy (h .mode);
       flags = h .flags;
@@ -61,8 +62,8 @@ abbrev pub cHeader : Header → CHeader
 cHeader h =
     record {
       «heap_size» = h .shape .«heap_size»;
-      rows = h .shape .rows;
-      cols = h .shape .cols;
+      rows = h .shape .«mouse_rows»;
+      cols = h .shape .«mouse_cols»;
       layers = h .shape .layers;
       weight = h .totals .weight;
       updates = h .totals .updates;
@@ -78,7 +79,7 @@ cHead s w u m ns fs = record { «heap_size» = s .«heap_size»; rows = s .rows;
 abbrev pub cScalars : CShape → ℕ → ℕ → ℕ → Scalars
 cScalars s w u m =
     record {
-      shape = record { «heap_size» = s .«heap_size»; rows = s .rows; cols = s .cols; layers = s .layers };
+      shape = oneTier (s .«heap_size») (s .rows) (s .cols) (s .layers);
       totals = record { weight = w; updates = u };
       mode = modeBy m;
     }

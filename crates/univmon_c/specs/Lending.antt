@@ -10,10 +10,10 @@ use Rattle.univmon_c.specs.Crossing.{cHead}
 use Rattle.univmon_c.specs.Calls.{CLent, cLent}
 
 -- at entry, and at exit
-abbrev pub cLentIn : CHeader → SliceBoth ℤ → SliceBoth ℕ → SliceBoth ℕ → SliceBoth ℤ → CLent
+abbrev pub cLentIn : {H : Type 0} → H → SliceBoth ℤ → SliceBoth ℕ → SliceBoth ℕ → SliceBoth ℤ → CLent H
 cLentIn h xs ws es ns = cLent h (now (xs .entry)) (now (ws .entry)) (now (es .entry)) (now (ns .entry))
 
-abbrev pub cLentOut : CHeader → SliceBoth ℤ → SliceBoth ℕ → SliceBoth ℕ → SliceBoth ℤ → CLent
+abbrev pub cLentOut : {H : Type 0} → H → SliceBoth ℤ → SliceBoth ℕ → SliceBoth ℕ → SliceBoth ℤ → CLent H
 cLentOut h xs ws es ns = cLent h (now (xs .exit)) (now (ws .exit)) (now (es .exit)) (now (ns .exit))
 
 -- a header whose lengths and flags are lent

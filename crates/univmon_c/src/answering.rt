@@ -15,16 +15,16 @@ ghost use Prim.Native.Nat.{ℕ};
 ghost use Rattle.estimates.specs.Calls.{l1Call, l2Call, sumCall, cardinalityCall, panelCall};
 ghost use Rattle.state_check.specs.Check.{stateOk};
 ghost use Rattle.univmon_c.specs.Crossing.{isG, gBy, headerOf};
-ghost use Rattle.univmon_c.specs.Calls.{lentOf, answerBy, panelBy, checkBy};
+ghost use Rattle.univmon_c.specs.Calls.{oneTierFace, lentOf, answerBy, panelBy, checkBy};
 ghost use Rattle.univmon_c.specs.Lending.{cLentIn};
 
 // The greatest number that is a choice of g.
-const LAST_G: u64 = 2;
+pub const LAST_G: u64 = 2;
 
 // L1: the exact weight.
 #[no_mangle]
 pub extern "C" fn univmon_estimate_l1(header: CHeader) -> CAnswer
-    ensures { λ r. ⌜ r ≡ answerBy true header (l1Call (headerOf header)) ⌝ }
+    ensures { λ r. ⌜ r ≡ answerBy true (header .mode) (l1Call (headerOf header)) ⌝ }
 {
     if LAST_MODE < header.mode {
         return no_answer();
@@ -36,7 +36,7 @@ pub extern "C" fn univmon_estimate_l1(header: CHeader) -> CAnswer
 // L2, from the norms.
 #[no_mangle]
 pub extern "C" fn univmon_estimate_l2(header: CHeader, norms: &[u64]) -> CAnswer
-    ensures { λ r. ⌜ r ≡ answerBy true header (l2Call (headerOf header) (now (norms .entry))) ⌝ }
+    ensures { λ r. ⌜ r ≡ answerBy true (header .mode) (l2Call (headerOf header) (now (norms .entry))) ⌝ }
 {
     if LAST_MODE < header.mode {
         return no_answer();
@@ -56,7 +56,7 @@ pub extern "C" fn univmon_estimate_g_sum(
     g: u64,
     count_every_key: bool,
 ) -> CAnswer
-    ensures { λ r. ⌜ r ≡ answerBy (isG g) header (sumCall (gBy g) «count_every_key» (lentOf (cLentIn header counters norms entries counts))) ⌝ }
+    ensures { λ r. ⌜ r ≡ answerBy (isG g) (header .mode) (sumCall (gBy g) «count_every_key» (lentOf oneTierFace (cLentIn header counters norms entries counts))) ⌝ }
 {
     if LAST_MODE < header.mode {
         return no_answer();
@@ -86,7 +86,7 @@ pub extern "C" fn univmon_estimate_cardinality(
     entries: &[u64],
     counts: &[i64],
 ) -> CAnswer
-    ensures { λ r. ⌜ r ≡ answerBy true header (cardinalityCall (lentOf (cLentIn header counters norms entries counts))) ⌝ }
+    ensures { λ r. ⌜ r ≡ answerBy true (header .mode) (cardinalityCall (lentOf oneTierFace (cLentIn header counters norms entries counts))) ⌝ }
 {
     if LAST_MODE < header.mode {
         return no_answer();
@@ -104,7 +104,7 @@ pub extern "C" fn univmon_panel_answer(
     entries: &[u64],
     counts: &[i64],
 ) -> CPanel
-    ensures { λ r. ⌜ r ≡ panelBy header (panelCall (lentOf (cLentIn header counters norms entries counts))) ⌝ }
+    ensures { λ r. ⌜ r ≡ panelBy header (panelCall (lentOf oneTierFace (cLentIn header counters norms entries counts))) ⌝ }
 {
     if LAST_MODE < header.mode {
         return no_panel();

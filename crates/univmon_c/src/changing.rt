@@ -12,6 +12,7 @@ ghost use mathlib.Core.Bool.{Bool, true};
 ghost use Prim.Native.Nat.{ℕ};
 ghost use lib.ListN.{length};
 ghost use Rattle.header.specs.Shape.{shapeRefusal, bottomLayer};
+ghost use Rattle.header.specs.OneTier.{oneTier};
 ghost use Rattle.layout.specs.Slices.{view};
 ghost use Rattle.layout.specs.Answers.{listLeft};
 ghost use Rattle.univmon.specs.declared.Kind.the-variants as kind;
@@ -20,7 +21,7 @@ ghost use Rattle.univmon.specs.Calls.{newCall, updateListCall, clearCall, weigh
 ghost use Rattle.univmon_delta.specs.Deltas.{arrival, deltaAnswers, deltaListCall};
 ghost use Rattle.univmon_merge.specs.Merges.{mergeAnswers, mergeListCall};
 ghost use Rattle.univmon_c.specs.Crossing.{isFidelity, fidelityOf, cBottom};
-ghost use Rattle.univmon_c.specs.Calls.{lentOf, cLeft, crossed, changeBy, mergeBy, headBy};
+ghost use Rattle.univmon_c.specs.Calls.{oneTierFace, lentOf, cLeft, crossed, changeBy, mergeBy, headBy};
 ghost use Rattle.univmon_c.specs.Lending.{cLentIn, cLentOut};
 
 // The greatest number that is a fidelity.
@@ -36,7 +37,7 @@ pub extern "C" fn univmon_check_shape(
     cols: usize,
     layers: usize,
 ) -> u64
-    ensures { λ r. ⌜ r ≡ shapeRefusal (record { «heap_size» = «heap_size»; rows = rows; cols = cols; layers = layers }) ⌝ }
+    ensures { λ r. ⌜ r ≡ shapeRefusal (oneTier «heap_size» rows cols layers) ⌝ }
 {
     header::check_shape(heap_size, rows, cols, layers)
 }
@@ -64,7 +65,7 @@ pub extern "C" fn univmon_new(
     counts: &mut [i64],
 ) -> CAnswered
     ensures { λ r. ⌜ cLeft (r .refusal) (cLentOut (r .header) counters norms entries counts)
-        ≡ crossed (newCall (record { «heap_size» = «heap_size»; rows = rows; cols = cols; layers = layers }) (now (counters .entry)) (now (norms .entry)) (now (entries .entry)) (now (counts .entry))) ⌝ }
+        ≡ crossed oneTierFace (newCall (oneTier «heap_size» rows cols layers) (now (counters .entry)) (now (norms .entry)) (now (entries .entry)) (now (counts .entry))) ⌝ }
 {
     c_answered(univmon::new(
         heap_size,
@@ -88,7 +89,7 @@ pub extern "C" fn univmon_clear(
     counts: &mut [i64],
 ) -> CAnswered
     ensures { λ r. ⌜ cLeft (r .refusal) (cLentOut (r .header) counters norms entries counts)
-        ≡ changeBy true clearCall (cLentIn header counters norms entries counts) ⌝ }
+        ≡ changeBy oneTierFace true clearCall (cLentIn header counters norms entries counts) ⌝ }
 {
     if LAST_MODE < header.mode {
         return CAnswered { refusal: 9, header };
@@ -112,15 +113,24 @@ pub extern "C" fn univmon_update_weighted(
     list: &mut [u64],
 ) -> CAnswered
     ensures { λ r. ⌜ cLeft (r .refusal) (cLentOut (r .header) counters norms entries counts)
-        ≡ changeBy true (λ s. updateListCall kind.Standard s (now («record» .entry)) weight (length (now (list .entry)))) (cLentIn header counters norms entries counts) ⌝ }
+        ≡ changeBy oneTierFace true (λ s. updateListCall kind.Standard s (now («record» .entry)) weight (length (now (list .entry)))) (cLentIn header counters norms entries counts) ⌝ }
     ensures { λ r. ⌜ now (list .exit)
-        ≡ listLeft (r .refusal) (updateAnswers kind.Standard (view (lentOf (cLentIn header counters norms entries counts))) (now («record» .entry)) weight) (now (list .entry)) ⌝ }
+        ≡ listLeft (r .refusal) (updateAnswers kind.Standard (view (lentOf oneTierFace (cLentIn header counters norms entries counts))) (now («record» .entry)) weight) (now (list .entry)) ⌝ }
 {
     if LAST_MODE < header.mode {
         return CAnswered { refusal: 9, header };
     }
     let h = header_of(header);
-    c_answered(univmon::update_weighted(h, counters, norms, entries, counts, record, weight, list))
+    c_answered(univmon::update_weighted_one_tier(
+        h,
+        counters,
+        norms,
+        entries,
+        counts,
+        record,
+        weight,
+        list,
+    ))
 }
 
 // The key goes to its bottom layer only.
@@ -136,15 +146,15 @@ pub extern "C" fn univmon_update_weighted_terminal(
     list: &mut [u64],
 ) -> CAnswered
     ensures { λ r. ⌜ cLeft (r .refusal) (cLentOut (r .header) counters norms entries counts)
-        ≡ changeBy true (λ s. updateListCall kind.Terminal s (now («record» .entry)) weight (length (now (list .entry)))) (cLentIn header counters norms entries counts) ⌝ }
+        ≡ changeBy oneTierFace true (λ s. updateListCall kind.Terminal s (now («record» .entry)) weight (length (now (list .entry)))) (cLentIn header counters norms entries counts) ⌝ }
     ensures { λ r. ⌜ now (list .exit)
-        ≡ listLeft (r .refusal) (updateAnswers kind.Terminal (view (lentOf (cLentIn header counters norms entries counts))) (now («record» .entry)) weight) (now (list .entry)) ⌝ }
+        ≡ listLeft (r .refusal) (updateAnswers kind.Terminal (view (lentOf oneTierFace (cLentIn header counters norms entries counts))) (now («record» .entry)) weight) (now (list .entry)) ⌝ }
 {
     if LAST_MODE < header.mode {
         return CAnswered { refusal: 9, header };
     }
     let h = header_of(header);
-    c_answered(univmon::update_weighted_terminal(
+    c_answered(univmon::update_weighted_terminal_one_tier(
         h,
         counters,
         norms,
@@ -174,10 +184,10 @@ pub extern "C" fn univmon_apply_delta(
     list: &mut [u64],
 ) -> CAnswered
     ensures { λ r. ⌜ cLeft (r .refusal) (cLentOut (r .header) counters norms entries counts)
-        ≡ changeBy (isFidelity fidelity) (λ s. deltaListCall s (now («record» .entry)) (arrival layer row col count (fidelityOf fidelity)) (length (now (list .entry))))
+        ≡ changeBy oneTierFace (isFidelity fidelity) (λ s. deltaListCall s (now («record» .entry)) (arrival layer row col count (fidelityOf fidelity)) (length (now (list .entry))))
         (cLentIn header counters norms entries counts) ⌝ }
     ensures { λ r. ⌜ now (list .exit)
-        ≡ listLeft (r .refusal) (deltaAnswers (view (lentOf (cLentIn header counters norms entries counts))) (now («record» .entry)) (arrival layer row col count (fidelityOf fidelity))) (now (list .entry)) ⌝ }
+        ≡ listLeft (r .refusal) (deltaAnswers (view (lentOf oneTierFace (cLentIn header counters norms entries counts))) (now («record» .entry)) (arrival layer row col count (fidelityOf fidelity))) (now (list .entry)) ⌝ }
 {
     if LAST_MODE < header.mode {
         return CAnswered { refusal: 9, header };
@@ -221,11 +231,11 @@ pub extern "C" fn univmon_merge(
     list: &mut [u64],
 ) -> CAnswered
     ensures { λ r. ⌜ cLeft (r .refusal) (cLentOut (r .header) counters norms entries counts)
-        ≡ mergeBy (λ s t. mergeListCall s t (length (now (list .entry)))) (cLentIn header counters norms entries counts)
+        ≡ mergeBy oneTierFace (λ s t. mergeListCall s t (length (now (list .entry)))) (cLentIn header counters norms entries counts)
         (cLentIn other «other_counters» «other_norms» «other_entries» «other_counts») ⌝ }
     ensures { λ r. ⌜ now (list .exit)
-        ≡ listLeft (r .refusal) (mergeAnswers (view (lentOf (cLentIn header counters norms entries counts)))
-        (view (lentOf (cLentIn other «other_counters» «other_norms» «other_entries» «other_counts»)))) (now (list .entry)) ⌝ }
+        ≡ listLeft (r .refusal) (mergeAnswers (view (lentOf oneTierFace (cLentIn header counters norms entries counts)))
+        (view (lentOf oneTierFace (cLentIn other «other_counters» «other_norms» «other_entries» «other_counts»)))) (now (list .entry)) ⌝ }
 {
     if LAST_MODE < header.mode {
         return CAnswered { refusal: 9, header };

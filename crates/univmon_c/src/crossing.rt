@@ -70,12 +70,7 @@ pub fn fidelity_of(n: u64) -> Fidelity
 pub fn header_of(h: CHeader) -> Header
     ensures { λ r. ⌜ r ≡ headerOf h ⌝ }
 {
-    let shape = Shape {
-        heap_size: h.heap_size,
-        rows: h.rows,
-        cols: h.cols,
-        layers: h.layers,
-    };
+    let shape = Shape::one_tier(h.heap_size, h.rows, h.cols, h.layers);
     let mode = mode_of(h.mode);
     let flags = h.flags;
     let lens = h.lens;
@@ -100,8 +95,8 @@ fn c_header(h: Header) -> CHeader
     let flags = h.flags;
     CHeader {
         heap_size: h.shape.heap_size,
-        rows: h.shape.rows,
-        cols: h.shape.cols,
+        rows: h.shape.mouse_rows,
+        cols: h.shape.mouse_cols,
         layers: h.shape.layers,
         weight: h.totals.weight,
         updates: h.totals.updates,
@@ -115,12 +110,7 @@ fn c_header(h: Header) -> CHeader
 pub fn scalars_of(s: CShape, weight: u64, updates: u64, mode: u64) -> Scalars
     ensures { λ r. ⌜ r ≡ cScalars s weight updates mode ⌝ }
 {
-    let shape = Shape {
-        heap_size: s.heap_size,
-        rows: s.rows,
-        cols: s.cols,
-        layers: s.layers,
-    };
+    let shape = Shape::one_tier(s.heap_size, s.rows, s.cols, s.layers);
     let m = mode_of(mode);
     Scalars {
         shape,

@@ -14,7 +14,7 @@ ghost use Rattle.layout.specs.Answers.{listLeft};
 ghost use Rattle.univmon.specs.declared.Kind.the-variants as kind;
 ghost use Rattle.univmon.specs.Updates.{updateAnswers};
 ghost use Rattle.univmon.specs.Calls.{lentUpdateListCall};
-ghost use Rattle.univmon_c.specs.Calls.{lentOf, cLeft, changeBy};
+ghost use Rattle.univmon_c.specs.Calls.{oneTierFace, lentOf, cLeft, changeBy};
 ghost use Rattle.univmon_c.specs.Lending.{cHeadIn, cHeadOut, cLentIn, cLentOut};
 
 // The key goes to layers 0 to its bottom layer.
@@ -35,9 +35,9 @@ pub extern "C" fn univmon_update_weighted_lent(
     list: &mut [u64],
 ) -> CStep
     ensures { λ r. ⌜ cLeft (r .refusal) (cLentOut (cHeadOut shape (r .weight) (r .updates) (r .mode) lens flags) counters norms entries counts)
-        ≡ changeBy true (λ s. lentUpdateListCall kind.Standard s (now («record» .entry)) weight (length (now (list .entry)))) (cLentIn (cHeadIn shape «total_weight» «total_updates» mode lens flags) counters norms entries counts) ⌝ }
+        ≡ changeBy oneTierFace true (λ s. lentUpdateListCall kind.Standard s (now («record» .entry)) weight (length (now (list .entry)))) (cLentIn (cHeadIn shape «total_weight» «total_updates» mode lens flags) counters norms entries counts) ⌝ }
     ensures { λ r. ⌜ now (list .exit)
-        ≡ listLeft (r .refusal) (updateAnswers kind.Standard (view (lentOf (cLentIn (cHeadIn shape «total_weight» «total_updates» mode lens flags) counters norms entries counts))) (now («record» .entry)) weight) (now (list .entry)) ⌝ }
+        ≡ listLeft (r .refusal) (updateAnswers kind.Standard (view (lentOf oneTierFace (cLentIn (cHeadIn shape «total_weight» «total_updates» mode lens flags) counters norms entries counts))) (now («record» .entry)) weight) (now (list .entry)) ⌝ }
 {
     if LAST_MODE < mode {
         return CStep {
@@ -48,7 +48,7 @@ pub extern "C" fn univmon_update_weighted_lent(
         };
     }
     let scalars = scalars_of(shape, total_weight, total_updates, mode);
-    c_step(univmon::update_weighted_lent(
+    c_step(univmon::update_weighted_lent_one_tier(
         scalars,
         lens,
         flags,
@@ -80,9 +80,9 @@ pub extern "C" fn univmon_update_weighted_terminal_lent(
     list: &mut [u64],
 ) -> CStep
     ensures { λ r. ⌜ cLeft (r .refusal) (cLentOut (cHeadOut shape (r .weight) (r .updates) (r .mode) lens flags) counters norms entries counts)
-        ≡ changeBy true (λ s. lentUpdateListCall kind.Terminal s (now («record» .entry)) weight (length (now (list .entry)))) (cLentIn (cHeadIn shape «total_weight» «total_updates» mode lens flags) counters norms entries counts) ⌝ }
+        ≡ changeBy oneTierFace true (λ s. lentUpdateListCall kind.Terminal s (now («record» .entry)) weight (length (now (list .entry)))) (cLentIn (cHeadIn shape «total_weight» «total_updates» mode lens flags) counters norms entries counts) ⌝ }
     ensures { λ r. ⌜ now (list .exit)
-        ≡ listLeft (r .refusal) (updateAnswers kind.Terminal (view (lentOf (cLentIn (cHeadIn shape «total_weight» «total_updates» mode lens flags) counters norms entries counts))) (now («record» .entry)) weight) (now (list .entry)) ⌝ }
+        ≡ listLeft (r .refusal) (updateAnswers kind.Terminal (view (lentOf oneTierFace (cLentIn (cHeadIn shape «total_weight» «total_updates» mode lens flags) counters norms entries counts))) (now («record» .entry)) weight) (now (list .entry)) ⌝ }
 {
     if LAST_MODE < mode {
         return CStep {
@@ -93,7 +93,7 @@ pub extern "C" fn univmon_update_weighted_terminal_lent(
         };
     }
     let scalars = scalars_of(shape, total_weight, total_updates, mode);
-    c_step(univmon::update_weighted_terminal_lent(
+    c_step(univmon::update_weighted_terminal_lent_one_tier(
         scalars,
         lens,
         flags,

@@ -1,9 +1,10 @@
-// UnivMon for programs in C and Rust: the public calls under plain names with the prefix `univmon_`.
+// UnivMon for programs in C and Rust: the public calls under plain names with the prefix `univmon_`. Its
+// header has four dimensions; those of `UnivMonTwoTier` are in `univmon_two_tier`.
 // A header crosses by value with its mode as a number, a slice as a pointer and a length. For updates
 // the header's lengths and flags may be lent instead, so that nothing large is copied.
 pub mod answering;
 pub mod changing;
-mod crossing;
+pub mod crossing;
 pub mod lending;
 pub mod texts;
 

@@ -11,7 +11,7 @@ ghost use Prim.Native.Nat.{ℕ};
 ghost use Rattle.header.specs.Header.{zeroHeader};
 ghost use Rattle.layout.specs.Lending.{lentIn};
 ghost use Rattle.state_text.specs.Calls.{writeCall, readCall};
-ghost use Rattle.univmon_c.specs.Calls.{cLeft, crossed, cCopied, writeBy};
+ghost use Rattle.univmon_c.specs.Calls.{oneTierFace, cLeft, crossed, cCopied, writeBy};
 ghost use Rattle.univmon_c.specs.Lending.{cLentIn, cLentOut};
 
 // A state's text at the start of the lent space: 9 for a state that fails the check, 16 for a space that
@@ -47,7 +47,7 @@ pub extern "C" fn univmon_read_state(
     counts: &mut [i64],
 ) -> CAnswered
     ensures { λ r. ⌜ cLeft (r .refusal) (cLentOut (r .header) counters norms entries counts)
-        ≡ crossed (readCall (now (text .entry)) (lentIn zeroHeader counters norms entries counts)) ⌝ }
+        ≡ crossed oneTierFace (readCall (now (text .entry)) (lentIn zeroHeader counters norms entries counts)) ⌝ }
 {
     c_answered(state_reader::read_state(text, counters, norms, entries, counts))
 }

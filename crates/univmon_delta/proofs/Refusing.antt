@@ -6,9 +6,9 @@ use Prim.Native.Nat.{ℕ, _*_, _≤_, _<_}
 use native.Mathlib.Omega.{arith}
 use lib.ListN.{length, drop, replicate}
 use lib.Dec.{eqb}
-use borrow.Author.Tests.{eqb-true, leb-false, ltb-false, not-false, lt-ltb, le-ltb}
+use borrow.Author.Tests.{eqb-true, leb-false, not-false}
 use Rattle.words.specs.Tests.{number}
-use Rattle.words.proofs.Tests.{Off, off-number, number-off, number-first, number-rest, off-first, off-rest}
+use Rattle.words.proofs.Tests.{off-number, number-first}
 use Rattle.heap.specs.inner.Telling.{tellAt}
 use Rattle.header.specs.declared.Mode.{Mode}
 use Rattle.header.specs.Header.{withMode, settled}
@@ -21,7 +21,7 @@ use Rattle.layout.specs.inner.Telling.{listTests, tellLayers}
 use Rattle.layout.specs.Records.{recordLength}
 use Rattle.layout.proofs.Lengths.{standing-of}
 use Rattle.layout.proofs.Judged.{left-refused, left-done}
-use Rattle.layout.proofs.ListCalls.{list-judge}
+use Rattle.layout.proofs.ListCalls.{list-judge, list-before, list-short, list-enough, list-none}
 use Rattle.layout.proofs.Telling.{tell-is, length-layers, told-touched, list-told}
 use Rattle.univmon_delta.specs.Deltas.{Arrival, deltaBy, counterTests, deltaTestsAt, deltaTests, arrived, deltaAnswers, deltaCall, deltaListCall}
 use Rattle.univmon_delta.specs.inner.Needs.{Arrives}
@@ -72,25 +72,20 @@ module _ (r : Lent) (words : List ℕ) (a : Arrival) where
     room = listTests (2 * r .head .shape .layers) n
 
     pub first-number : (m : ℕ) → m ≡ number tests → (m ≡ 0 → ⊥) → m ≡ number (tests ++ room)
-    first-number m e h = e ∙ sym (number-first tests room (λ z. h (e ∙ z)))
-
-    off : number tests ≡ 0 → Off tests
-    unfolding deltaTests
-    off z = off-number tests refl z
+    first-number = list-before tests (2 * r .head .shape .layers) n
 
     pub short-number : number tests ≡ 0 → n < 2 * r .head .shape .layers → 16 ≡ number (tests ++ room)
-    short-number z h = sym (number-rest tests room (off z) ∙ rw (lt-ltb n (2 * r .head .shape .layers) h))
+    unfolding deltaTests
+    short-number = list-short tests (2 * r .head .shape .layers) n refl
 
     pub long-number : number tests ≡ 0 → 2 * r .head .shape .layers ≤ n → 0 ≡ number (tests ++ room)
-    long-number z h = sym (number-rest tests room (off z) ∙ rw (le-ltb n (2 * r .head .shape .layers) h))
+    unfolding deltaTests
+    long-number = list-enough tests (2 * r .head .shape .layers) n refl
 
     -- where nothing is refused, the list has a place for each layer
-    all-off : number (tests ++ room) ≡ 0 → Off (tests ++ room)
-    unfolding deltaTests
-    all-off z = off-number (tests ++ room) refl z
-
     pub none-refused : number (tests ++ room) ≡ 0 → (number tests ≡ 0) × (2 * r .head .shape .layers ≤ n)
-    none-refused z = (number-off tests (off-first tests room (all-off z)), ltb-false n _ (off-rest tests room (all-off z) .0))
+    unfolding deltaTests
+    none-refused = list-none tests (2 * r .head .shape .layers) n refl
 
     call-is : deltaListCall r words a n ≡ judge (tests ++ room) (flat (arrived (view r) words a))
     unfolding deltaListCall deltaCall

@@ -1,5 +1,5 @@
 -- What the list of a delta decides: the statement stands in specs/Told.antt. Assumes nothing.
-use mathlib.Core.Path.{sym, ap, subst}
+use mathlib.Core.Path.{refl, sym, ap, subst}
 use mathlib.Core.List.{List}
 use Prim.Native.Nat.{ℕ, _<_}
 use native.Mathlib.Omega.{arith}
@@ -16,7 +16,7 @@ use Rattle.layout.specs.inner.Needs.{Standing}
 use Rattle.layout.proofs.Lengths.{standing-of, long-view}
 use Rattle.layout.proofs.States.{at-fits}
 use Rattle.layout.proofs.Flatten.{sized-view}
-use Rattle.layout.proofs.Replaced.{Over, over}
+use Rattle.layout.proofs.Replaced.{Over, over, head-sized}
 use Rattle.layout.proofs.Judged.{judged}
 use Rattle.layout.proofs.Deciding.{decided}
 use Rattle.univmon_delta.specs.Deltas.{Arrival, everyInsert, deltaBy, deltaTests, arrived, deltaAnswers, deltaCall}
@@ -35,7 +35,7 @@ module _ (r : Lent) (words : List ℕ) (a : Arrival) (z : Standing r) (h : Heade
   unfolding view layerAt
   replaced =
       let v = sized-view r z h in
-      over step 1 (a .layer) start (record { counters = v .counters; norms = v .norms; cands = v .cands; flags = v .flags; lens = v .lens; few = v .few }) (omega arith)
+      over step 1 (a .layer) start (head-sized (view r) v (start .head) refl (v .flags) (v .lens)) (omega arith)
       (λ l p q. delta-lengths (dimsAt (r .head .shape) l) (deltaBy a words) (layerAt (view r) l) (at-fits (view r) (long-view r z) l (omega arith)))
 
   tells : Decides (everyInsert (a .fidelity)) (deltaAnswers (view r) words a) (r .head) (arrived (view r) words a .head)

@@ -5,7 +5,7 @@ use mathlib.Core.List.{List, _++_}
 use Prim.Native.Nat.{ℕ, zero, suc, _*_, _≤_}
 use native.Mathlib.Omega.{arith}
 use lib.ListN.{length}
-use borrow.Author.Tests.{not-false, ltb-false}
+use borrow.Author.Tests.{not-false}
 use Rattle.words.specs.Tests.{number}
 use Rattle.words.proofs.Tests.{Off, number-off, off-number, number-first, number-rest, off-first, off-rest}
 use Rattle.header.specs.declared.Mode.{Mode}
@@ -20,7 +20,7 @@ use Rattle.layout.specs.Outcomes.{judge, left, leftBy, lentTests}
 use Rattle.layout.specs.Answers.{layerPlaces, listLeft}
 use Rattle.layout.specs.inner.Telling.{listTests, tellLayers}
 use Rattle.layout.proofs.Judged.{left-refused, left-done}
-use Rattle.layout.proofs.ListCalls.{list-judge}
+use Rattle.layout.proofs.ListCalls.{list-judge, list-before, list-none}
 use Rattle.layout.proofs.Telling.{told-all, list-told, length-layers}
 use Rattle.layout.proofs.Lengths.{stands-of}
 use Rattle.univmon_merge.specs.Merges.{headsTests, pairTests, mergeTests, merged, mergeAnswers, mergeCall, mergeListCall}
@@ -83,11 +83,7 @@ module _ (r t : Lent) where
   least = 4 * r .head .shape .«heap_size» * r .head .shape .layers
 
   pub tests-refused : (m n : ℕ) → n ≡ number (mergeTests r t) → (n ≡ 0 → ⊥) → n ≡ number (mergeTests r t ++ listTests least m)
-  tests-refused m n e h = e ∙ sym (number-first (mergeTests r t) (listTests least m) (λ z. h (e ∙ z)))
-
-  pub list-number : (m : ℕ) → number (mergeTests r t) ≡ 0 → number (mergeTests r t ++ listTests least m) ≡ number (listTests least m)
-  unfolding mergeTests
-  list-number m z = number-rest (mergeTests r t) (listTests least m) (off-number (mergeTests r t) refl z)
+  tests-refused = list-before (mergeTests r t) least
 
   -- ---- the call
 
@@ -121,18 +117,15 @@ module _ (r t : Lent) where
     unfolding mergeTests
     merge-done = left-done (mergeTests r t ++ listTests least m) r (flat (merged (view r) (view t))) refl z ∙ ap (leftBy r) (sym (listed m))
 
-    all : Off (mergeTests r t ++ listTests least m)
-    unfolding mergeTests
-    all = off-number (mergeTests r t ++ listTests least m) refl z
-
     -- the list is long enough
     pub list-room : least ≤ m
-    list-room = ltb-false m least (off-rest (mergeTests r t) (listTests least m) all .0)
+    unfolding mergeTests
+    list-room = list-none (mergeTests r t) least m refl z .1
 
     -- no test holds
     none : Off (lentTests r ++ (lentTests t ++ (heads ++ pairs)))
     unfolding mergeTests
-    none = off-first (mergeTests r t) (listTests least m) all
+    none = off-number (mergeTests r t) refl (list-none (mergeTests r t) least m refl z .0)
 
     others : Off (lentTests t ++ (heads ++ pairs))
     others = off-rest (lentTests r) (lentTests t ++ (heads ++ pairs)) none

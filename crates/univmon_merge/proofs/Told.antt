@@ -23,7 +23,7 @@ use Rattle.layout.specs.Outcomes.{lentTests}
 use Rattle.layout.proofs.Lengths.{long-view}
 use Rattle.layout.proofs.States.{at-fits}
 use Rattle.layout.proofs.Flatten.{sized-view}
-use Rattle.layout.proofs.Replaced.{Over, over}
+use Rattle.layout.proofs.Replaced.{Over, over, head-sized}
 use Rattle.layout.proofs.Judged.{judged}
 use Rattle.layout.proofs.Telling.{layer-part}
 use Rattle.univmon_merge.specs.Merges.{headsTests, pairTests, mergeTests, merged, mergeAnswers, mergeCall}
@@ -68,7 +68,7 @@ module _ (r q : Lent) (p : Paired r q (r .head .shape .layers) 0) (h : Headed (r
   unfolding view layerAt
   replaced =
       let v = sized-view r (p .standing) h in
-      over step (r .head .shape .layers) 0 start (record { counters = v .counters; norms = v .norms; cands = v .cands; flags = v .flags; lens = v .lens; few = v .few }) (omega arith)
+      over step (r .head .shape .layers) 0 start (head-sized (view r) v (start .head) refl (v .flags) (v .lens)) (omega arith)
       (λ l a b. merge-lengths (dimsAt (r .head .shape) l) (here l) (there l) (at-fits (view r) (long-view r (p .standing)) l (omega arith))
       (rw (sym (p .same)) (at-fits (view q) (long-view q (p .other)) l (rw (p .same) (omega arith)))))
 

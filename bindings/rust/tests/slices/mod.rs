@@ -4,10 +4,7 @@ use univmon::{Answered, Header, Shape, Written, MAX_LAYERS};
 
 /// The header of a refused reading.
 pub const NO_HEADER: Header = Header {
-    heap_size: 0,
-    rows: 0,
-    cols: 0,
-    layers: 0,
+    shape: Shape { heap_size: 0, rows: 0, cols: 0, layers: 0 },
     weight: 0,
     updates: 0,
     mode: 0,

@@ -1,8 +1,12 @@
 -- Where a layer stands in the four slices.
-use Prim.Native.Nat.{ℕ, _+_, _*_}
+use Prim.Native.Nat.{ℕ, _+_, _*_, min}
 use Rattle.header.specs.declared.Shape.{Shape}
 use Rattle.layout.specs.declared.Span.{Span}
 use Rattle.layout.specs.State.{dimsAt, cellOff, normOff, candOff}
+
+-- how many of the layers before l are of the first tier
+abbrev pub elephantsBefore : Shape → ℕ → ℕ
+elephantsBefore sh l = min l (sh .«elephant_layers»)
 
 unfoldable pub spanOf : Shape → ℕ → Span
 spanOf sh l =

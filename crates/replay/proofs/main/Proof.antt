@@ -7,7 +7,7 @@ use Rattle.replay.proofs.main.Statement.{statement}
 use Rattle.replay.proofs.main.Tie as tie
 
 slice-aggregate-serve : tie.Need-slice-aggregate-serve
-slice-aggregate-serve c = sym (length-replicate {A = ℕ} 196984 0)
+slice-aggregate-serve c = sym (length-replicate {A = ℕ} 197008 0)
 
 serve-requires : tie.Need-serve-requires
 serve-requires c κs = search needs

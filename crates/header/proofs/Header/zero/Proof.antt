@@ -5,11 +5,14 @@ use borrow.Author.Needs.{needs}
 use Rattle.header.proofs.Header.zero.Statement.{statement}
 use Rattle.header.proofs.Header.zero.Tie as tie
 
+one-tier-requires : tie.Need-one-tier-requires
+one-tier-requires c κs = search needs
+
 zero-requires : tie.Need-zero-requires
 zero-requires c κs = search needs
 
 returns : tie.Need-returns
-returns c = simp (c .zero .ensures)
+returns c = simp (c .zero .ensures, c .before .one-tier .ensures)
 
 pub zero-spec : {M : Type 1} → statement M
-zero-spec = tie.close (tie.spec zero-requires returns)
+zero-spec = tie.close (tie.spec one-tier-requires zero-requires returns)

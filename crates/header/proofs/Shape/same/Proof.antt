@@ -1,21 +1,18 @@
 -- `header::Shape::same` meets its contract.
 -- Written by tools/places.py from answers.txt; assumes nothing.
-use borrow.Author.Tests.{eq-eqb, ne-eqb}
-use Rattle.header.proofs.Shapes.{last-test}
+use mathlib.Core.Path.{refl}
+use borrow.Author.Needs.{needs}
 use Rattle.header.proofs.Shape.same.Statement.{statement}
 use Rattle.header.proofs.Shape.same.Tie as tie
 
+same-table-requires : tie.Need-same-table-requires
+same-table-requires c κs = search needs
+
+same-table-requires-2 : tie.Need-same-table-requires-2
+same-table-requires-2 c κs = search needs
+
 returns : tie.Need-returns
-returns c = simp (ne-eqb _ _ (c .if1 .taken))
-
-returns-2 : tie.Need-returns-2
-returns-2 c = simp (eq-eqb _ _ (c .before .before .before .if1 .left), ne-eqb _ _ (c .if2 .taken))
-
-returns-3 : tie.Need-returns-3
-returns-3 c = simp (eq-eqb _ _ (c .before .before .before .before .before .before .if1 .left), eq-eqb _ _ (c .before .before .before .if2 .left), ne-eqb _ _ (c .if3 .taken))
-
-returns-4 : tie.Need-returns-4
-returns-4 c = last-test _ _ _ _ (eq-eqb _ _ (c .before .before .before .before .before .before .before .before .if1 .left)) (eq-eqb _ _ (c .before .before .before .before .before .if2 .left)) (eq-eqb _ _ (c .before .before .if3 .left))
+returns c = rw (c .before .before .before .before .before .before .before .same-table .ensures, c .before .before .before .before .before .before .same-table2 .ensures) refl
 
 pub same-spec : {M : Type 1} → statement M
-same-spec = tie.close (tie.spec returns returns-2 returns-3 returns-4)
+same-spec = tie.close (tie.spec same-table-requires same-table-requires-2 returns)

@@ -53,32 +53,32 @@ words-in c = omega (arith, ap (λ (x : Extent). x .words) (c .extent-of .ensures
 seats-in : (c : tie.After-extent-of) → c .extent-of .result .seats ≤ length (now (c .before .before .before .before .before .args .counts))
 seats-in c = omega (arith, ap (λ (x : Extent). x .seats) (c .extent-of .ensures), (fits (c .before)) .seats)
 
-slice-relend-prefix-new : tie.Need-slice-relend-prefix-new
-slice-relend-prefix-new c = cells-in c
+slice-relend-prefix-new-two-tier : tie.Need-slice-relend-prefix-new-two-tier
+slice-relend-prefix-new-two-tier c = cells-in c
 
-slice-aggregate-new : tie.Need-slice-aggregate-new
-slice-aggregate-new c = sym (length-take-le (c .before .extent-of .result .cells) (now (c .before .before .before .before .before .before .args .counters)) (cells-in (c .before)))
+slice-aggregate-new-two-tier : tie.Need-slice-aggregate-new-two-tier
+slice-aggregate-new-two-tier c = sym (length-take-le (c .before .extent-of .result .cells) (now (c .before .before .before .before .before .before .args .counters)) (cells-in (c .before)))
 
-slice-relend-prefix-new-2 : tie.Need-slice-relend-prefix-new-2
-slice-relend-prefix-new-2 c = norms-in (c .before)
+slice-relend-prefix-new-two-tier-2 : tie.Need-slice-relend-prefix-new-two-tier-2
+slice-relend-prefix-new-two-tier-2 c = norms-in (c .before)
 
-slice-aggregate-new-2 : tie.Need-slice-aggregate-new-2
-slice-aggregate-new-2 c = sym (length-take-le (c .before .before .extent-of .result .norms) (now (c .before .before .before .before .before .before .before .args .norms)) (norms-in (c .before .before)))
+slice-aggregate-new-two-tier-2 : tie.Need-slice-aggregate-new-two-tier-2
+slice-aggregate-new-two-tier-2 c = sym (length-take-le (c .before .before .extent-of .result .norms) (now (c .before .before .before .before .before .before .before .args .norms)) (norms-in (c .before .before)))
 
-slice-relend-prefix-new-3 : tie.Need-slice-relend-prefix-new-3
-slice-relend-prefix-new-3 c = words-in (c .before .before)
+slice-relend-prefix-new-two-tier-3 : tie.Need-slice-relend-prefix-new-two-tier-3
+slice-relend-prefix-new-two-tier-3 c = words-in (c .before .before)
 
-slice-aggregate-new-3 : tie.Need-slice-aggregate-new-3
-slice-aggregate-new-3 c = sym (length-take-le (c .before .before .before .extent-of .result .words) (now (c .before .before .before .before .before .before .before .before .args .entries)) (words-in (c .before .before .before)))
+slice-aggregate-new-two-tier-3 : tie.Need-slice-aggregate-new-two-tier-3
+slice-aggregate-new-two-tier-3 c = sym (length-take-le (c .before .before .before .extent-of .result .words) (now (c .before .before .before .before .before .before .before .before .args .entries)) (words-in (c .before .before .before)))
 
-slice-relend-prefix-new-4 : tie.Need-slice-relend-prefix-new-4
-slice-relend-prefix-new-4 c = seats-in (c .before .before .before)
+slice-relend-prefix-new-two-tier-4 : tie.Need-slice-relend-prefix-new-two-tier-4
+slice-relend-prefix-new-two-tier-4 c = seats-in (c .before .before .before)
 
-slice-aggregate-new-4 : tie.Need-slice-aggregate-new-4
-slice-aggregate-new-4 c = sym (length-take-le (c .before .before .before .before .extent-of .result .seats) (now (c .before .before .before .before .before .before .before .before .before .args .counts)) (seats-in (c .before .before .before .before)))
+slice-aggregate-new-two-tier-4 : tie.Need-slice-aggregate-new-two-tier-4
+slice-aggregate-new-two-tier-4 c = sym (length-take-le (c .before .before .before .before .extent-of .result .seats) (now (c .before .before .before .before .before .before .before .before .before .args .counts)) (seats-in (c .before .before .before .before)))
 
-new-requires : tie.Need-new-requires
-new-requires c κs = search needs
+new-two-tier-requires : tie.Need-new-two-tier-requires
+new-two-tier-requires c κs = search needs
 
 same-length : tie.Need-same-length
 same-length c = search needs
@@ -93,7 +93,7 @@ same-length-4 : tie.Need-same-length-4
 same-length-4 c = search needs
 
 returns-2 : tie.Need-returns-2
-returns-2 c = has-started (here (c .before .before .before .before .before .before .before .before .before .before .before .before .before .before .before .before)) (c .before .before .before .before .before .before .before .before .before .before .before .before .before .before .before .before .args .shape) (c .before .before .before .before .before .before .before .before .before .before .before .extent-of .result) _ (taken (c .before .before .before .before .before .before .before .before .before .before .before .before)) (c .before .before .before .before .before .before .before .before .before .before .before .extent-of .ensures) (c .before .before .before .before .before .before .new .ensures)
+returns-2 c = has-started (here (c .before .before .before .before .before .before .before .before .before .before .before .before .before .before .before .before)) (c .before .before .before .before .before .before .before .before .before .before .before .before .before .before .before .before .args .shape) (c .before .before .before .before .before .before .before .before .before .before .before .extent-of .result) _ (taken (c .before .before .before .before .before .before .before .before .before .before .before .before)) (c .before .before .before .before .before .before .before .before .before .before .before .extent-of .ensures) (c .before .before .before .before .before .before .new-two-tier .ensures)
 
 pub start-spec : {M : Type 1} → statement M
-start-spec = tie.close (tie.spec panel-refusal-requires refused-requires returns extent-of-requires slice-relend-prefix-new slice-aggregate-new slice-relend-prefix-new-2 slice-aggregate-new-2 slice-relend-prefix-new-3 slice-aggregate-new-3 slice-relend-prefix-new-4 slice-aggregate-new-4 new-requires same-length same-length-2 same-length-3 same-length-4 returns-2)
+start-spec = tie.close (tie.spec panel-refusal-requires refused-requires returns extent-of-requires slice-relend-prefix-new-two-tier slice-aggregate-new-two-tier slice-relend-prefix-new-two-tier-2 slice-aggregate-new-two-tier-2 slice-relend-prefix-new-two-tier-3 slice-aggregate-new-two-tier-3 slice-relend-prefix-new-two-tier-4 slice-aggregate-new-two-tier-4 new-two-tier-requires same-length same-length-2 same-length-3 same-length-4 returns-2)

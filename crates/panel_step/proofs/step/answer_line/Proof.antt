@@ -34,6 +34,9 @@ read-line-requires c κs = search needs
 enum-known-q : tie.Need-enum-known-q
 enum-known-q c = search needs
 
+one-tier-requires : tie.Need-one-tier-requires
+one-tier-requires c κs = search needs
+
 answer-shape-requires : tie.Need-answer-shape-requires
 answer-shape-requires c κs = search needs
 
@@ -90,9 +93,9 @@ same-length-5 c = search needs
 returns-2 : tie.Need-returns-2
 returns-2 c =
     let q = c .before .before .before .before .before .before .before .before .answer-shape .ensures in
-    let o = now (c .before .before .before .before .before .before .before .before .before .before .before .before .before .before .before .before .before .before .before .before .before .before .before .before .before .args .out) in
-    let w = readOf (now (c .before .before .before .before .before .before .before .before .before .before .before .before .before .before .before .before .before .before .before .before .before .before .before .before .before .args .line)) .words in
-    (q .0 ∙ ap (λ (a : Reply). put a o) (asks-shape (here (c .before .before .before .before .before .before .before .before .before .before .before .before .before .before .before .before .before .before .before .before .before .before .before .before .before)) _ _ _ _ w) ∙ line-put (here (c .before .before .before .before .before .before .before .before .before .before .before .before .before .before .before .before .before .before .before .before .before .before .before .before .before)) (now (c .before .before .before .before .before .before .before .before .before .before .before .before .before .before .before .before .before .before .before .before .before .before .before .before .before .args .line)) o _ (c .before .before .before .before .before .before .before .before .before .before .before .before .before .before .before .before .before .before .before .before .if1 .left) (sym (c .before .before .before .before .before .before .before .before .before .before .before .before .before .before .before .q .given .1) ∙ asks (c .before .before .before .before .before .before .before .before .before .before .before .before .before .before .before .before .before .before)), q .1)
+    let o = now (c .before .before .before .before .before .before .before .before .before .before .before .before .before .before .before .before .before .before .before .before .before .before .before .before .before .before .args .out) in
+    let w = readOf (now (c .before .before .before .before .before .before .before .before .before .before .before .before .before .before .before .before .before .before .before .before .before .before .before .before .before .before .args .line)) .words in
+    (rw (c .before .before .before .before .before .before .before .before .before .before .before .before .before .before .one-tier .ensures) at (q .0) ∙ ap (λ (a : Reply). put a o) (asks-shape (here (c .before .before .before .before .before .before .before .before .before .before .before .before .before .before .before .before .before .before .before .before .before .before .before .before .before .before)) _ _ _ _ w) ∙ line-put (here (c .before .before .before .before .before .before .before .before .before .before .before .before .before .before .before .before .before .before .before .before .before .before .before .before .before .before)) (now (c .before .before .before .before .before .before .before .before .before .before .before .before .before .before .before .before .before .before .before .before .before .before .before .before .before .before .args .line)) o _ (c .before .before .before .before .before .before .before .before .before .before .before .before .before .before .before .before .before .before .before .before .before .if1 .left) (sym (c .before .before .before .before .before .before .before .before .before .before .before .before .before .before .before .before .q .given .1) ∙ asks (c .before .before .before .before .before .before .before .before .before .before .before .before .before .before .before .before .before .before .before)), q .1)
 
 same-length-6 : tie.Need-same-length-6
 same-length-6 c = search needs
@@ -152,4 +155,4 @@ returns-5 c =
     (reply-put (left 13 (here (c .before .before .before .before .before .before .before .before .before .before .before .before .before .before))) (left 13 (here (c .before .before .before .before .before .before .before .before .before .before .before .before .before .before))) _ o _ refl (q .0) (q .1 .0) ∙ ap (λ (a : Reply). put a o) (asks-nothing (here (c .before .before .before .before .before .before .before .before .before .before .before .before .before .before)) w) ∙ line-put (here (c .before .before .before .before .before .before .before .before .before .before .before .before .before .before)) (now (c .before .before .before .before .before .before .before .before .before .before .before .before .before .before .args .line)) o ask.Unreadable (c .before .before .before .before .before .before .before .before .before .if1 .left) (sym (c .before .before .before .before .enum-told2 .given .1) ∙ asks (c .before .before .before .before .before .before .before)), q .1 .1)
 
 pub answer-line-spec : {M : Type 1} → statement M
-answer-line-spec = tie.close (tie.spec returns slice-aggregate-read-line read-line-requires enum-known-q answer-shape-requires enum-known-q-2 array-share-prefix-words slice-aggregate-spelt answer-add-requires enum-told answer-show-requires enum-told-2 put-reply-requires same-length same-length-2 same-length-3 same-length-4 same-length-5 returns-2 same-length-6 same-length-7 same-length-8 same-length-9 same-length-10 returns-3 same-length-11 same-length-12 same-length-13 same-length-14 same-length-15 returns-4 same-length-16 returns-5)
+answer-line-spec = tie.close (tie.spec returns slice-aggregate-read-line read-line-requires enum-known-q one-tier-requires answer-shape-requires enum-known-q-2 array-share-prefix-words slice-aggregate-spelt answer-add-requires enum-told answer-show-requires enum-told-2 put-reply-requires same-length same-length-2 same-length-3 same-length-4 same-length-5 returns-2 same-length-6 same-length-7 same-length-8 same-length-9 same-length-10 returns-3 same-length-11 same-length-12 same-length-13 same-length-14 same-length-15 returns-4 same-length-16 returns-5)

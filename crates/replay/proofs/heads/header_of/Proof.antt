@@ -66,6 +66,15 @@ get-requires-8 c κs = search needs
 get-requires-9 : tie.Need-get-requires-9 Inv-loop μ-loop
 get-requires-9 c κs = search needs
 
+get-requires-10 : tie.Need-get-requires-10 Inv-loop μ-loop
+get-requires-10 c κs = search needs
+
+get-requires-11 : tie.Need-get-requires-11 Inv-loop μ-loop
+get-requires-11 c κs = search needs
+
+get-requires-12 : tie.Need-get-requires-12 Inv-loop μ-loop
+get-requires-12 c κs = search needs
+
 mode-of-requires : tie.Need-mode-of-requires Inv-loop μ-loop
 mode-of-requires c κs = search needs
 
@@ -73,4 +82,4 @@ returns : tie.Need-returns Inv-loop μ-loop
 returns c = search needs
 
 pub header-of-spec : {M : Type 1} → statement M
-header-of-spec = tie.close (tie.spec Inv-loop μ-loop loop-holds add-get get-requires array-write-flags add-get-2 get-requires-2 mul-lens array-write-lens add-l loop-less loop-again get-requires-3 get-requires-4 get-requires-5 get-requires-6 get-requires-7 get-requires-8 get-requires-9 mode-of-requires returns)
+header-of-spec = tie.close (tie.spec Inv-loop μ-loop loop-holds add-get get-requires array-write-flags add-get-2 get-requires-2 mul-lens array-write-lens add-l loop-less loop-again get-requires-3 get-requires-4 get-requires-5 get-requires-6 get-requires-7 get-requires-8 get-requires-9 get-requires-10 get-requires-11 get-requires-12 mode-of-requires returns)

@@ -30,11 +30,20 @@ array-write-words-5 c = search needs
 array-write-words-6 : tie.Need-array-write-words-6 Inv-loop μ-loop
 array-write-words-6 c = search needs
 
+array-write-words-7 : tie.Need-array-write-words-7 Inv-loop μ-loop
+array-write-words-7 c = search needs
+
+array-write-words-8 : tie.Need-array-write-words-8 Inv-loop μ-loop
+array-write-words-8 c = search needs
+
+array-write-words-9 : tie.Need-array-write-words-9 Inv-loop μ-loop
+array-write-words-9 c = search needs
+
 number-of-requires : tie.Need-number-of-requires Inv-loop μ-loop
 number-of-requires c κs = search needs
 
-array-write-words-7 : tie.Need-array-write-words-7 Inv-loop μ-loop
-array-write-words-7 c = search needs
+array-write-words-10 : tie.Need-array-write-words-10 Inv-loop μ-loop
+array-write-words-10 c = search needs
 
 loop-holds : tie.Need-loop-holds Inv-loop μ-loop
 loop-holds c = search needs
@@ -51,8 +60,8 @@ add-words c = search needs
 mul-words : tie.Need-mul-words Inv-loop μ-loop
 mul-words c = search needs
 
-array-write-words-8 : tie.Need-array-write-words-8 Inv-loop μ-loop
-array-write-words-8 c = search needs
+array-write-words-11 : tie.Need-array-write-words-11 Inv-loop μ-loop
+array-write-words-11 c = search needs
 
 mul-words-2 : tie.Need-mul-words-2 Inv-loop μ-loop
 mul-words-2 c = search needs
@@ -66,8 +75,8 @@ add-words-2 c = search needs
 mul-words-3 : tie.Need-mul-words-3 Inv-loop μ-loop
 mul-words-3 c = search needs
 
-array-write-words-9 : tie.Need-array-write-words-9 Inv-loop μ-loop
-array-write-words-9 c = search needs
+array-write-words-12 : tie.Need-array-write-words-12 Inv-loop μ-loop
+array-write-words-12 c = search needs
 
 add-l : tie.Need-add-l Inv-loop μ-loop
 add-l c = search needs
@@ -82,4 +91,4 @@ returns : tie.Need-returns Inv-loop μ-loop
 returns c = search needs
 
 pub words-of-spec : {M : Type 1} → statement M
-words-of-spec = tie.close (tie.spec Inv-loop μ-loop array-write-words array-write-words-2 array-write-words-3 array-write-words-4 array-write-words-5 array-write-words-6 number-of-requires array-write-words-7 loop-holds array-read-bit-of bit-of-requires add-words mul-words array-write-words-8 mul-words-2 array-read-words add-words-2 mul-words-3 array-write-words-9 add-l loop-less loop-again returns)
+words-of-spec = tie.close (tie.spec Inv-loop μ-loop array-write-words array-write-words-2 array-write-words-3 array-write-words-4 array-write-words-5 array-write-words-6 array-write-words-7 array-write-words-8 array-write-words-9 number-of-requires array-write-words-10 loop-holds array-read-bit-of bit-of-requires add-words mul-words array-write-words-11 mul-words-2 array-read-words add-words-2 mul-words-3 array-write-words-12 add-l loop-less loop-again returns)

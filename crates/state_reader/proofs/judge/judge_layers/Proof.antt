@@ -33,7 +33,7 @@ slice-aggregate-judge-page-2 c = sym (c .before .before .before .loop .inv .0 .1
 judge-page-requires : tie.Need-judge-page-requires Inv-loop μ-loop
 judge-page-requires c κs =
     let a = c .before .before .before .before .before .pre in
-    (record { rows = omega (arith, a .shaped .few); cols = omega (arith, a .shaped .wide); size = a .small }, (omega (arith, c .before .before .before .loop .inv .0 .0, a .small), omega (arith, c .before .before .before .loop .inv .0 .1, a .small)))
+    (record { rows = omega (arith, a .mouse .few); cols = omega (arith, a .mouse .wide); size = a .small }, (omega (arith, c .before .before .before .loop .inv .0 .0, a .small), omega (arith, c .before .before .before .loop .inv .0 .1, a .small)))
 
 enum-known-x : tie.Need-enum-known-x Inv-loop μ-loop
 enum-known-x c = search needs

@@ -11,6 +11,7 @@ use Rattle.layer.specs.declared.Dims.{Dims}
 use Rattle.layer.specs.inner.Needs.{layerOf}
 use Rattle.layout.specs.State.{dimsAt}
 use Rattle.layout.specs.Slices.{Lent, lent}
+use Rattle.layout.proofs.OneTier.{dims-alike}
 use Rattle.layout.proofs.Handed.{Spanned, cell-piece, norm-piece, word-piece, seat-piece, housed, word-length, Back, back-view, back-standing}
 use Rattle.state_forms.specs.Formats.{got}
 use Rattle.state_forms.specs.Grammar.{Page, pageFormat}
@@ -18,7 +19,7 @@ use Rattle.state_text.specs.Pages.{frameOf, dimsOf, layerFrom}
 use Rattle.layout.specs.Outcomes.{left}
 use Rattle.state_reader.specs.inner.Paged.{paged, pageSpot}
 use Rattle.state_reader.proofs.PageSteps.{page-in, page-answer, page-never}
-use Rattle.state_reader.proofs.Keepings.{dims-same, none-used}
+use Rattle.state_reader.proofs.Keepings.{none-used}
 use Rattle.state_reader.proofs.keeping.keep_layer.Statement.{statement}
 use Rattle.state_reader.proofs.keeping.keep_layer.Tie as tie
 
@@ -27,10 +28,10 @@ abbrev lent-of : tie.Start → Lent
 lent-of c = lent (c .args .h) (now (c .args .counters)) (now (c .args .norms)) (now (c .args .entries)) (now (c .args .counts))
 
 spanned : (c : tie.After-span-of) → Spanned (lent-of (c .before .before .before .before .before)) (c .before .before .before .before .before .args .l) (c .span-of .result)
-spanned c = record { standing = c .before .before .before .before .before .pre .0; inside = c .before .before .before .before .before .pre .1 .0; is = c .span-of .ensures }
+spanned c = record { standing = c .before .before .before .before .before .pre .1 .0; inside = c .before .before .before .before .before .pre .1 .1 .0; is = c .span-of .ensures }
 
 span-of-requires : tie.Need-span-of-requires
-span-of-requires c κs = (c .before .before .before .before .pre .0 .accepted, c .before .before .before .before .pre .1 .0)
+span-of-requires c κs = (c .before .before .before .before .pre .1 .0 .accepted, c .before .before .before .before .pre .1 .1 .0)
 
 dims-requires : tie.Need-dims-requires
 dims-requires c κs = search needs
@@ -106,16 +107,16 @@ same-length-4 c = search needs
 
 -- the layer's dimensions
 dims-are : (c : tie.After-dims) → c .dims .result ≡ dimsOf ((c .before .before .before .before .before .before .args .h) .shape)
-dims-are c = c .dims .ensures ∙ dims-same ((c .before .before .before .before .before .before .args .h) .shape) (c .before .before .before .before .before .before .args .l)
+dims-are c = c .dims .ensures ∙ dims-alike ((c .before .before .before .before .before .before .args .h) .shape) (c .before .before .before .before .before .before .pre .0) (c .before .before .before .before .before .before .args .l)
 
 answer : (c : tie.After-fill-page) → pageSpot (now (c .before .before .before .before .before .before .before .before .before .before .before .args .s)) (c .fill-page .result) ≡ paged (pageFormat (frameOf (dimsOf ((c .before .before .before .before .before .before .before .before .before .before .before .args .h) .shape))) (c .before .before .before .before .before .before .before .before .before .before .before .args .l) .read (drop (c .before .before .before .before .before .before .before .before .before .before .before .args .at) (now (c .before .before .before .before .before .before .before .before .before .before .before .args .s))))
 answer c = rw (dims-are (c .before .before .before .before .before)) at (c .fill-page .ensures .0)
 
 returns : tie.Need-returns
-returns c = let p = c .before .before .before .before .before .before .before .before .before .before .before .before .before .before .before .before .before .before .before .pre .1 .1 in absurd (page-never (pageFormat (frameOf (dimsOf ((c .before .before .before .before .before .before .before .before .before .before .before .before .before .before .before .before .before .before .before .args .h) .shape))) (c .before .before .before .before .before .before .before .before .before .before .before .before .before .before .before .before .before .before .before .args .l) .read (drop (c .before .before .before .before .before .before .before .before .before .before .before .before .before .before .before .before .before .before .before .args .at) (now (c .before .before .before .before .before .before .before .before .before .before .before .before .before .before .before .before .before .before .before .args .s)))) (sym (ap (pageSpot (now (c .before .before .before .before .before .before .before .before .before .before .before .before .before .before .before .before .before .before .before .args .s))) (c .enum-told .given .1)) ∙ answer (c .before .before .before .before .before .before .before .before)) (p .value) (p .left) (p .reads))
+returns c = let p = c .before .before .before .before .before .before .before .before .before .before .before .before .before .before .before .before .before .before .before .pre .1 .1 .1 in absurd (page-never (pageFormat (frameOf (dimsOf ((c .before .before .before .before .before .before .before .before .before .before .before .before .before .before .before .before .before .before .before .args .h) .shape))) (c .before .before .before .before .before .before .before .before .before .before .before .before .before .before .before .before .before .before .before .args .l) .read (drop (c .before .before .before .before .before .before .before .before .before .before .before .before .before .before .before .before .before .before .before .args .at) (now (c .before .before .before .before .before .before .before .before .before .before .before .before .before .before .before .before .before .before .before .args .s)))) (sym (ap (pageSpot (now (c .before .before .before .before .before .before .before .before .before .before .before .before .before .before .before .before .before .before .before .args .s))) (c .enum-told .given .1)) ∙ answer (c .before .before .before .before .before .before .before .before)) (p .value) (p .left) (p .reads))
 
 with-layer-requires : tie.Need-with-layer-requires
-with-layer-requires c κs = omega (arith, c .before .before .before .before .before .before .before .before .before .before .before .before .before .before .before .before .before .before .before .before .pre .1 .0, c .before .before .before .before .before .before .before .before .before .before .before .before .before .before .before .before .before .before .before .before .pre .0 .accepted .few)
+with-layer-requires c κs = omega (arith, c .before .before .before .before .before .before .before .before .before .before .before .before .before .before .before .before .before .before .before .before .pre .1 .1 .0, c .before .before .before .before .before .before .before .before .before .before .before .before .before .before .before .before .before .before .before .before .pre .1 .0 .accepted .few)
 
 same-length-5 : tie.Need-same-length-5
 same-length-5 c = search needs
@@ -147,9 +148,9 @@ layer-now c p t e =
 
 few : (c : tie.After-x) → c .x .given .0 .1 .0 ≤ dimsAt ((c .before .before .before .before .before .before .before .before .before .before .before .before .before .before .before .before .before .before .before .args .h) .shape) (c .before .before .before .before .before .before .before .before .before .before .before .before .before .before .before .before .before .before .before .args .l) .size
 few c =
-    let p = c .before .before .before .before .before .before .before .before .before .before .before .before .before .before .before .before .before .before .before .pre .1 .1 in
+    let p = c .before .before .before .before .before .before .before .before .before .before .before .before .before .before .before .before .before .before .before .pre .1 .1 .1 in
     let a = said c (p .value) (p .left) (p .reads) in
-    let sh = c .before .before .before .before .before .before .before .before .before .before .before .before .before .before .before .before .before .before .before .pre .0 .accepted .shaped in
+    let sh = c .before .before .before .before .before .before .before .before .before .before .before .before .before .before .before .before .before .before .before .pre .1 .0 .accepted .mouse in
     let i = page-in (dimsOf ((c .before .before .before .before .before .before .before .before .before .before .before .before .before .before .before .before .before .before .before .args .h) .shape)) (c .before .before .before .before .before .before .before .before .before .before .before .before .before .before .before .before .before .before .before .args .l) (drop (c .before .before .before .before .before .before .before .before .before .before .before .before .before .before .before .before .before .before .before .args .at) (now (c .before .before .before .before .before .before .before .before .before .before .before .before .before .before .before .before .before .before .before .args .s))) (p .value) (p .left) (omega (arith, c .before .before .before .before .before .before .before .before .before .before .before .before .before .before .before .before .before .before .before .fits .l)) (omega (arith, sh .wide)) (omega (arith, sh .few)) (p .reads) in
     omega (arith, a .1 .0, i .0 .1 .1 .0)
 

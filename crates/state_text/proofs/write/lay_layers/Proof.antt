@@ -37,9 +37,12 @@ lay-layer-requires : tie.Need-lay-layer-requires Inv-loop μ-loop
 lay-layer-requires c κs = (
   c .before .before .before .before .before .before .pre .0,
   (
-    c .before .loop-test .taken,
-    going-room (pageFormat (frameOf (dimsOf (c .before .before .before .before .before .before .args .header .shape))) (c .before .before .loop .l) .write (pageOf (dimsOf (c .before .before .before .before .before .before .args .header .shape)) (layerAt (state-of (c .before .before .before .before .before .before)) (c .before .before .loop .l))))
-        (pagesText (frameOf (dimsOf (c .before .before .before .before .before .before .args .header .shape))) (c .before .before .loop .l + 1) (pagesOf (state-of (c .before .before .before .before .before .before)) (c .before .before .before .before .before .before .args .header .shape .layers - (c .before .before .loop .l + 1)) (c .before .before .loop .l + 1))) (c .before .before .loop .inv .1) (step (c .before)) (c .before .before .before .before .before .before .pre .1),
+    c .before .before .before .before .before .before .pre .1 .0,
+    (
+      c .before .loop-test .taken,
+      going-room (pageFormat (frameOf (dimsOf (c .before .before .before .before .before .before .args .header .shape))) (c .before .before .loop .l) .write (pageOf (dimsOf (c .before .before .before .before .before .before .args .header .shape)) (layerAt (state-of (c .before .before .before .before .before .before)) (c .before .before .loop .l))))
+          (pagesText (frameOf (dimsOf (c .before .before .before .before .before .before .args .header .shape))) (c .before .before .loop .l + 1) (pagesOf (state-of (c .before .before .before .before .before .before)) (c .before .before .before .before .before .before .args .header .shape .layers - (c .before .before .loop .l + 1)) (c .before .before .loop .l + 1))) (c .before .before .loop .inv .1) (step (c .before)) (c .before .before .before .before .before .before .pre .1 .1),
+    ),
   ),
 )
 

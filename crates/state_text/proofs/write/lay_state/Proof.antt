@@ -14,18 +14,18 @@ abbrev lent-of : tie.Start → Lent
 lent-of c = lent (c .args .header) (now (c .args .counters)) (now (c .args .norms)) (now (c .args .entries)) (now (c .args .counts))
 
 lay-first-requires : tie.Need-lay-first-requires
-lay-first-requires c κs = omega (arith, c .before .before .before .before .before .pre .1, state-long (lent-of (c .before .before .before .before .before)))
+lay-first-requires c κs = omega (arith, c .before .before .before .before .before .pre .1 .1, state-long (lent-of (c .before .before .before .before .before)))
 
 mode-number-requires : tie.Need-mode-number-requires
 mode-number-requires c κs = search needs
 
 lay-head-requires : tie.Need-lay-head-requires
-lay-head-requires c κs = rw (c .before .mode-number .ensures) (omega (arith, c .before .before .before .before .before .before .before .before .before .before .pre .1, state-long (lent-of (c .before .before .before .before .before .before .before .before .before .before)), c .before .before .before .before .lay-first .ensures .place))
+lay-head-requires c κs = rw (c .before .mode-number .ensures) (omega (arith, c .before .before .before .before .before .before .before .before .before .before .pre .1 .1, state-long (lent-of (c .before .before .before .before .before .before .before .before .before .before)), c .before .before .before .before .lay-first .ensures .place))
 
 lay-layers-requires : tie.Need-lay-layers-requires
 lay-layers-requires c κs =
     let e = rw (c .before .before .before .before .before .mode-number .ensures) at (c .before .before .before .lay-head .ensures .place) in
-    (c .before .before .before .before .before .before .before .before .before .before .before .before .before .before .pre .0, omega (arith, c .before .before .before .before .before .before .before .before .before .before .before .before .before .before .pre .1, state-long (lent-of (c .before .before .before .before .before .before .before .before .before .before .before .before .before .before)), c .before .before .before .before .before .before .before .before .lay-first .ensures .place, e))
+    (c .before .before .before .before .before .before .before .before .before .before .before .before .before .before .pre .0, (c .before .before .before .before .before .before .before .before .before .before .before .before .before .before .pre .1 .0, omega (arith, c .before .before .before .before .before .before .before .before .before .before .before .before .before .before .pre .1 .1, state-long (lent-of (c .before .before .before .before .before .before .before .before .before .before .before .before .before .before)), c .before .before .before .before .before .before .before .before .lay-first .ensures .place, e)))
 
 same-length : tie.Need-same-length
 same-length c = search needs

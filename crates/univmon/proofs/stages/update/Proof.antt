@@ -19,8 +19,15 @@ use Rattle.layout.proofs.Telling.{list-kept}
 use Rattle.univmon.proofs.stages.update.Statement.{statement}
 use Rattle.univmon.proofs.stages.update.Tie as tie
 
+-- the state that is lent
+abbrev lent-of : tie.Start → Lent
+lent-of c = lent (headOf (c .args .scalars) (now (c .args .lens)) (now (c .args .flags))) (now (c .args .counters)) (now (c .args .norms)) (now (c .args .entries)) (now (c .args .counts))
+
+said-alike-requires : tie.Need-said-alike-requires
+said-alike-requires c κs = c .before .before .before .before .before .before .pre .1
+
 sound-refusal-requires : tie.Need-sound-refusal-requires
-sound-refusal-requires c κs = search needs
+sound-refusal-requires c κs = λ e. rw (c .before .before .said-alike .ensures) (c .before .before .before .before .before .before .before .before .before .pre .1 e)
 
 same-length : tie.Need-same-length
 same-length c = search needs
@@ -28,14 +35,14 @@ same-length c = search needs
 same-length-2 : tie.Need-same-length-2
 same-length-2 c = search needs
 
--- the state that is lent
-abbrev lent-of : tie.Start → Lent
-lent-of c = lent (headOf (c .args .scalars) (now (c .args .lens)) (now (c .args .flags))) (now (c .args .counters)) (now (c .args .norms)) (now (c .args .entries)) (now (c .args .counts))
+-- what the first tests answered, of the state that is lent
+number-is : (c : tie.After-sound-refusal) → c .sound-refusal .result ≡ number (soundIn (lent-of (c .before .before .before .before .before .before .before .before .before .before)) (now (c .before .before .before .before .before .before .before .before .before .before .args .«record»)))
+number-is c = rw (c .before .before .before .said-alike .ensures) at (c .sound-refusal .ensures)
 
 returns : tie.Need-returns
 returns c =
-    let a = c .before .before .before .before .before .before .before .before .before .before .args in (
-      after-unsound (a .kind) (a .begins) (now (a .«record»)) (a .weight) (length (now (a .list))) (lent-of (c .before .before .before .before .before .before .before .before .before .before)) (c .before .sound-refusal .result) (c .before .sound-refusal .ensures) (c .if1 .taken),
+    let a = c .before .before .before .before .before .before .before .before .before .before .before .args in (
+      after-unsound (a .kind) (a .begins) (now (a .«record»)) (a .weight) (length (now (a .list))) (lent-of (c .before .before .before .before .before .before .before .before .before .before .before)) (c .before .sound-refusal .result) (number-is (c .before)) (c .if1 .taken),
       list-kept _ _ _ (c .if1 .taken),
     )
 
@@ -46,22 +53,22 @@ same-length-4 : tie.Need-same-length-4
 same-length-4 c = search needs
 
 -- header, lengths and record were found right
-sound : (c : tie.Else1) → number (soundIn (lent-of (c .before .before .before .before .before .before .before .before .before .before)) (now (c .before .before .before .before .before .before .before .before .before .before .args .«record»))) ≡ 0
-sound c = sym (c .before .sound-refusal .ensures) ∙ c .if1 .left
+sound : (c : tie.Else1) → number (soundIn (lent-of (c .before .before .before .before .before .before .before .before .before .before .before)) (now (c .before .before .before .before .before .before .before .before .before .before .before .args .«record»))) ≡ 0
+sound c = sym (number-is (c .before)) ∙ c .if1 .left
 
 returns-2 : tie.Need-returns-2
 returns-2 c =
-    let a = c .before .before .before .before .before .before .before .before .before .before .before .args in
-    (after-unbegun (a .kind) (a .begins) (now (a .«record»)) (a .weight) (length (now (a .list))) (lent-of (c .before .before .before .before .before .before .before .before .before .before .before)) (sound (c .before)) (c .if2 .taken), list-kept _ _ _ (c .if2 .taken))
+    let a = c .before .before .before .before .before .before .before .before .before .before .before .before .args in
+    (after-unbegun (a .kind) (a .begins) (now (a .«record»)) (a .weight) (length (now (a .list))) (lent-of (c .before .before .before .before .before .before .before .before .before .before .before .before)) (sound (c .before)) (c .if2 .taken), list-kept _ _ _ (c .if2 .taken))
 
 magnitude-requires : tie.Need-magnitude-requires
 magnitude-requires c κs = search needs
 
-weight-is : (c : tie.After-magnitude) → c .magnitude .result ≡ natAbs (c .before .before .before .before .before .before .before .before .before .before .before .before .before .before .before .before .before .before .args .weight)
-weight-is c = rw (toZ-ofZ (c .before .before .before .before .before .before .before .before .before .before .before .before .before .before .before .before .before .before .fits .weight)) at (c .magnitude .ensures)
+weight-is : (c : tie.After-magnitude) → c .magnitude .result ≡ natAbs (c .before .before .before .before .before .before .before .before .before .before .before .before .before .before .before .before .before .before .before .args .weight)
+weight-is c = rw (toZ-ofZ (c .before .before .before .before .before .before .before .before .before .before .before .before .before .before .before .before .before .before .before .fits .weight)) at (c .magnitude .ensures)
 
 send-key-requires : tie.Need-send-key-requires
-send-key-requires c κs = let a = c .before .before .before .before .before .before .before .before .before .before .before .before .before .before .before .before .before .before .before .args in rw (weight-is (c .before)) (key-ready (lent-of (c .before .before .before .before .before .before .before .before .before .before .before .before .before .before .before .before .before .before .before)) (now (a .«record»)) (natAbs (a .weight)) (sound (c .before .before .before .before .before .before .before .before .before)) (c .before .before .before .before .before .before .before .before .before .before .before .before .before .before .before .before .before .before .before .pre (c .before .before .before .before .before .before .before .before .if2 .left)))
+send-key-requires c κs = let a = c .before .before .before .before .before .before .before .before .before .before .before .before .before .before .before .before .before .before .before .before .args in rw (c .before .before .before .before .before .before .before .before .before .before .before .before .before .said-alike .ensures, weight-is (c .before)) (key-ready (lent-of (c .before .before .before .before .before .before .before .before .before .before .before .before .before .before .before .before .before .before .before .before)) (now (a .«record»)) (natAbs (a .weight)) (sound (c .before .before .before .before .before .before .before .before .before)) (c .before .before .before .before .before .before .before .before .before .before .before .before .before .before .before .before .before .before .before .before .pre .0 (c .before .before .before .before .before .before .before .before .if2 .left)))
 
 same-length-5 : tie.Need-same-length-5
 same-length-5 c = search needs
@@ -86,12 +93,12 @@ same-length-11 c = search needs
 
 returns-3 : tie.Need-returns-3
 returns-3 c =
-    let a = c .before .before .before .before .before .before .before .before .before .before .before .before .before .before .before .before .before .before .before .before .before .before .before .before .before .before .before .before .before .before .before .before .args in
+    let a = c .before .before .before .before .before .before .before .before .before .before .before .before .before .before .before .before .before .before .before .before .before .before .before .before .before .before .before .before .before .before .before .before .before .args in
     let e = c .before .before .before .before .before .before .before .before .before .before .before .before .send-key .ensures in
     let n = c .before .before .before .before .before .before .before .before .before .before .before .before .send-key .result in (
-      rw (weight-is (c .before .before .before .before .before .before .before .before .before .before .before .before .before .before)) at (e .0) ∙ after-begun (a .kind) (a .begins) (now (a .«record»)) (a .weight) (length (now (a .list))) (lent-of (c .before .before .before .before .before .before .before .before .before .before .before .before .before .before .before .before .before .before .before .before .before .before .before .before .before .before .before .before .before .before .before .before)) (sound (c .before .before .before .before .before .before .before .before .before .before .before .before .before .before .before .before .before .before .before .before .before .before)) (c .before .before .before .before .before .before .before .before .before .before .before .before .before .before .before .before .before .before .before .before .before .if2 .left),
-      rw (weight-is (c .before .before .before .before .before .before .before .before .before .before .before .before .before .before)) at (e .1) ∙ ap (λ (t : List ℕ). listLeft n t (now (a .list))) (key-told (a .kind) (now (a .«record»)) (a .weight) (lent-of (c .before .before .before .before .before .before .before .before .before .before .before .before .before .before .before .before .before .before .before .before .before .before .before .before .before .before .before .before .before .before .before .before))),
+      rw (c .before .before .before .before .before .before .before .before .before .before .before .before .before .before .before .before .before .before .before .before .before .before .before .before .before .before .said-alike .ensures, weight-is (c .before .before .before .before .before .before .before .before .before .before .before .before .before .before)) at (e .0) ∙ after-begun (a .kind) (a .begins) (now (a .«record»)) (a .weight) (length (now (a .list))) (lent-of (c .before .before .before .before .before .before .before .before .before .before .before .before .before .before .before .before .before .before .before .before .before .before .before .before .before .before .before .before .before .before .before .before .before)) (sound (c .before .before .before .before .before .before .before .before .before .before .before .before .before .before .before .before .before .before .before .before .before .before)) (c .before .before .before .before .before .before .before .before .before .before .before .before .before .before .before .before .before .before .before .before .before .if2 .left),
+      rw (c .before .before .before .before .before .before .before .before .before .before .before .before .before .before .before .before .before .before .before .before .before .before .before .before .before .before .said-alike .ensures, weight-is (c .before .before .before .before .before .before .before .before .before .before .before .before .before .before)) at (e .1) ∙ ap (λ (t : List ℕ). listLeft n t (now (a .list))) (key-told (a .kind) (now (a .«record»)) (a .weight) (lent-of (c .before .before .before .before .before .before .before .before .before .before .before .before .before .before .before .before .before .before .before .before .before .before .before .before .before .before .before .before .before .before .before .before .before))),
     )
 
 pub update-spec : {M : Type 1} → statement M
-update-spec = tie.close (tie.spec sound-refusal-requires same-length same-length-2 returns same-length-3 same-length-4 returns-2 magnitude-requires send-key-requires same-length-5 same-length-6 same-length-7 same-length-8 same-length-9 same-length-10 same-length-11 returns-3)
+update-spec = tie.close (tie.spec said-alike-requires sound-refusal-requires same-length same-length-2 returns same-length-3 same-length-4 returns-2 magnitude-requires send-key-requires same-length-5 same-length-6 same-length-7 same-length-8 same-length-9 same-length-10 same-length-11 returns-3)

@@ -7,11 +7,12 @@ use Rattle.layout.specs.Outcomes.{left}
 use Rattle.univmon_c.specs.Calls.{CLent, cLent}
 use Rattle.univmon_c.proofs.Turning.{check-no-mode, checked}
 use Rattle.state_check.specs.Check.{stateOk}
+use Rattle.univmon_c.specs.declared.CHeader.{CHeader}
 use Rattle.univmon_c.proofs.answering.univmon_check_state.Statement.{statement}
 use Rattle.univmon_c.proofs.answering.univmon_check_state.Tie as tie
 
 -- what C lends
-abbrev here : tie.Start → CLent
+abbrev here : tie.Start → CLent CHeader
 here c = cLent (c .args .header) (now (c .args .counters)) (now (c .args .norms)) (now (c .args .entries)) (now (c .args .counts))
 
 returns : tie.Need-returns

@@ -8,8 +8,9 @@ use denote.Ref.{now}
 use Rattle.layout.specs.Slices.{Lent}
 use Rattle.layout.specs.Outcomes.{left}
 use Rattle.estimates.specs.Calls.{cardinalityCall}
-use Rattle.univmon_c.specs.Calls.{CLent, cLent, lentOf}
+use Rattle.univmon_c.specs.Calls.{oneTierFace, CLent, cLent, lentOf}
 use Rattle.univmon_c.proofs.Turning.{answer-no-mode, answers}
+use Rattle.univmon_c.specs.declared.CHeader.{CHeader}
 use Rattle.univmon_c.proofs.answering.univmon_estimate_cardinality.Statement.{statement}
 use Rattle.univmon_c.proofs.answering.univmon_estimate_cardinality.Tie as tie
 
@@ -17,15 +18,15 @@ no-answer-requires : tie.Need-no-answer-requires
 no-answer-requires c κs = search needs
 
 -- what C lends
-abbrev here : tie.Start → CLent
+abbrev here : tie.Start → CLent CHeader
 here c = cLent (c .args .header) (now (c .args .counters)) (now (c .args .norms)) (now (c .args .entries)) (now (c .args .counts))
 
 -- the state that it stands for
 abbrev stood : tie.Start → Lent
-stood c = lentOf (here c)
+stood c = lentOf oneTierFace (here c)
 
 returns : tie.Need-returns
-returns c = c .no-answer .ensures ∙ answer-no-mode true (c .before .before .before .before .before .args .header) (cardinalityCall (stood (c .before .before .before .before .before))) (omega (arith, c .before .if1 .taken))
+returns c = c .no-answer .ensures ∙ answer-no-mode true (c .before .before .before .before .before .args .header .mode) (cardinalityCall (stood (c .before .before .before .before .before))) (omega (arith, c .before .if1 .taken))
 
 header-of-requires : tie.Need-header-of-requires
 header-of-requires c κs = search needs
@@ -39,7 +40,7 @@ c-answer-requires c κs = search needs
 returns-2 : tie.Need-returns-2
 returns-2 c =
     c .c-answer .ensures
-    ∙ answers true (c .before .before .before .before .before .before .before .args .header) (cardinalityCall (stood (c .before .before .before .before .before .before .before))) _ (omega (arith, c .before .before .before .if1 .left)) refl (rw (c .before .before .header-of .ensures) at (c .before .estimate-cardinality .ensures))
+    ∙ answers true (c .before .before .before .before .before .before .before .args .header .mode) (cardinalityCall (stood (c .before .before .before .before .before .before .before))) _ (omega (arith, c .before .before .before .if1 .left)) refl (rw (c .before .before .header-of .ensures) at (c .before .estimate-cardinality .ensures))
 
 pub univmon-estimate-cardinality-spec : {M : Type 1} → statement M
 univmon-estimate-cardinality-spec = tie.close (tie.spec no-answer-requires returns header-of-requires estimate-cardinality-requires c-answer-requires returns-2)

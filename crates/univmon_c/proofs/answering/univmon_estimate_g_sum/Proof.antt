@@ -9,8 +9,9 @@ use Rattle.layout.specs.Slices.{Lent}
 use Rattle.layout.specs.Outcomes.{left}
 use Rattle.estimates.specs.Calls.{sumCall}
 use Rattle.univmon_c.specs.Crossing.{gBy, isG}
-use Rattle.univmon_c.specs.Calls.{CLent, cLent, lentOf}
+use Rattle.univmon_c.specs.Calls.{oneTierFace, CLent, cLent, lentOf}
 use Rattle.univmon_c.proofs.Turning.{answer-no-mode, answer-no-choice, answers}
+use Rattle.univmon_c.specs.declared.CHeader.{CHeader}
 use Rattle.univmon_c.proofs.answering.univmon_estimate_g_sum.Statement.{statement}
 use Rattle.univmon_c.proofs.answering.univmon_estimate_g_sum.Tie as tie
 
@@ -18,15 +19,15 @@ no-answer-requires : tie.Need-no-answer-requires
 no-answer-requires c κs = search needs
 
 -- what C lends
-abbrev here : tie.Start → CLent
+abbrev here : tie.Start → CLent CHeader
 here c = cLent (c .args .header) (now (c .args .counters)) (now (c .args .norms)) (now (c .args .entries)) (now (c .args .counts))
 
 -- the state that it stands for
 abbrev stood : tie.Start → Lent
-stood c = lentOf (here c)
+stood c = lentOf oneTierFace (here c)
 
 returns : tie.Need-returns
-returns c = c .no-answer .ensures ∙ answer-no-mode (isG (c .before .before .before .before .before .args .g)) (c .before .before .before .before .before .args .header) (sumCall (gBy (c .before .before .before .before .before .args .g)) (c .before .before .before .before .before .args .count-every-key) (stood (c .before .before .before .before .before))) (omega (arith, c .before .if1 .taken))
+returns c = c .no-answer .ensures ∙ answer-no-mode (isG (c .before .before .before .before .before .args .g)) (c .before .before .before .before .before .args .header .mode) (sumCall (gBy (c .before .before .before .before .before .args .g)) (c .before .before .before .before .before .args .count-every-key) (stood (c .before .before .before .before .before))) (omega (arith, c .before .if1 .taken))
 
 no-answer-requires-2 : tie.Need-no-answer-requires-2
 no-answer-requires-2 c κs = search needs
@@ -34,7 +35,7 @@ no-answer-requires-2 c κs = search needs
 returns-2 : tie.Need-returns-2
 returns-2 c =
     c .no-answer2 .ensures
-    ∙ answer-no-choice (isG (c .before .before .before .before .before .before .args .g)) (c .before .before .before .before .before .before .args .header) (sumCall (gBy (c .before .before .before .before .before .before .args .g)) (c .before .before .before .before .before .before .args .count-every-key) (stood (c .before .before .before .before .before .before))) (omega (arith, c .before .before .if1 .left)) (lt-leb _ _ (c .before .if2 .taken))
+    ∙ answer-no-choice (isG (c .before .before .before .before .before .before .args .g)) (c .before .before .before .before .before .before .args .header .mode) (sumCall (gBy (c .before .before .before .before .before .before .args .g)) (c .before .before .before .before .before .before .args .count-every-key) (stood (c .before .before .before .before .before .before))) (omega (arith, c .before .before .if1 .left)) (lt-leb _ _ (c .before .if2 .taken))
 
 header-of-requires : tie.Need-header-of-requires
 header-of-requires c κs = search needs
@@ -51,7 +52,7 @@ c-answer-requires c κs = search needs
 returns-3 : tie.Need-returns-3
 returns-3 c =
     c .c-answer .ensures
-    ∙ answers (isG (c .before .before .before .before .before .before .before .before .before .args .g)) (c .before .before .before .before .before .before .before .before .before .args .header) (sumCall (gBy (c .before .before .before .before .before .before .before .before .before .args .g)) (c .before .before .before .before .before .before .before .before .before .args .count-every-key) (stood (c .before .before .before .before .before .before .before .before .before))) _ (omega (arith, c .before .before .before .before .before .if1 .left)) (le-leb _ _ (c .before .before .before .before .if2 .left))
+    ∙ answers (isG (c .before .before .before .before .before .before .before .before .before .args .g)) (c .before .before .before .before .before .before .before .before .before .args .header .mode) (sumCall (gBy (c .before .before .before .before .before .before .before .before .before .args .g)) (c .before .before .before .before .before .before .before .before .before .args .count-every-key) (stood (c .before .before .before .before .before .before .before .before .before))) _ (omega (arith, c .before .before .before .before .before .if1 .left)) (le-leb _ _ (c .before .before .before .before .if2 .left))
     (rw (c .before .before .before .header-of .ensures, c .before .before .g-of .ensures) at (c .before .estimate-g-sum .ensures))
 
 pub univmon-estimate-g-sum-spec : {M : Type 1} → statement M

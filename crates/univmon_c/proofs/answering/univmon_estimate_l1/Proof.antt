@@ -15,7 +15,7 @@ no-answer-requires : tie.Need-no-answer-requires
 no-answer-requires c κs = search needs
 
 returns : tie.Need-returns
-returns c = c .no-answer .ensures ∙ answer-no-mode true (c .before .before .before .args .header) (l1Call (headerOf (c .before .before .before .args .header))) (omega (arith, c .before .if1 .taken))
+returns c = c .no-answer .ensures ∙ answer-no-mode true (c .before .before .before .args .header .mode) (l1Call (headerOf (c .before .before .before .args .header))) (omega (arith, c .before .if1 .taken))
 
 header-of-requires : tie.Need-header-of-requires
 header-of-requires c κs = search needs
@@ -29,7 +29,7 @@ c-answer-requires c κs = search needs
 returns-2 : tie.Need-returns-2
 returns-2 c =
     c .c-answer .ensures
-    ∙ answers true (c .before .before .before .before .before .args .header) (l1Call (headerOf (c .before .before .before .before .before .args .header))) _ (omega (arith, c .before .before .before .if1 .left)) refl (rw (c .before .before .header-of .ensures) at (c .before .estimate-l1 .ensures))
+    ∙ answers true (c .before .before .before .before .before .args .header .mode) (l1Call (headerOf (c .before .before .before .before .before .args .header))) _ (omega (arith, c .before .before .before .if1 .left)) refl (rw (c .before .before .header-of .ensures) at (c .before .estimate-l1 .ensures))
 
 pub univmon-estimate-l1-spec : {M : Type 1} → statement M
 univmon-estimate-l1-spec = tie.close (tie.spec no-answer-requires returns header-of-requires estimate-l1-requires c-answer-requires returns-2)

@@ -7,8 +7,9 @@ use denote.Ref.{now}
 use Rattle.layout.specs.Slices.{Lent}
 use Rattle.layout.specs.Outcomes.{left}
 use Rattle.estimates.specs.Calls.{panelCall}
-use Rattle.univmon_c.specs.Calls.{CLent, cLent, lentOf}
+use Rattle.univmon_c.specs.Calls.{oneTierFace, CLent, cLent, lentOf}
 use Rattle.univmon_c.proofs.Turning.{panel-no-mode, panelled}
+use Rattle.univmon_c.specs.declared.CHeader.{CHeader}
 use Rattle.univmon_c.proofs.answering.univmon_panel_answer.Statement.{statement}
 use Rattle.univmon_c.proofs.answering.univmon_panel_answer.Tie as tie
 
@@ -16,12 +17,12 @@ no-panel-requires : tie.Need-no-panel-requires
 no-panel-requires c κs = search needs
 
 -- what C lends
-abbrev here : tie.Start → CLent
+abbrev here : tie.Start → CLent CHeader
 here c = cLent (c .args .header) (now (c .args .counters)) (now (c .args .norms)) (now (c .args .entries)) (now (c .args .counts))
 
 -- the state that it stands for
 abbrev stood : tie.Start → Lent
-stood c = lentOf (here c)
+stood c = lentOf oneTierFace (here c)
 
 returns : tie.Need-returns
 returns c = c .no-panel .ensures ∙ panel-no-mode (c .before .before .before .before .before .args .header) (panelCall (stood (c .before .before .before .before .before))) (omega (arith, c .before .if1 .taken))

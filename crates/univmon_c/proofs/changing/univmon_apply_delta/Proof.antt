@@ -11,13 +11,14 @@ use Rattle.univmon_delta.specs.Deltas.{arrival, deltaListCall}
 use Rattle.layout.specs.Outcomes.{Outcome, left}
 use Rattle.layout.proofs.Telling.{list-kept}
 use Rattle.univmon_c.specs.Crossing.{fidelityOf, isFidelity}
-use Rattle.univmon_c.specs.Calls.{CLent, cLent}
+use Rattle.univmon_c.specs.Calls.{oneTierFace, CLent, cLent}
 use Rattle.univmon_c.proofs.Turning.{change-no-mode, change-no-choice, changed}
+use Rattle.univmon_c.specs.declared.CHeader.{CHeader}
 use Rattle.univmon_c.proofs.changing.univmon_apply_delta.Statement.{statement}
 use Rattle.univmon_c.proofs.changing.univmon_apply_delta.Tie as tie
 
 -- what C lends
-abbrev here : tie.Start → CLent
+abbrev here : tie.Start → CLent CHeader
 here c = cLent (c .args .header) (now (c .args .counters)) (now (c .args .norms)) (now (c .args .entries)) (now (c .args .counts))
 
 -- the call on the state that it stands for
@@ -25,11 +26,11 @@ abbrev call : tie.Start → Lent → Outcome
 call c s = deltaListCall s (now (c .args .«record»)) (arrival (c .args .layer) (c .args .row) (c .args .col) (c .args .count) (fidelityOf (c .args .fidelity))) (length (now (c .args .list)))
 
 returns : tie.Need-returns
-returns c = (change-no-mode (isFidelity (c .before .before .before .before .before .before .args .fidelity)) (call (c .before .before .before .before .before .before)) (here (c .before .before .before .before .before .before)) (omega (arith, c .if1 .taken)), list-kept 9 _ _ (λ e. omega (arith, e)))
+returns c = (change-no-mode oneTierFace (isFidelity (c .before .before .before .before .before .before .args .fidelity)) (call (c .before .before .before .before .before .before)) (here (c .before .before .before .before .before .before)) (omega (arith, c .if1 .taken)), list-kept 9 _ _ (λ e. omega (arith, e)))
 
 returns-2 : tie.Need-returns-2
 returns-2 c = (
-  change-no-choice (isFidelity (c .before .before .before .before .before .before .before .args .fidelity)) (call (c .before .before .before .before .before .before .before)) (here (c .before .before .before .before .before .before .before)) (omega (arith, c .before .if1 .left)) (lt-leb _ _ (c .if2 .taken)),
+  change-no-choice oneTierFace (isFidelity (c .before .before .before .before .before .before .before .args .fidelity)) (call (c .before .before .before .before .before .before .before)) (here (c .before .before .before .before .before .before .before)) (omega (arith, c .before .if1 .left)) (lt-leb _ _ (c .if2 .taken)),
   list-kept 9 _ _ (λ e. omega (arith, e)),
 )
 
@@ -64,7 +65,7 @@ returns-3 : tie.Need-returns-3
 returns-3 c =
     let e = c .before .before .before .before .before .before .before .before .before .apply-delta .ensures in (
       rw (c .c-answered .ensures)
-          (changed (isFidelity (c .before .before .before .before .before .before .before .before .before .before .before .before .before .before .before .before .before .before .before .before .before .before .before .before .args .fidelity)) (call (c .before .before .before .before .before .before .before .before .before .before .before .before .before .before .before .before .before .before .before .before .before .before .before .before)) (here (c .before .before .before .before .before .before .before .before .before .before .before .before .before .before .before .before .before .before .before .before .before .before .before .before)) (omega (arith, c .before .before .before .before .before .before .before .before .before .before .before .before .before .before .before .before .before .before .if1 .left)) (le-leb _ _ (c .before .before .before .before .before .before .before .before .before .before .before .before .before .before .before .before .before .if2 .left)) _ _
+          (changed oneTierFace (isFidelity (c .before .before .before .before .before .before .before .before .before .before .before .before .before .before .before .before .before .before .before .before .before .before .before .before .args .fidelity)) (call (c .before .before .before .before .before .before .before .before .before .before .before .before .before .before .before .before .before .before .before .before .before .before .before .before)) (here (c .before .before .before .before .before .before .before .before .before .before .before .before .before .before .before .before .before .before .before .before .before .before .before .before)) (omega (arith, c .before .before .before .before .before .before .before .before .before .before .before .before .before .before .before .before .before .before .if1 .left)) (le-leb _ _ (c .before .before .before .before .before .before .before .before .before .before .before .before .before .before .before .before .before .if2 .left)) _ _
           (rw (c .before .before .before .before .before .before .before .before .before .before .before .before .before .before .before .before .header-of .ensures, c .before .before .before .before .before .before .before .before .before .before .before .before .before .before .before .fidelity-of .ensures, toZ-ofZ (c .before .before .before .before .before .before .before .before .before .before .before .before .before .before .before .before .before .before .before .before .before .before .before .before .fits .count)) at (e .0))),
       rw (c .c-answered .ensures) (rw (c .before .before .before .before .before .before .before .before .before .before .before .before .before .before .before .before .header-of .ensures, c .before .before .before .before .before .before .before .before .before .before .before .before .before .before .before .fidelity-of .ensures, toZ-ofZ (c .before .before .before .before .before .before .before .before .before .before .before .before .before .before .before .before .before .before .before .before .before .before .before .before .fits .count)) at (e .1)),
     )

@@ -7,17 +7,18 @@ use borrow.Author.Needs.{needs}
 use denote.Ref.{now}
 use Rattle.layout.specs.Outcomes.{left}
 use Rattle.univmon.specs.Calls.{clearCall}
-use Rattle.univmon_c.specs.Calls.{CLent, cLent}
+use Rattle.univmon_c.specs.Calls.{oneTierFace, CLent, cLent}
 use Rattle.univmon_c.proofs.Turning.{change-no-mode, changed}
+use Rattle.univmon_c.specs.declared.CHeader.{CHeader}
 use Rattle.univmon_c.proofs.changing.univmon_clear.Statement.{statement}
 use Rattle.univmon_c.proofs.changing.univmon_clear.Tie as tie
 
 -- what C lends
-abbrev here : tie.Start → CLent
+abbrev here : tie.Start → CLent CHeader
 here c = cLent (c .args .header) (now (c .args .counters)) (now (c .args .norms)) (now (c .args .entries)) (now (c .args .counts))
 
 returns : tie.Need-returns
-returns c = change-no-mode true clearCall (here (c .before .before .before .before)) (omega (arith, c .if1 .taken))
+returns c = change-no-mode oneTierFace true clearCall (here (c .before .before .before .before)) (omega (arith, c .if1 .taken))
 
 header-of-requires : tie.Need-header-of-requires
 header-of-requires c κs = search needs
@@ -43,7 +44,7 @@ same-length-4 c = search needs
 returns-2 : tie.Need-returns-2
 returns-2 c =
     rw (c .c-answered .ensures)
-    (changed true clearCall (here (c .before .before .before .before .before .before .before .before .before .before .before .before .before .before .before .before .before)) (omega (arith, c .before .before .before .before .before .before .before .before .before .before .before .before .before .if1 .left)) refl _ _ (rw (c .before .before .before .before .before .before .before .before .before .before .before .before .header-of .ensures) at (c .before .before .before .before .before .before .before .clear .ensures)))
+    (changed oneTierFace true clearCall (here (c .before .before .before .before .before .before .before .before .before .before .before .before .before .before .before .before .before)) (omega (arith, c .before .before .before .before .before .before .before .before .before .before .before .before .before .if1 .left)) refl _ _ (rw (c .before .before .before .before .before .before .before .before .before .before .before .before .header-of .ensures) at (c .before .before .before .before .before .before .before .clear .ensures)))
 
 pub univmon-clear-spec : {M : Type 1} → statement M
 univmon-clear-spec = tie.close (tie.spec returns header-of-requires clear-requires c-answered-requires same-length same-length-2 same-length-3 same-length-4 returns-2)

@@ -8,17 +8,18 @@ use Rattle.layout.specs.Slices.{Lent}
 use Rattle.layout.specs.Outcomes.{Outcome, left}
 use Rattle.univmon_merge.specs.Merges.{mergeListCall}
 use Rattle.layout.proofs.Telling.{list-kept}
-use Rattle.univmon_c.specs.Calls.{CLent, cLent}
+use Rattle.univmon_c.specs.Calls.{oneTierFace, CLent, cLent}
 use Rattle.univmon_c.proofs.Turning.{merge-no-mode, merge-no-other, merged}
+use Rattle.univmon_c.specs.declared.CHeader.{CHeader}
 use Rattle.univmon_c.proofs.changing.univmon_merge.Statement.{statement}
 use Rattle.univmon_c.proofs.changing.univmon_merge.Tie as tie
 
 -- what C lends
-abbrev here : tie.Start → CLent
+abbrev here : tie.Start → CLent CHeader
 here c = cLent (c .args .header) (now (c .args .counters)) (now (c .args .norms)) (now (c .args .entries)) (now (c .args .counts))
 
 -- the other state that C lends
-abbrev there : tie.Start → CLent
+abbrev there : tie.Start → CLent CHeader
 there c = cLent (c .args .other) (now (c .args .other-counters)) (now (c .args .other-norms)) (now (c .args .other-entries)) (now (c .args .other-counts))
 
 -- the call on the states that they stand for
@@ -26,10 +27,10 @@ abbrev call : tie.Start → Lent → Lent → Outcome
 call c s t = mergeListCall s t (length (now (c .args .list)))
 
 returns : tie.Need-returns
-returns c = (merge-no-mode (call (c .before .before .before .before .before .before .before)) (here (c .before .before .before .before .before .before .before)) (there (c .before .before .before .before .before .before .before)) (omega (arith, c .if1 .taken)), list-kept 9 _ _ (λ e. omega (arith, e)))
+returns c = (merge-no-mode oneTierFace (call (c .before .before .before .before .before .before .before)) (here (c .before .before .before .before .before .before .before)) (there (c .before .before .before .before .before .before .before)) (omega (arith, c .if1 .taken)), list-kept 9 _ _ (λ e. omega (arith, e)))
 
 returns-2 : tie.Need-returns-2
-returns-2 c = (merge-no-other (call (c .before .before .before .before .before .before .before .before .before)) (here (c .before .before .before .before .before .before .before .before .before)) (there (c .before .before .before .before .before .before .before .before .before)) (omega (arith, c .before .before .if1 .left)) (c .if2 .taken), list-kept 9 _ _ (λ e. omega (arith, e)))
+returns-2 c = (merge-no-other oneTierFace (call (c .before .before .before .before .before .before .before .before .before)) (here (c .before .before .before .before .before .before .before .before .before)) (there (c .before .before .before .before .before .before .before .before .before)) (omega (arith, c .before .before .if1 .left)) (c .if2 .taken), list-kept 9 _ _ (λ e. omega (arith, e)))
 
 header-of-requires : tie.Need-header-of-requires
 header-of-requires c κs = search needs
@@ -62,7 +63,7 @@ returns-3 : tie.Need-returns-3
 returns-3 c =
     let e = c .before .before .before .before .before .before .before .before .before .merge .ensures in (
       rw (c .c-answered .ensures)
-          (merged (call (c .before .before .before .before .before .before .before .before .before .before .before .before .before .before .before .before .before .before .before .before .before .before .before .before .before .before)) (here (c .before .before .before .before .before .before .before .before .before .before .before .before .before .before .before .before .before .before .before .before .before .before .before .before .before .before)) (there (c .before .before .before .before .before .before .before .before .before .before .before .before .before .before .before .before .before .before .before .before .before .before .before .before .before .before)) (omega (arith, c .before .before .before .before .before .before .before .before .before .before .before .before .before .before .before .before .before .before .before .if1 .left)) (c .before .before .before .before .before .before .before .before .before .before .before .before .before .before .before .before .before .if2 .left) _ _ (rw (c .before .before .before .before .before .before .before .before .before .before .before .before .before .before .before .before .header-of .ensures, c .before .before .before .before .before .before .before .before .before .before .before .before .before .before .before .header-of2 .ensures) at (e .0))),
+          (merged oneTierFace (call (c .before .before .before .before .before .before .before .before .before .before .before .before .before .before .before .before .before .before .before .before .before .before .before .before .before .before)) (here (c .before .before .before .before .before .before .before .before .before .before .before .before .before .before .before .before .before .before .before .before .before .before .before .before .before .before)) (there (c .before .before .before .before .before .before .before .before .before .before .before .before .before .before .before .before .before .before .before .before .before .before .before .before .before .before)) (omega (arith, c .before .before .before .before .before .before .before .before .before .before .before .before .before .before .before .before .before .before .before .if1 .left)) (c .before .before .before .before .before .before .before .before .before .before .before .before .before .before .before .before .before .if2 .left) _ _ (rw (c .before .before .before .before .before .before .before .before .before .before .before .before .before .before .before .before .header-of .ensures, c .before .before .before .before .before .before .before .before .before .before .before .before .before .before .before .header-of2 .ensures) at (e .0))),
       rw (c .c-answered .ensures) (rw (c .before .before .before .before .before .before .before .before .before .before .before .before .before .before .before .before .header-of .ensures, c .before .before .before .before .before .before .before .before .before .before .before .before .before .before .before .header-of2 .ensures) at (e .1)),
     )
 

@@ -1,18 +1,19 @@
 -- `univmon_merge::judge::merge_refusal` meets its contract.
 -- Written by tools/places.py from answers.txt; assumes nothing.
 use Prim.Native.Nat.{_*_, _≤_}
-use mathlib.Core.Path.{_≡_, sym, _∙_}
+use mathlib.Core.Path.{_≡_, refl, sym, _∙_}
 use native.Mathlib.Omega.{arith}
 use borrow.Author.Needs.{needs}
-use borrow.Author.Tests.{lt-ltb, le-ltb}
 use denote.Ref.{now}
 use Rattle.layout.specs.Slices.{lent, Lent}
 use native.Mathlib.Nat.{mul-le-mul, le-refl}
 use Rattle.words.specs.Tests.{number}
+use Rattle.header.specs.Shape.{maxLayers}
 use Rattle.layout.specs.Outcomes.{lentTests}
+use Rattle.layout.proofs.ListCalls.{list-short, list-enough}
 use Rattle.univmon_merge.specs.Merges.{headsTests, mergeTests}
 use Rattle.univmon_merge.specs.inner.Pairs.{Paired}
-use Rattle.univmon_merge.proofs.MergeCalls.{own-refused, other-refused, heads-refused, pairs-number, paired-of, tests-refused, list-number}
+use Rattle.univmon_merge.proofs.MergeCalls.{own-refused, other-refused, heads-refused, pairs-number, paired-of, tests-refused}
 use Rattle.univmon_merge.proofs.judge.merge_refusal.Statement.{statement}
 use Rattle.univmon_merge.proofs.judge.merge_refusal.Tie as tie
 
@@ -71,7 +72,7 @@ returns-4 : tie.Need-returns-4
 returns-4 c = tests-refused (lent-of (c .before .before .before .before .before .before .before .before .before .before .before .before)) (other-of (c .before .before .before .before .before .before .before .before .before .before .before .before)) (c .before .before .before .before .before .before .before .before .before .before .before .before .args .list) (c .before .layers-refusal .result) (judged (c .before)) (c .if4 .taken)
 
 -- the places of all layers, in words
-words : (c : tie.Else3) → let sh = c .before .before .before .before .before .before .before .before .before .before .args .h .shape in 4 * sh .«heap_size» * sh .layers ≤ 4 * sh .«heap_size» * 19
+words : (c : tie.Else3) → let sh = c .before .before .before .before .before .before .before .before .before .before .args .h .shape in 4 * sh .«heap_size» * sh .layers ≤ 4 * sh .«heap_size» * maxLayers
 words c = mul-le-mul (le-refl (4 * c .before .before .before .before .before .before .before .before .before .before .args .h .shape .«heap_size»)) ((paired c) .standing .accepted .few)
 
 mul-if5 : tie.Need-mul-if5
@@ -84,10 +85,12 @@ none : (c : tie.Else4) → number (mergeTests (lent-of (c .before .before .befor
 none c = sym (judged (c .before)) ∙ c .if4 .left
 
 returns-5 : tie.Need-returns-5
-returns-5 c = sym (list-number (lent-of (c .before .before .before .before .before .before .before .before .before .before .before .before .before .before)) (other-of (c .before .before .before .before .before .before .before .before .before .before .before .before .before .before)) (c .before .before .before .before .before .before .before .before .before .before .before .before .before .before .args .list) (none (c .before .before)) ∙ rw (lt-ltb _ _ (c .if5 .taken)))
+unfolding mergeTests
+returns-5 c = list-short (mergeTests (lent-of (c .before .before .before .before .before .before .before .before .before .before .before .before .before .before)) (other-of (c .before .before .before .before .before .before .before .before .before .before .before .before .before .before))) _ (c .before .before .before .before .before .before .before .before .before .before .before .before .before .before .args .list) refl (none (c .before .before)) (c .if5 .taken)
 
 returns-6 : tie.Need-returns-6
-returns-6 c = sym (list-number (lent-of (c .before .before .before .before .before .before .before .before .before .before .before .before .before .before)) (other-of (c .before .before .before .before .before .before .before .before .before .before .before .before .before .before)) (c .before .before .before .before .before .before .before .before .before .before .before .before .before .before .args .list) (none (c .before .before)) ∙ rw (le-ltb _ _ (c .if5 .left)))
+unfolding mergeTests
+returns-6 c = list-enough (mergeTests (lent-of (c .before .before .before .before .before .before .before .before .before .before .before .before .before .before)) (other-of (c .before .before .before .before .before .before .before .before .before .before .before .before .before .before))) _ (c .before .before .before .before .before .before .before .before .before .before .before .before .before .before .args .list) refl (none (c .before .before)) (c .if5 .left)
 
 pub merge-refusal-spec : {M : Type 1} → statement M
 merge-refusal-spec = tie.close (tie.spec lent-refusal-requires returns lent-refusal-requires-2 returns-2 heads-refusal-requires returns-3 layers-refusal-requires returns-4 mul-if5 mul-if5-2 returns-5 returns-6)
