@@ -2,11 +2,13 @@
 // row's sum of capped squares, its norm.
 //
 // These functions are called by the other crates of this repository, which show what they require:
-// the functions that answer yes or no judge, the functions that store do not judge again.
+// the functions that answer yes or no judge, the functions that store do not judge again, and
+// `update_if_ready` does both.
 mod cells;
 mod estimate;
 mod merging;
 mod norm;
+mod straight;
 mod update;
 
 pub use cells::apply_delta;
@@ -29,4 +31,11 @@ pub use update::rows_fit;
 pub use update::rows_read;
 pub use update::rows_ready;
 pub use update::update_and_count;
+pub use update::update_if_ready;
 pub use update::update_weighted_with_hash;
+
+// What an update that is made only where it may be answers: whether it was made, and the count after it.
+pub struct TriedUpdate {
+    pub made: bool,
+    pub count: i64,
+}

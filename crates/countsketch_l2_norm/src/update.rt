@@ -10,13 +10,18 @@ ghost use Rattle.words.specs.Wide.{valueOf};
 ghost use Rattle.matrix_storage.specs.Bits.{maxRows, maxCols, hashBits, maskBits, signed, hashOf};
 ghost use Rattle.matrix_storage.specs.inner.Shaped.{Shaped};
 ghost use Rattle.countsketch_l2_norm.specs.Sketch.{cellOf, addRows, rowRead, rowsRead, rowsFit};
-ghost use Rattle.countsketch_l2_norm.specs.inner.Needs.{sketchOf, rowsReady, Ready, CellReady, RowAdded};
+ghost use Rattle.countsketch_l2_norm.specs.inner.Needs.{sketchOf, rowsReady, Ready, CellReady, RowAdded, notMade, MadeIfReady};
 ghost use Rattle.countsketch_l2_norm.specs.Estimate.{estimates, estimateOf, cellsInRange};
+use crate::TriedUpdate;
 use crate::cells::add_cell;
 use crate::cells::index_of;
 use crate::cells::norm_of;
 use crate::cells::row_read;
 use crate::estimate::row_estimate;
+use crate::straight::update_five;
+use crate::straight::update_five_if_ready;
+use crate::straight::update_three;
+use crate::straight::update_three_if_ready;
 use matrix_storage::MAX_ROWS;
 use words::Wide;
 
@@ -65,25 +70,21 @@ pub fn update_weighted_with_hash(
     }
 }
 
-// One row of an update: the counter that the hash names takes the weight with the row's sign, and the
-// row's estimate is read off the counter just stored.
-fn update_row(
+// One row of an update, with the index of the counter that the hash names: the counter takes the weight
+// with the row's sign, and the row's estimate is read off the counter just stored.
+pub fn update_row(
     counters: &mut [i64],
     norms: &mut [u64],
-    bits: usize,
-    cols: usize,
+    at: usize,
     r: usize,
     high: u64,
     low: u64,
     weight: u64,
 ) -> i64
-    requires { ⌜ (1 ≤ cols) × ((cols ≤ maxCols) × (bits ≡ maskBits cols)) ⌝ }
-    requires { ⌜ (r < maxRows) × (r * maskBits cols < hashBits) ⌝ }
-    requires { ⌜ weight ≤ top ⌝ }
-    requires { ⌜ CellReady (cellOf cols (hashOf high low) r) r (signed (hashOf high low) r (pos weight)) (now counters) (now norms) ⌝ }
-    ensures { λ v. ⌜ RowAdded cols (hashOf high low) weight r (now (counters .entry)) (now (norms .entry)) (now (counters .exit)) (now (norms .exit)) v ⌝ }
+    requires { ⌜ (r < maxRows) × (weight ≤ top) ⌝ }
+    requires { ⌜ CellReady at r (signed (hashOf high low) r (pos weight)) (now counters) (now norms) ⌝ }
+    ensures { λ v. ⌜ RowAdded at (hashOf high low) weight r (now (counters .entry)) (now (norms .entry)) (now (counters .exit)) (now (norms .exit)) v ⌝ }
 {
-    let at = place(high, low, bits, cols, r);
     let delta = delta_at(high, low, r, weight);
     add_cell(counters, norms, at, r, delta);
     row_estimate(&*counters, high, low, at, r)
@@ -110,38 +111,17 @@ fn update_rows(
     let bits = matrix_storage::mask_bits(cols);
     let mut r = 0;
     while r < rows {
-        let v = update_row(counters, norms, bits, cols, r, high, low, weight);
+        let at = place(high, low, bits, cols, r);
+        let v = update_row(counters, norms, at, r, high, low, weight);
         buf[r] = v;
         r += 1;
     }
 }
 
-// An update of five rows, and the count after it: the rows' estimates stay in locals.
-fn update_five(
-    counters: &mut [i64],
-    norms: &mut [u64],
-    cols: usize,
-    high: u64,
-    low: u64,
-    weight: u64,
-) -> i64
-    requires { ⌜ Ready 5 cols (hashOf high low) weight (now counters) (now norms) ⌝ }
-    ensures { λ _. ⌜ sketchOf (now (counters .exit)) (now (norms .exit)) 5
-        ≡ addRows cols (hashOf high low) weight 5 0 (sketchOf (now (counters .entry)) (now (norms .entry)) 5) ⌝ }
-    ensures { λ v. ⌜ v ≡ estimateOf 5 cols (hashOf high low) (now (counters .exit)) ⌝ }
-{
-    let bits = matrix_storage::mask_bits(cols);
-    let a = update_row(counters, norms, bits, cols, 0, high, low, weight);
-    let b = update_row(counters, norms, bits, cols, 1, high, low, weight);
-    let c = update_row(counters, norms, bits, cols, 2, high, low, weight);
-    let d = update_row(counters, norms, bits, cols, 3, high, low, weight);
-    let e = update_row(counters, norms, bits, cols, 4, high, low, weight);
-    structure_utils::median_of_five(a, b, c, d, e)
-}
-
 // The update and the count of the same hash after it, in one pass over the rows. What it stores is
 // what `update_weighted_with_hash` stores, what it answers is what `count_with_hash` then answers:
-// those two say what is meant, this one is quicker. Five rows are common, and have a way of their own.
+// those two say what is meant, this one is quicker. Three rows and five are common, and have a way of
+// their own.
 pub fn update_and_count(
     counters: &mut [i64],
     norms: &mut [u64],
@@ -158,6 +138,9 @@ pub fn update_and_count(
 {
     if rows == 5 {
         return update_five(counters, norms, cols, high, low, weight);
+    }
+    if rows == 3 {
+        return update_three(counters, norms, cols, high, low, weight);
     }
     let mut buf = [0i64; MAX_ROWS];
     update_rows(&mut buf, counters, norms, rows, cols, high, low, weight);
@@ -229,7 +212,7 @@ fn norm_ready(square: u64, w: Wide, cols: usize) -> bool
 
 // Whether a row may take the weight: what is read is in range, and so is the new counter. A short
 // counter and a weight that is not near the end of the range leave only the norm to be asked for.
-fn row_ready(x: i64, w: Wide, cols: usize, high: u64, low: u64, r: usize, weight: u64) -> bool
+pub fn row_ready(x: i64, w: Wide, cols: usize, high: u64, low: u64, r: usize, weight: u64) -> bool
     requires { ⌜ (r < maxRows) × (weight ≤ top) ⌝ }
     ensures { λ b. ⌜ b ≡ rowRead x (valueOf w) cols && inRange (x +ℤ signed (hashOf high low) r (pos weight)) ⌝ }
 {
@@ -269,4 +252,43 @@ pub fn rows_ready(
         r += 1;
     }
     true
+}
+
+// The answer of an update that may not be made.
+pub fn not_made() -> TriedUpdate
+    ensures { λ m. ⌜ m ≡ notMade ⌝ }
+{
+    TriedUpdate {
+        made: false,
+        count: 0,
+    }
+}
+
+// `rows_ready`, and where it says yes `update_and_count`; where it says no nothing is touched.
+pub fn update_if_ready(
+    counters: &mut [i64],
+    norms: &mut [u64],
+    rows: usize,
+    cols: usize,
+    high: u64,
+    low: u64,
+    weight: u64,
+) -> TriedUpdate
+    requires { ⌜ Shaped rows cols ⌝ }
+    requires { ⌜ (rows * cols ≤ length (now counters)) × ((2 * rows ≤ length (now norms)) × (weight ≤ top)) ⌝ }
+    ensures { λ m. ⌜ MadeIfReady rows cols (hashOf high low) weight (now (counters .entry)) (now (norms .entry)) (now (counters .exit)) (now (norms .exit)) m ⌝ }
+{
+    if rows == 3 {
+        return update_three_if_ready(counters, norms, cols, high, low, weight);
+    }
+    if rows == 5 {
+        return update_five_if_ready(counters, norms, cols, high, low, weight);
+    }
+    if !rows_ready(&*counters, &*norms, rows, cols, high, low, weight) {
+        return not_made();
+    }
+    TriedUpdate {
+        made: true,
+        count: update_and_count(counters, norms, rows, cols, high, low, weight),
+    }
 }

@@ -32,6 +32,14 @@ ranged-of h e =
       lens = and-right (eqb (shapeRefusal (h .shape)) 0 && totalsOk (h .totals)) (lensFrom (h .shape .layers) (h .shape .«heap_size») (h .lens) (h .flags) maxLayers 0) e;
     }
 
+-- the code's way: the shape first, then the rest
+pub header-is : (h : Header) (good rest : Bool) → eqb (shapeRefusal (h .shape)) 0 ≡ good
+    → rest ≡ good && (totalsOk (h .totals) && lensFrom (h .shape .layers) (h .shape .«heap_size») (h .lens) (h .flags) maxLayers 0)
+    → rest ≡ headerOk h
+unfolding headerOk
+header-is h true rest e r = rw e r
+header-is h false rest e r = rw e r
+
 -- a layer's length is at most the heap size
 lens-at : (layers size : ℕ) (lens : List ℕ) (flags : List Bool) (k i j : ℕ) → j < k → i + j < layers → lensFrom layers size lens flags k i ≡ true → getD lens (i + j) 0 ≤ size
 unfolding lensFrom

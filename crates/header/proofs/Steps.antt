@@ -1,6 +1,6 @@
 -- The header's own steps: flags, lengths, the tests of a weight. Assumes nothing.
 use mathlib.Core.Path.{_≡_, refl, sym, ap, _∙_}
-use mathlib.Core.Bool.{Bool, true, false, cond, not, _&&_}
+use mathlib.Core.Bool.{Bool, true, false, cond, not, and-false, _&&_}
 use mathlib.Core.List.{List, _∷_, _++_}
 use Prim.Native.Nat.{ℕ, zero, suc, _+_, _-_, _≤_, _<_}
 use native.Mathlib.Omega.{arith}
@@ -112,22 +112,18 @@ module _ (h : Header) (w : ℤ) (m : Mode) where
 
 -- ---- a layer's flag and length
 
-and-false : (a : Bool) → a && false ≡ false
-and-false true = refl
-and-false false = refl
+pub flag-kept : (fs : List Bool) (l : ℕ) (b : Bool) → b ≡ true → fs ≡ set fs l (getD fs l false && b)
+flag-kept fs l b e = sym (ap (set fs l) (ap (λ (x : Bool). getD fs l false && x) e ∙ and-true (getD fs l false)) ∙ set-getD fs l false)
+
+pub flag-lost : (fs : List Bool) (l : ℕ) (b : Bool) → b ≡ false → set fs l false ≡ set fs l (getD fs l false && b)
+flag-lost fs l b e = sym (ap (set fs l) (ap (λ (x : Bool). getD fs l false && x) e ∙ and-false (getD fs l false)))
 
 pub touched-kept : (h : Header) (l n : ℕ) (b : Bool) → b ≡ true → withLens h (set (h .lens) l n) ≡ withLayer h l n (getD (h .flags) l false && b)
-touched-kept h l n b e = ap (λ (fs : List Bool). withLens (withFlags h fs) (set (h .lens) l n)) same
-  where
-    same : h .flags ≡ set (h .flags) l (getD (h .flags) l false && b)
-    same = sym (ap (set (h .flags) l) (ap (λ (x : Bool). getD (h .flags) l false && x) e ∙ and-true (getD (h .flags) l false)) ∙ set-getD (h .flags) l false)
+touched-kept h l n b e = ap (λ (fs : List Bool). withLens (withFlags h fs) (set (h .lens) l n)) (flag-kept (h .flags) l b e)
 
 pub touched-lost : (h : Header) (l n : ℕ) (b : Bool) → b ≡ false
     → withFlags (withLens h (set (h .lens) l n)) (set (h .flags) l false) ≡ withLayer h l n (getD (h .flags) l false && b)
-touched-lost h l n b e = ap (λ (fs : List Bool). withLens (withFlags h fs) (set (h .lens) l n)) same
-  where
-    same : set (h .flags) l false ≡ set (h .flags) l (getD (h .flags) l false && b)
-    same = sym (ap (set (h .flags) l) (ap (λ (x : Bool). getD (h .flags) l false && x) e ∙ and-false (getD (h .flags) l false)))
+touched-lost h l n b e = ap (λ (fs : List Bool). withLens (withFlags h fs) (set (h .lens) l n)) (flag-lost (h .flags) l b e)
 
 -- ---- flags of a fresh state
 

@@ -32,23 +32,23 @@ twoTier heap elephants er ec mr mc layers =
     }
 
 -- of one tier's rows and columns: whether there are none, whether they take too many hash bits, whether they are above the domain
-abbrev pub noTable : ℕ → ℕ → Bool
-noTable rows cols = eqb rows 0 || eqb cols 0
+abbrev pub emptyTier : ℕ → ℕ → Bool
+emptyTier rows cols = eqb rows 0 || eqb cols 0
 
 abbrev pub bitsAbove : ℕ → ℕ → Bool
 bitsAbove rows cols = ltb hashBits ((maskBits cols + 1) * rows)
 
-abbrev pub tableAbove : ℕ → ℕ → Bool
-tableAbove rows cols = ltb maxRows rows || ltb maxCols cols
+abbrev pub tierAbove : ℕ → ℕ → Bool
+tierAbove rows cols = ltb maxRows rows || ltb maxCols cols
 
 -- 1 "a dimension is 0", 2 "layers above 19", 3 "hash bits above 128", 4 "rows, cols or heap size above the domain"; 0 where nothing is refused. "Both shapes
 -- meet 01's limits even when no layer uses one; `elephant_layers` is 0 to 19, else 2. Each of 1 to 4 is judged over both shapes before the next." (02, W4)
 unfoldable pub shapeRefusal : Shape → ℕ
 shapeRefusal sh =
-    cond (eqb (sh .«heap_size») 0 || (eqb (sh .layers) 0 || (noTable (sh .«elephant_rows») (sh .«elephant_cols») || noTable (sh .«mouse_rows») (sh .«mouse_cols»)))) 1
+    cond (eqb (sh .«heap_size») 0 || (eqb (sh .layers) 0 || (emptyTier (sh .«elephant_rows») (sh .«elephant_cols») || emptyTier (sh .«mouse_rows») (sh .«mouse_cols»)))) 1
     (cond (ltb maxLayers (sh .layers) || ltb maxLayers (sh .«elephant_layers»)) 2
     (cond (bitsAbove (sh .«elephant_rows») (sh .«elephant_cols») || bitsAbove (sh .«mouse_rows») (sh .«mouse_cols»)) 3
-    (cond (tableAbove (sh .«elephant_rows») (sh .«elephant_cols») || (tableAbove (sh .«mouse_rows») (sh .«mouse_cols») || ltb maxHeap (sh .«heap_size»))) 4
+    (cond (tierAbove (sh .«elephant_rows») (sh .«elephant_cols») || (tierAbove (sh .«mouse_rows») (sh .«mouse_cols») || ltb maxHeap (sh .«heap_size»))) 4
     0)))
 
 -- the shape, or its refusal
@@ -56,14 +56,14 @@ unfoldable pub checkedShape : Shape → CheckedShape
 checkedShape sh = cond (eqb (shapeRefusal sh) 0) (checked.Good sh) (checked.Refused (shapeRefusal sh))
 
 -- 10 "layers, rows, cols or heap sizes differ in merge", "all seven dimensions": whether none does
-abbrev pub sameTable : ℕ → ℕ → ℕ → ℕ → Bool
-sameTable rows cols rows′ cols′ = eqb rows rows′ && eqb cols cols′
+abbrev pub sameTier : ℕ → ℕ → ℕ → ℕ → Bool
+sameTier rows cols rows′ cols′ = eqb rows rows′ && eqb cols cols′
 
 abbrev pub sameShape : Shape → Shape → Bool
 sameShape a b =
     eqb (a .layers) (b .layers) && eqb (a .«heap_size») (b .«heap_size») && eqb (a .«elephant_layers») (b .«elephant_layers»)
-    && sameTable (a .«elephant_rows») (a .«elephant_cols») (b .«elephant_rows») (b .«elephant_cols»)
-    && sameTable (a .«mouse_rows») (a .«mouse_cols») (b .«mouse_rows») (b .«mouse_cols»)
+    && sameTier (a .«elephant_rows») (a .«elephant_cols») (b .«elephant_rows») (b .«elephant_cols»)
+    && sameTier (a .«mouse_rows») (a .«mouse_cols») (b .«mouse_rows») (b .«mouse_cols»)
 
 -- "Bottom layer: l − 1 for the first l from 1 to layers − 1 whose hash bit l is 0, else layers − 1.": k layers from l on are looked at
 unfoldable pub bottomFrom : ℕ → ℕ → ℕ → ℕ

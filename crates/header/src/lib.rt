@@ -1,19 +1,20 @@
 // Shapes, modes and headers: what a state is beside its slices, and the header's own steps.
 //
-// `check_shape`, `Shape::new` and `bottom_layer_for_hash` are public calls. The other functions are for
-// the crates of this repository, and may ask for what their callers have tested.
+// `check_shape`, `Shape::new`, `Shape::new_one_tier` and `bottom_layer_for_hash` are public calls. The
+// other functions are for the crates of this repository, and may ask for what their callers have tested.
 ghost use mathlib.Core.Path.{_≡_};
 ghost use mathlib.Core.Bool.{Bool, true, false, _&&_, _||_};
 ghost use mathlib.Core.List.{List};
 ghost use Prim.Native.Nat.{ℕ, _+_, _-_, _<_, _≤_};
 ghost use lib.ListN.{length, getD, set, replicate};
-ghost use lib.Dec.{leb};
+ghost use lib.Dec.{eqb, leb};
 ghost use Rattle.words.specs.Num.{top};
 ghost use Rattle.words.specs.Tests.{number};
+ghost use Rattle.matrix_storage.specs.inner.Shaped.{Shaped};
 ghost use Rattle.header.specs.declared.Mode.{Mode};
 ghost use Rattle.header.specs.Totals.{noTotals, updateTotals, addTotals, setWeight, totalsOk, totalsTests};
-ghost use Rattle.header.specs.Shape.{maxLayers, twoTier, noTable, bitsAbove, tableAbove, sameTable, shapeRefusal, checkedShape, sameShape, bottomOf, bottomLayer};
-ghost use Rattle.header.specs.OneTier.{oneTier, OneTiered, isOneTier};
+ghost use Rattle.header.specs.Shape.{maxLayers, twoTier, emptyTier, bitsAbove, tierAbove, sameTier, shapeRefusal, checkedShape, sameShape, bottomOf, bottomLayer};
+ghost use Rattle.header.specs.OneTier.{oneTier, isOneTier};
 ghost use Rattle.header.specs.Header.{zeroHeader, freshHeader, withTotals, withMode, withFlags, withLens, withLayer, withLayers, scalarsOf, clash, joined, modeNumber, modeBy, begun, begunScalars, beginTests, beginOf, beginHeader, freshFlags, lensFrom, headerOk};
 ghost use Rattle.header.specs.Lending.{headIn};
 
@@ -99,8 +100,8 @@ impl Shape {
     pub fn refusal(self) -> u64
         ensures { λ r. ⌜ r ≡ shapeRefusal self ⌝ }
     {
-        let elephants = no_table(self.elephant_rows, self.elephant_cols);
-        let mice = no_table(self.mouse_rows, self.mouse_cols);
+        let elephants = empty_tier(self.elephant_rows, self.elephant_cols);
+        let mice = empty_tier(self.mouse_rows, self.mouse_cols);
         if (self.heap_size == 0) | ((self.layers == 0) | (elephants | mice)) {
             return 1;
         }
@@ -110,8 +111,8 @@ impl Shape {
         if self.bits_above() {
             return 3;
         }
-        let wide = table_above(self.elephant_rows, self.elephant_cols);
-        let narrow = table_above(self.mouse_rows, self.mouse_cols);
+        let wide = tier_above(self.elephant_rows, self.elephant_cols);
+        let narrow = tier_above(self.mouse_rows, self.mouse_cols);
         if wide | (narrow | (Self::MAX_HEAP_SIZE < self.heap_size)) {
             return 4;
         }
@@ -126,7 +127,7 @@ impl Shape {
         if matrix_storage::bits_above(self.mouse_rows, self.mouse_cols) {
             return true;
         }
-        if same_table(
+        if same_tier(
             self.elephant_rows,
             self.elephant_cols,
             self.mouse_rows,
@@ -135,6 +136,30 @@ impl Shape {
             return false;
         }
         matrix_storage::bits_above(self.elephant_rows, self.elephant_cols)
+    }
+
+    // Whether every dimension is of its usual range, in which nothing is refused and no hash bits need to
+    // be counted. The contract says what a yes means, and nothing of a no.
+    fn usual(self) -> bool
+        ensures { λ r. ⌜ (r ≡ true → shapeRefusal self ≡ 0) ⌝ }
+    {
+        let elephants = usual_tier(self.elephant_rows, self.elephant_cols);
+        let mice = usual_tier(self.mouse_rows, self.mouse_cols);
+        let layers = (0 < self.layers)
+            & (self.layers <= Self::MAX_LAYERS)
+            & (self.elephant_layers <= Self::MAX_LAYERS);
+        let seats = (0 < self.heap_size) & (self.heap_size <= Self::MAX_HEAP_SIZE);
+        elephants & mice & layers & seats
+    }
+
+    // Whether no dimension is refused. Usual ones are told without a jump.
+    pub fn accepted(self) -> bool
+        ensures { λ r. ⌜ r ≡ eqb (shapeRefusal self) 0 ⌝ }
+    {
+        if self.usual() {
+            return true;
+        }
+        self.refusal() == 0
     }
 
     // The shape itself, or its refusal.
@@ -211,13 +236,13 @@ impl Shape {
     pub fn same(self, other: Shape) -> bool
         ensures { λ r. ⌜ r ≡ sameShape self other ⌝ }
     {
-        let elephants = same_table(
+        let elephants = same_tier(
             self.elephant_rows,
             self.elephant_cols,
             other.elephant_rows,
             other.elephant_cols,
         );
-        let mice = same_table(
+        let mice = same_tier(
             self.mouse_rows,
             self.mouse_cols,
             other.mouse_rows,
@@ -233,56 +258,36 @@ impl Shape {
 
 // ---- one tier's rows and columns
 
-fn no_table(rows: usize, cols: usize) -> bool
-    ensures { λ r. ⌜ r ≡ noTable rows cols ⌝ }
+fn empty_tier(rows: usize, cols: usize) -> bool
+    ensures { λ r. ⌜ r ≡ emptyTier rows cols ⌝ }
 {
     (rows == 0) | (cols == 0)
 }
 
-fn table_above(rows: usize, cols: usize) -> bool
-    ensures { λ r. ⌜ r ≡ tableAbove rows cols ⌝ }
+// Nine rows of any columns of the domain take at most 9 × 13 of the 128 hash bits.
+fn usual_tier(rows: usize, cols: usize) -> bool
+    ensures { λ r. ⌜ (r ≡ true → Shaped rows cols) ⌝ }
+{
+    (0 < rows) & (rows <= 9) & (0 < cols) & (cols <= Shape::MAX_COLS)
+}
+
+fn tier_above(rows: usize, cols: usize) -> bool
+    ensures { λ r. ⌜ r ≡ tierAbove rows cols ⌝ }
 {
     (Shape::MAX_ROWS < rows) | (Shape::MAX_COLS < cols)
 }
 
-fn same_table(rows: usize, cols: usize, other_rows: usize, other_cols: usize) -> bool
-    ensures { λ r. ⌜ r ≡ sameTable rows cols «other_rows» «other_cols» ⌝ }
+fn same_tier(rows: usize, cols: usize, other_rows: usize, other_cols: usize) -> bool
+    ensures { λ r. ⌜ r ≡ sameTier rows cols «other_rows» «other_cols» ⌝ }
 {
     (rows == other_rows) & (cols == other_cols)
 }
 
-// 0, or the refusal of the four dimensions of `UnivMon`: its layers are alike, and so one tier is asked.
+// 0, or the refusal of the four dimensions of `UnivMon`.
 pub fn check_shape(heap_size: usize, rows: usize, cols: usize, layers: usize) -> u64
     ensures { λ r. ⌜ r ≡ shapeRefusal (oneTier «heap_size» rows cols layers) ⌝ }
 {
-    if heap_size == 0 {
-        return 1;
-    }
-    if rows == 0 {
-        return 1;
-    }
-    if cols == 0 {
-        return 1;
-    }
-    if layers == 0 {
-        return 1;
-    }
-    if Shape::MAX_LAYERS < layers {
-        return 2;
-    }
-    if matrix_storage::bits_above(rows, cols) {
-        return 3;
-    }
-    if Shape::MAX_ROWS < rows {
-        return 4;
-    }
-    if Shape::MAX_COLS < cols {
-        return 4;
-    }
-    if Shape::MAX_HEAP_SIZE < heap_size {
-        return 4;
-    }
-    0
+    Shape::one_tier(heap_size, rows, cols, layers).refusal()
 }
 
 // The last layer that a key with this bottom hash reaches: the number of ones in a row from bit 1 on, at
@@ -533,24 +538,25 @@ impl Header {
     pub fn in_range(self) -> bool
         ensures { λ r. ⌜ r ≡ headerOk self ⌝ }
     {
+        if self.shape.refusal() != 0 {
+            return false;
+        }
+        let shape = self.shape;
         let lens = self.lens;
         let flags = self.flags;
-        fields_in_range(self.shape, self.totals, &lens, &flags)
+        rest_in_range(shape.layers, shape.heap_size, self.totals, &lens, &flags)
     }
 }
 
-// The greatest weight and the greatest number of updates: 2^52.
-const MAX_TOTAL: u64 = words::TOP as u64;
-
-// Whether two numbers sum to at most 2^52. The sum is not formed: of numbers out of range it might not
-// fit 64 bits.
+// Whether two weights, or two numbers of updates, which have the same bound, sum to at most 2^52. The sum
+// is not formed: of numbers out of range it might not fit 64 bits.
 fn sum_within(a: u64, b: u64) -> bool
     ensures { λ r. ⌜ r ≡ leb (a + b) top ⌝ }
 {
-    if MAX_TOTAL < b {
+    if words::MAX_WEIGHT < b {
         return false;
     }
-    a <= MAX_TOTAL - b
+    a <= words::MAX_WEIGHT - b
 }
 
 impl Totals {
@@ -579,10 +585,11 @@ impl Totals {
         }
     }
 
+    // The number of updates has the weight's bound.
     pub fn in_range(self) -> bool
         ensures { λ r. ⌜ r ≡ totalsOk self ⌝ }
     {
-        (self.weight <= MAX_TOTAL) & (self.updates <= MAX_TOTAL)
+        (self.weight <= words::MAX_WEIGHT) & (self.updates <= words::MAX_WEIGHT)
     }
 
     // 7 where the weights of two totals would pass 2^52, else 14 where their updates would, else 0; for
@@ -726,36 +733,13 @@ fn rest_in_range(
     few & clear
 }
 
-// Whether dimensions, totals, lengths and flags are in range; of the mode nothing is asked.
+// Whether dimensions, totals, lengths and flags are in range; of the mode nothing is asked. For the
+// update, its one caller, into which the compiler takes it.
 pub fn fields_in_range(shape: Shape, totals: Totals, lens: &[usize], flags: &[bool]) -> bool
     requires { ⌜ (length (now lens) ≡ maxLayers) × (length (now flags) ≡ maxLayers) ⌝ }
     ensures { λ r. ⌜ ((m : Mode) → r ≡ headerOk (headIn (record { shape = shape; totals = totals; mode = m }) lens flags)) ⌝ }
 {
-    if shape.refusal() != 0 {
-        return false;
-    }
-    rest_in_range(shape.layers, shape.heap_size, totals, lens, flags)
-}
-
-// The same of a shape whose layers are alike.
-pub fn fields_in_range_one_tier(
-    shape: Shape,
-    totals: Totals,
-    lens: &[usize],
-    flags: &[bool],
-) -> bool
-    requires { ⌜ (length (now lens) ≡ maxLayers) × (length (now flags) ≡ maxLayers) ⌝ }
-    requires { ⌜ OneTiered shape ⌝ }
-    ensures { λ r. ⌜ ((m : Mode) → r ≡ headerOk (headIn (record { shape = shape; totals = totals; mode = m }) lens flags)) ⌝ }
-{
-    if check_shape(
-        shape.heap_size,
-        shape.mouse_rows,
-        shape.mouse_cols,
-        shape.layers,
-    )
-        != 0
-    {
+    if !shape.accepted() {
         return false;
     }
     rest_in_range(shape.layers, shape.heap_size, totals, lens, flags)

@@ -1,6 +1,6 @@
 -- The tests of a layer, by the slices that they read. Assumes nothing.
-use mathlib.Core.Path.{_≡_, refl, ap, _∙_}
-use mathlib.Core.Bool.{Bool, true, false, _&&_}
+use mathlib.Core.Path.{_≡_, refl, sym, ap, ap₂, _∙_}
+use mathlib.Core.Bool.{Bool, true, false, and-false, _&&_}
 use mathlib.Core.List.{List}
 use Prim.Native.Nat.{ℕ, zero, suc, _+_, _*_, _<_}
 use native.Mathlib.Decide.{ℕ-discrete}
@@ -45,6 +45,17 @@ pub ready-are : (d : Dims) (item : Item) (w : ℕ) (xs : List ℤ) (ws es : List
 ready-are d item w xs ws es ns len flag =
     rw (reads-are d item w xs ws es ns len flag, fits-are d item w xs ws es ns len flag)
     (and-turn (rowsRead (d .cols) (hashBy item) (sketchOf xs ws (d .rows)) (d .rows) 0) (rowsFit (d .cols) (hashBy item) w xs (d .rows) 0) (allIn (take len ns)))
+
+-- what the tests come to where the counts are out of range, and where they are not
+pub ready-by : (d : Dims) (item : Item) (w : ℕ) (xs : List ℤ) (ws es : List ℕ) (ns : List ℤ) (len : ℕ) (flag r n : Bool)
+    → r ≡ rowsReady (d .cols) (hashBy item) w (sketchOf xs ws (d .rows)) (d .rows) 0 → n ≡ allIn (take len ns)
+    → r && n ≡ addReads d (layerUpdate item w) (layerOf d xs ws es ns len flag) && addFits d (layerUpdate item w) (layerOf d xs ws es ns len flag)
+ready-by d item w xs ws es ns len flag r n p q = ap₂ (λ (a b : Bool). a && b) p q ∙ ready-are d item w xs ws es ns len flag
+
+pub unready-by : (d : Dims) (item : Item) (w : ℕ) (xs : List ℤ) (ws es : List ℕ) (ns : List ℤ) (len : ℕ) (flag : Bool) → false ≡ allIn (take len ns)
+    → false ≡ addReads d (layerUpdate item w) (layerOf d xs ws es ns len flag) && addFits d (layerUpdate item w) (layerOf d xs ws es ns len flag)
+unready-by d item w xs ws es ns len flag q =
+    sym (and-false (rowsReady (d .cols) (hashBy item) w (sketchOf xs ws (d .rows)) (d .rows) 0)) ∙ ready-by d item w xs ws es ns len flag _ false refl q
 
 -- ---- a delta
 

@@ -2,7 +2,7 @@
 // size.
 //
 // These functions are called by the other crates of this repository, which show what they require:
-// those that answer yes or no judge, those that store do not judge again.
+// those that answer yes or no judge, those that store do not judge again, and `add_if_ready` does both.
 mod adding;
 mod candidates;
 mod deltas;
@@ -10,6 +10,7 @@ mod filling;
 mod merging;
 
 pub use adding::add;
+pub use adding::add_if_ready;
 pub use adding::add_reads;
 pub use adding::add_ready;
 pub use deltas::apply_delta;
@@ -17,6 +18,7 @@ pub use deltas::delta_fits;
 pub use deltas::delta_reads;
 pub use filling::zero_counts;
 pub use filling::zero_words;
+use heap::Answer;
 pub use merging::merge;
 pub use merging::merge_fits;
 pub use merging::merge_reads;
@@ -26,6 +28,12 @@ pub struct Dims {
     pub rows: usize,
     pub cols: usize,
     pub size: usize,
+}
+
+// What an update that is made only where it may be answers: whether it was made, and what the offer did.
+pub struct TriedAdd {
+    pub made: bool,
+    pub answer: Answer,
 }
 
 // What a merge leaves: the number of candidates, and of the distinct keys that were offered.

@@ -1,11 +1,11 @@
 -- One layer of a lent state is handed on, and comes back changed. Assumes nothing.
 use mathlib.Core.Path.{_≡_, sym, ap, _∙_}
 use mathlib.Core.Bool.{Bool, false}
-use mathlib.Core.List.{List}
+use mathlib.Core.List.{List, _++_}
 use Prim.Native.Nat.{ℕ, _-_, _*_, _≤_, _<_}
 use native.Mathlib.Omega.{arith}
 use native.Mathlib.Decide.{ℕ-discrete, decLt}
-use lib.ListN.{length, getD, set}
+use lib.ListN.{length, getD, set, take, drop, take-append-drop}
 use lib.Seq.{getD-set-same, getD-set-other, set-out}
 use lib.IntN.{ℤ}
 use Rattle.words.specs.Parts.{part, putPart}
@@ -52,6 +52,19 @@ abbrev pub returned : Lent → ℕ → Span → List ℤ → List ℕ → List �
 returned r l s xs ws es ns len flag =
     lent (withLayer (r .head) l len flag) (putPart (s .cells) (s .«cells_end» - s .cells) (r .counters) xs) (putPart (s .norms) (s .«norms_end» - s .norms) (r .norms) ws)
     (putPart (s .words) (s .«words_end» - s .words) (r .entries) es) (putPart (s .seats) (s .«seats_end» - s .seats) (r .counts) ns)
+
+-- a part that comes back as it was
+put-back : {A : Type 0} (a n : ℕ) (xs ys : List A) → ys ≡ part a n xs → putPart a n xs ys ≡ xs
+put-back {A = A} a n xs ys e = ap (λ (zs : List A). take a xs ++ (zs ++ drop n (drop a xs))) e ∙ ap (λ (zs : List A). take a xs ++ zs) (take-append-drop n (drop a xs)) ∙ take-append-drop a xs
+
+-- all four do: the state is as it was
+pub handed-back : (r : Lent) (s : Span) (xs : List ℤ) (ws es : List ℕ) (ns : List ℤ) → xs ≡ cellPart s (r .counters) → ws ≡ normPart s (r .norms) → es ≡ wordPart s (r .entries) → ns ≡ seatPart s (r .counts)
+    → lent (r .head) (putPart (s .cells) (s .«cells_end» - s .cells) (r .counters) xs) (putPart (s .norms) (s .«norms_end» - s .norms) (r .norms) ws)
+    (putPart (s .words) (s .«words_end» - s .words) (r .entries) es) (putPart (s .seats) (s .«seats_end» - s .seats) (r .counts) ns)
+    ≡ r
+handed-back r s xs ws es ns a b c d =
+    λ i. lent (r .head) (put-back (s .cells) (s .«cells_end» - s .cells) (r .counters) xs a i) (put-back (s .norms) (s .«norms_end» - s .norms) (r .norms) ws b i)
+    (put-back (s .words) (s .«words_end» - s .words) (r .entries) es c i) (put-back (s .seats) (s .«seats_end» - s .seats) (r .counts) ns d i)
 
 module _ {r : Lent} {l : ℕ} {s : Span} (p : Spanned r l s) where
   pub cell-piece : Piece (s .cells) (s .«cells_end») (cellOff (shapeBy r) l) (rowsAt (shapeBy r) l * colsAt (shapeBy r) l) (maxLayers * (maxRows * maxCols)) (r .counters)

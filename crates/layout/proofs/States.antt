@@ -1,8 +1,9 @@
 -- Reading a layer of a state after layers were put. Assumes nothing.
-use mathlib.Core.Path.{_≡_, refl, subst}
+use mathlib.Core.Path.{_≡_, refl, sym, ap, ap₂, subst, _∙_}
 use mathlib.Core.Logic.{_≢_}
-use Prim.Native.Nat.{ℕ, zero, suc, _+_, _*_, _≤_, _<_}
+use Prim.Native.Nat.{ℕ, zero, suc, _+_, _-_, _*_, _≤_, _<_}
 use native.Mathlib.Omega.{arith}
+use native.Mathlib.Numerals.{add-one}
 use native.Mathlib.Decide.{decLt, ℕ-discrete}
 use mathlib.Core.Bool.{Bool, true, false, _&&_}
 use mathlib.Core.List.{List}
@@ -84,10 +85,22 @@ all-at p (suc k) i s l h q e = go (ℕ-discrete i l) (λ z. all-at p k (suc i) s
     go (yes z) later = subst (λ (m : ℕ). p m (layerAt s m) ≡ true) z (and-left (p i (layerAt s i)) (allLayers p k (suc i) s) e)
     go (no z) later = later (omega (arith, z))
 
+-- layers that are the same pass the same tests
+pub all-same : (p : ℕ → Layer → Bool) (k i : ℕ) (s t : State) → ((m : ℕ) → i ≤ m → m < k + i → layerAt s m ≡ layerAt t m) → allLayers p k i s ≡ allLayers p k i t
+unfolding allLayers
+all-same p zero i s t h = refl
+all-same p (suc k) i s t h =
+    ap₂ (λ (y : Layer) (b : Bool). p i y && b) (h i (omega arith) (omega arith)) (all-same p k (suc i) s t (λ m q l. h m (omega arith) (omega arith)))
+
 -- ---- a scan over layers
 pub layers-step : (p : ℕ → Layer → Bool) (s : State) (k l : ℕ) → allLayers p (suc k) l s ≡ p l (layerAt s l) && allLayers p k (suc l) s
 unfolding allLayers
 layers-step p s k l = refl
+
+pub layers-first : (p : ℕ → Layer → Bool) (s : State) (k l : ℕ) → 1 ≤ k → allLayers p k l s ≡ p l (layerAt s l) && allLayers p (k - 1) (l + 1) s
+layers-first p s k l h =
+    let e : k ≡ suc (k - 1) = omega arith in
+    ap (λ (n : ℕ). allLayers p n l s) e ∙ layers-step p s (k - 1) l ∙ ap (λ (n : ℕ). p l (layerAt s l) && allLayers p (k - 1) n s) (sym (add-one l))
 
 pub layers-none : (p : ℕ → Layer → Bool) (s : State) (l : ℕ) → allLayers p 0 l s ≡ true
 unfolding allLayers

@@ -168,6 +168,14 @@ list-told m told list out e q = q ∙ ap (λ (k : ℕ). told ++ drop k list) (sy
 
 -- ---- the loop over layers
 
+-- the same answers are told alike
+pub tell-same : (n : ℕ) (f g : ℕ → List Answer) (k l : ℕ) (list : List ℕ) → ((m : ℕ) → l ≤ m → m < k + l → f m ≡ g m) → tellLayers n f k l list ≡ tellLayers n g k l list
+unfolding tellLayers
+tell-same n f g zero l list h = refl
+tell-same n f g (suc k) l list h =
+    ap (λ (xs : List Answer). tellLayers n f k (suc l) (putPlaces n list l xs)) (h l (omega arith) (omega arith))
+    ∙ tell-same n f g k (suc l) (putPlaces n list l (g l)) (λ m p q. h m (omega arith) (omega arith))
+
 -- of many layers from the first on, those before layer l are told
 pub record ToldSoFar (n : ℕ) (f : ℕ → List Answer) (many first : ℕ) (list₀ list : List ℕ) (l : ℕ) : Type 0 where
   pub long : length list ≡ length list₀

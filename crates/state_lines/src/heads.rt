@@ -64,24 +64,21 @@ fn line_at(s: &[u8], at: usize, word: &[u8], most: u64) -> Num
     Num::At(n, p + 1)
 }
 
-// The greatest weight and the greatest number of updates: 2^52.
-const MAX_TOTAL: u64 = words::TOP as u64;
-
 // Weight, updates and mode, and the place past their lines.
 pub enum HeadLines {
     At(u64, u64, u64, usize),
     Bad,
 }
 
-// `(weight W)`, `(updates U)`, `(mode M)`, at a place.
+// `(weight W)`, `(updates U)`, `(mode M)`, at a place. The number of updates has the weight's bound.
 pub fn head_at(s: &[u8], at: usize) -> HeadLines
     ensures { λ r. ⌜ headSpot (now (s .entry)) r ≡ headFormat .read (drop at (now (s .entry))) ⌝ }
 {
-    let a = line_at(s, at, b"(weight ", MAX_TOTAL);
+    let a = line_at(s, at, b"(weight ", words::MAX_WEIGHT);
     let Num::At(weight, p) = a else {
         return HeadLines::Bad;
     };
-    let b = line_at(s, p, b"(updates ", MAX_TOTAL);
+    let b = line_at(s, p, b"(updates ", words::MAX_WEIGHT);
     let Num::At(updates, q) = b else {
         return HeadLines::Bad;
     };

@@ -14,6 +14,10 @@ pub first-below : (k : Kind) (b : ℕ) → firstSent k b ≤ b + 1
 first-below kind.Standard b = omega arith
 first-below kind.Terminal b = omega arith
 
+pub many-some : (k : Kind) (b : ℕ) → 1 ≤ manySent k b
+many-some kind.Standard b = omega arith
+many-some kind.Terminal b = omega arith
+
 pub many-sent : (k : Kind) (b : ℕ) → b + 1 - firstSent k b ≡ manySent k b
 many-sent kind.Standard b = omega arith
 many-sent kind.Terminal b = omega arith

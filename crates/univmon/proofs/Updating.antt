@@ -34,7 +34,7 @@ use Rattle.univmon.specs.Updates.{modeOf, firstSent, manySent, bottomBy,
 use Rattle.univmon.specs.Calls.{updateCall, placeTests, lentUpdateCall, updateListCall, lentUpdateListCall}
 use Rattle.univmon.proofs.Touched.{sent-room}
 use Rattle.univmon.proofs.Sending.{answersIn}
-use Rattle.univmon.specs.inner.Needs.{SendsReady, JudgeReady, KeyReady, sentBy, toldBy, keySent, keyTold, soundIn, sentAfter}
+use Rattle.univmon.specs.inner.Needs.{JudgeReady, KeyReady, sentBy, toldBy, keySent, keyTold, soundIn, sentAfter}
 
 -- ---- the beginning of an update changes no layer: it may come before the layers or after them
 
@@ -63,11 +63,6 @@ module _ (words : List ℕ) (w many first : ℕ) (r : Lent) where
   pub sent-short : (n : ℕ) → number tests ≡ 0 → n < 2 * r .head .shape .layers → left 16 r ≡ sentBy words w many first n r
   unfolding sentBy
   sent-short n z h = left-refused (tests ++ room n) r _ 16 (list-short tests (2 * r .head .shape .layers) n refl z h) (λ e. omega (arith, e))
-
-  pub sends-ready : JudgeReady r words w many first → number tests ≡ 0 → SendsReady r words w many first
-  sends-ready p z =
-      let q = off-number tests refl z in
-      record { standing = p .standing; headed = p .headed; recorded = p .recorded; light = p .light; inside = p .inside; read = not-false _ (q .0); fit = not-false _ (q .1 .0) }
 
   pub sent-done : (n : ℕ) (t : Lent) → number tests ≡ 0 → 2 * r .head .shape .layers ≤ n → Standing t → ((i : ℕ) → getD (t .norms) i 0 < wordSize)
       → view t ≡ overLayers (addsAt (r .head .shape) words w) many first (view r) → left 0 t ≡ sentBy words w many first n r

@@ -7,10 +7,8 @@ use crate::stages::update;
 use header::Answered;
 use header::Header;
 ghost use mathlib.Core.Path.{_≡_};
-ghost use mathlib.Core.Bool.{true};
 ghost use Prim.Native.Nat.{ℕ};
 ghost use lib.ListN.{length};
-ghost use Rattle.header.specs.OneTier.{OneTiered};
 ghost use Rattle.layout.specs.Slices.{view};
 ghost use Rattle.layout.specs.Outcomes.{left, leftAfter};
 ghost use Rattle.layout.specs.Answers.{listLeft};
@@ -31,9 +29,7 @@ fn update_held(
     record: &[u64],
     weight: i64,
     list: &mut [u64],
-    alike: bool,
 ) -> Answered
-    requires { ⌜ (alike ≡ true → OneTiered (header .shape)) ⌝ }
     ensures { λ r. ⌜ left (r .refusal) (lentOut (r .header) counters norms entries counts)
         ≡ leftAfter (λ s. updateListCall kind s (now («record» .entry)) weight (length (now (list .entry)))) (lentIn header counters norms entries counts) ⌝ }
     ensures { λ r. ⌜ now (list .exit)
@@ -55,7 +51,6 @@ fn update_held(
         record,
         weight,
         list,
-        alike,
     );
     if refusal != 0 {
         return Answered {
@@ -96,7 +91,6 @@ pub fn update_weighted(
         record,
         weight,
         list,
-        false,
     )
 }
 
@@ -126,67 +120,5 @@ pub fn update_weighted_terminal(
         record,
         weight,
         list,
-        false,
-    )
-}
-
-// The same two where all layers are alike.
-pub fn update_weighted_one_tier(
-    header: Header,
-    counters: &mut [i64],
-    norms: &mut [u64],
-    entries: &mut [u64],
-    counts: &mut [i64],
-    record: &[u64],
-    weight: i64,
-    list: &mut [u64],
-) -> Answered
-    requires { ⌜ OneTiered (header .shape) ⌝ }
-    ensures { λ r. ⌜ left (r .refusal) (lentOut (r .header) counters norms entries counts)
-        ≡ leftAfter (λ s. updateListCall kind.Standard s (now («record» .entry)) weight (length (now (list .entry)))) (lentIn header counters norms entries counts) ⌝ }
-    ensures { λ r. ⌜ now (list .exit)
-        ≡ listLeft (r .refusal) (updateAnswers kind.Standard (view (lentIn header counters norms entries counts)) (now («record» .entry)) weight) (now (list .entry)) ⌝ }
-{
-    update_held(
-        Kind::Standard,
-        header,
-        counters,
-        norms,
-        entries,
-        counts,
-        record,
-        weight,
-        list,
-        true,
-    )
-}
-
-pub fn update_weighted_terminal_one_tier(
-    header: Header,
-    counters: &mut [i64],
-    norms: &mut [u64],
-    entries: &mut [u64],
-    counts: &mut [i64],
-    record: &[u64],
-    weight: i64,
-    list: &mut [u64],
-) -> Answered
-    requires { ⌜ OneTiered (header .shape) ⌝ }
-    ensures { λ r. ⌜ left (r .refusal) (lentOut (r .header) counters norms entries counts)
-        ≡ leftAfter (λ s. updateListCall kind.Terminal s (now («record» .entry)) weight (length (now (list .entry)))) (lentIn header counters norms entries counts) ⌝ }
-    ensures { λ r. ⌜ now (list .exit)
-        ≡ listLeft (r .refusal) (updateAnswers kind.Terminal (view (lentIn header counters norms entries counts)) (now («record» .entry)) weight) (now (list .entry)) ⌝ }
-{
-    update_held(
-        Kind::Terminal,
-        header,
-        counters,
-        norms,
-        entries,
-        counts,
-        record,
-        weight,
-        list,
-        true,
     )
 }

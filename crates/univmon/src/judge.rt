@@ -78,7 +78,7 @@ fn reads_at(
 }
 
 // Whether every touched layer is ready.
-fn all_ready(
+pub fn all_ready(
     h: Scalars,
     lens: &[usize],
     flags: &[bool],

@@ -7,11 +7,9 @@ use crate::stages::update;
 use header::AnsweredLent;
 use header::Scalars;
 ghost use mathlib.Core.Path.{_≡_};
-ghost use mathlib.Core.Bool.{true};
 ghost use Prim.Native.Nat.{ℕ};
 ghost use lib.ListN.{length};
 ghost use Rattle.header.specs.Lending.{headIn, headOut};
-ghost use Rattle.header.specs.OneTier.{OneTiered};
 ghost use Rattle.layout.specs.Slices.{view};
 ghost use Rattle.layout.specs.Outcomes.{left, leftAfter};
 ghost use Rattle.layout.specs.Answers.{listLeft};
@@ -33,9 +31,7 @@ fn update_lent(
     record: &[u64],
     weight: i64,
     list: &mut [u64],
-    alike: bool,
 ) -> AnsweredLent
-    requires { ⌜ (alike ≡ true → OneTiered (scalars .shape)) ⌝ }
     ensures { λ r. ⌜ left (r .refusal) (lentOut (headOut (r .scalars) lens flags) counters norms entries counts)
         ≡ leftAfter (λ s. lentUpdateListCall kind s (now («record» .entry)) weight (length (now (list .entry)))) (lentIn (headIn scalars lens flags) counters norms entries counts) ⌝ }
     ensures { λ r. ⌜ now (list .exit)
@@ -55,7 +51,6 @@ fn update_lent(
         record,
         weight,
         list,
-        alike,
     );
     if refusal != 0 {
         return AnsweredLent { refusal, scalars };
@@ -93,7 +88,6 @@ pub fn update_weighted_lent(
         record,
         weight,
         list,
-        false,
     )
 }
 
@@ -127,75 +121,5 @@ pub fn update_weighted_terminal_lent(
         record,
         weight,
         list,
-        false,
-    )
-}
-
-// The same two where all layers are alike.
-pub fn update_weighted_lent_one_tier(
-    scalars: Scalars,
-    lens: &mut [usize],
-    flags: &mut [bool],
-    counters: &mut [i64],
-    norms: &mut [u64],
-    entries: &mut [u64],
-    counts: &mut [i64],
-    record: &[u64],
-    weight: i64,
-    list: &mut [u64],
-) -> AnsweredLent
-    requires { ⌜ OneTiered (scalars .shape) ⌝ }
-    ensures { λ r. ⌜ left (r .refusal) (lentOut (headOut (r .scalars) lens flags) counters norms entries counts)
-        ≡ leftAfter (λ s. lentUpdateListCall kind.Standard s (now («record» .entry)) weight (length (now (list .entry)))) (lentIn (headIn scalars lens flags) counters norms entries counts) ⌝ }
-    ensures { λ r. ⌜ now (list .exit)
-        ≡ listLeft (r .refusal) (updateAnswers kind.Standard (view (lentIn (headIn scalars lens flags) counters norms entries counts)) (now («record» .entry)) weight) (now (list .entry)) ⌝ }
-{
-    update_lent(
-        Kind::Standard,
-        scalars,
-        lens,
-        flags,
-        counters,
-        norms,
-        entries,
-        counts,
-        record,
-        weight,
-        list,
-        true,
-    )
-}
-
-pub fn update_weighted_terminal_lent_one_tier(
-    scalars: Scalars,
-    lens: &mut [usize],
-    flags: &mut [bool],
-    counters: &mut [i64],
-    norms: &mut [u64],
-    entries: &mut [u64],
-    counts: &mut [i64],
-    record: &[u64],
-    weight: i64,
-    list: &mut [u64],
-) -> AnsweredLent
-    requires { ⌜ OneTiered (scalars .shape) ⌝ }
-    ensures { λ r. ⌜ left (r .refusal) (lentOut (headOut (r .scalars) lens flags) counters norms entries counts)
-        ≡ leftAfter (λ s. lentUpdateListCall kind.Terminal s (now («record» .entry)) weight (length (now (list .entry)))) (lentIn (headIn scalars lens flags) counters norms entries counts) ⌝ }
-    ensures { λ r. ⌜ now (list .exit)
-        ≡ listLeft (r .refusal) (updateAnswers kind.Terminal (view (lentIn (headIn scalars lens flags) counters norms entries counts)) (now («record» .entry)) weight) (now (list .entry)) ⌝ }
-{
-    update_lent(
-        Kind::Terminal,
-        scalars,
-        lens,
-        flags,
-        counters,
-        norms,
-        entries,
-        counts,
-        record,
-        weight,
-        list,
-        true,
     )
 }

@@ -1,7 +1,6 @@
 // UnivMon: the calls that change one state; the merge of two is in `univmon_merge`. A state is a
 // `Header` by value and four slices that the caller lends: counters, norms, entries and counts. For
-// updates lengths and flags may be lent too. The forms with `_one_tier` behind the name are for the crates
-// of this repository: they ask for a shape whose layers are alike, and are faster.
+// updates lengths and flags may be lent too.
 mod calls;
 mod fresh;
 mod judge;
@@ -11,16 +10,12 @@ mod stages;
 mod update;
 
 pub use calls::update_weighted;
-pub use calls::update_weighted_one_tier;
 pub use calls::update_weighted_terminal;
-pub use calls::update_weighted_terminal_one_tier;
 pub use fresh::clear;
 pub use fresh::new;
 pub use fresh::new_two_tier;
 pub use lent::update_weighted_lent;
-pub use lent::update_weighted_lent_one_tier;
 pub use lent::update_weighted_terminal_lent;
-pub use lent::update_weighted_terminal_lent_one_tier;
 pub use marks::mark_candidates_incomplete;
 pub use marks::mark_layer_candidates_incomplete;
 pub use marks::set_total_weight;

@@ -1,30 +1,31 @@
 // What both forms of an update share, with lengths and flags lent: everything but the beginning of weight
 // and mode. Everything is judged before anything is written, so a refused call leaves all as it was.
 use crate::Kind;
+use crate::judge::all_ready;
 use crate::judge::judge_layers;
 use crate::update::send;
+use crate::update::send_first;
 use header::Mode;
 use header::Scalars;
 use header::Shape;
 use layout::lengths_match;
-use layout::zero_places;
 ghost use mathlib.Core.Path.{_≡_};
-ghost use mathlib.Core.Bool.{true};
-ghost use Prim.Native.Nat.{ℕ, _≤_};
+ghost use mathlib.Core.Bool.{Bool, true, false, _&&_};
+ghost use Prim.Native.Nat.{ℕ, _*_, _≤_};
 ghost use lib.ListN.{length};
 ghost use lib.IntN.{natAbs};
+ghost use lib.Dec.{leb};
 ghost use Rattle.words.specs.Num.{top};
 ghost use Rattle.words.specs.Tests.{number};
-ghost use Rattle.header.specs.Shape.{maxLayers};
-ghost use Rattle.header.specs.OneTier.{OneTiered};
-ghost use Rattle.header.specs.Header.{headerOk};
 ghost use Rattle.header.specs.Lending.{headIn, headNow, headOut};
+ghost use Rattle.layout.specs.State.{allLayers};
 ghost use Rattle.layout.specs.Slices.{view};
 ghost use Rattle.layout.specs.Outcomes.{left};
+ghost use Rattle.layout.specs.Records.{bottomWord};
 ghost use Rattle.layout.specs.Answers.{listLeft};
 ghost use Rattle.layout.specs.Lending.{lentIn, lentNow, lentOut};
 ghost use Rattle.univmon.specs.Updates.{modeOf, firstSent, updateAnswers};
-ghost use Rattle.univmon.specs.inner.Needs.{JudgeReady, KeyReady, soundTests, sentBy, toldBy, keySent, keyTold, sentAfter};
+ghost use Rattle.univmon.specs.inner.Needs.{JudgeReady, KeyReady, readyAt, SentAll, zeroedFor, soundTests, sentBy, toldBy, keySent, keyTold, sentAfter};
 
 pub fn mode_of(kind: Kind) -> Mode
     ensures { λ r. ⌜ r ≡ modeOf kind ⌝ }
@@ -45,18 +46,6 @@ fn first_sent(kind: Kind, bottom: usize) -> usize
     }
 }
 
-// Whether a header whose lengths and flags are lent is in range; of layers that are alike less is asked.
-fn in_range(h: Scalars, lens: &[usize], flags: &[bool], alike: bool) -> bool
-    requires { ⌜ (length (now lens) ≡ maxLayers) × (length (now flags) ≡ maxLayers) ⌝ }
-    requires { ⌜ (alike ≡ true → OneTiered (h .shape)) ⌝ }
-    ensures { λ r. ⌜ r ≡ headerOk (headIn h lens flags) ⌝ }
-{
-    if alike {
-        return header::fields_in_range_one_tier(h.shape, h.totals, lens, flags);
-    }
-    header::fields_in_range(h.shape, h.totals, lens, flags)
-}
-
 // 9 for a header out of range or a wrong slice length, 12 for a wrong record length, 0 for none. It is 9
 // too where the lent lengths or flags do not have 19 places.
 fn sound_refusal(
@@ -68,9 +57,7 @@ fn sound_refusal(
     entries: usize,
     counts: usize,
     record: usize,
-    alike: bool,
 ) -> u64
-    requires { ⌜ (alike ≡ true → OneTiered (scalars .shape)) ⌝ }
     ensures { λ r. ⌜ r ≡ number (soundTests (headIn scalars lens flags) counters norms entries counts «record») ⌝ }
 {
     if lens.len() != Shape::MAX_LAYERS {
@@ -80,7 +67,7 @@ fn sound_refusal(
         return 9;
     }
     let shape = scalars.shape;
-    if !in_range(scalars, lens, flags, alike) {
+    if !header::fields_in_range(shape, scalars.totals, lens, flags) {
         return 9;
     }
     if !lengths_match(shape, counters, norms, entries, counts) {
@@ -92,8 +79,85 @@ fn sound_refusal(
     0
 }
 
-// The layers that a key reaches are judged, then the list's length: 9, 11, 16. If all is well the layers
-// are sent to; the places of all others in the list become zeros.
+// Where the list is long enough and every layer is ready, all are sent to; if not, nothing is touched. The
+// layers behind the first are judged, then the first is judged and sent to in one go: half of all keys
+// reach no other layer.
+fn send_if_ready(
+    h: Scalars,
+    lens: &mut [usize],
+    flags: &mut [bool],
+    counters: &mut [i64],
+    norms: &mut [u64],
+    entries: &mut [u64],
+    counts: &mut [i64],
+    record: &[u64],
+    weight: u64,
+    first: usize,
+    many: usize,
+    list: &mut [u64],
+) -> bool
+    requires { ⌜ JudgeReady (lentNow (headNow h lens flags) counters norms entries counts) (now «record») weight many first ⌝ }
+    requires { ⌜ 1 ≤ many ⌝ }
+    ensures { λ r. ⌜ r ≡ leb (2 * h .shape .layers) (length (now (list .entry)))
+        && allLayers (readyAt (h .shape) (now («record» .entry)) weight) many first (view (lentIn (headIn h lens flags) counters norms entries counts)) ⌝ }
+    ensures { λ r. ⌜ (r ≡ true → SentAll (now («record» .entry)) weight many first (lentIn (headIn h lens flags) counters norms entries counts) (lentOut (headOut h lens flags) counters norms entries counts)
+        (zeroedFor (h .shape) (now (list .entry))) (now (list .exit))) ⌝ }
+    ensures { λ r. ⌜ (r ≡ false → (lentOut (headOut h lens flags) counters norms entries counts ≡ lentIn (headIn h lens flags) counters norms entries counts)
+        × (now (list .exit) ≡ now (list .entry))) ⌝ }
+{
+    if list.len() < 2 * h.shape.layers {
+        return false;
+    }
+    let next = first + 1;
+    let rest = many - 1;
+    if !all_ready(
+        h,
+        &*lens,
+        &*flags,
+        &*counters,
+        &*norms,
+        &*entries,
+        &*counts,
+        record,
+        weight,
+        next,
+        rest,
+    ) {
+        return false;
+    }
+    if !send_first(
+        h,
+        lens,
+        flags,
+        counters,
+        norms,
+        entries,
+        counts,
+        record,
+        weight,
+        first,
+        list,
+    ) {
+        return false;
+    }
+    send(
+        h,
+        lens,
+        flags,
+        counters,
+        norms,
+        entries,
+        counts,
+        record,
+        weight,
+        next,
+        rest,
+        list,
+    );
+    true
+}
+
+// The layers that a key reaches, sent to if nothing is refused: 9, 11, then 16 for the list's length.
 fn send_judged(
     h: Scalars,
     lens: &mut [usize],
@@ -109,11 +173,28 @@ fn send_judged(
     list: &mut [u64],
 ) -> u64
     requires { ⌜ JudgeReady (lentNow (headNow h lens flags) counters norms entries counts) (now «record») weight many first ⌝ }
+    requires { ⌜ 1 ≤ many ⌝ }
     ensures { λ r. ⌜ left r (lentOut (headOut h lens flags) counters norms entries counts)
         ≡ sentBy (now («record» .entry)) weight many first (length (now (list .entry))) (lentIn (headIn h lens flags) counters norms entries counts) ⌝ }
     ensures { λ r. ⌜ now (list .exit)
         ≡ listLeft r (toldBy (now («record» .entry)) weight many first (lentIn (headIn h lens flags) counters norms entries counts)) (now (list .entry)) ⌝ }
 {
+    if send_if_ready(
+        h,
+        lens,
+        flags,
+        counters,
+        norms,
+        entries,
+        counts,
+        record,
+        weight,
+        first,
+        many,
+        list,
+    ) {
+        return 0;
+    }
     let refusal = judge_layers(
         h,
         &*lens,
@@ -130,26 +211,8 @@ fn send_judged(
     if refusal != 0 {
         return refusal;
     }
-    let layers = h.shape.layers;
-    if list.len() < 2 * layers {
-        return 16;
-    }
-    zero_places(list, layers);
-    send(
-        h,
-        lens,
-        flags,
-        counters,
-        norms,
-        entries,
-        counts,
-        record,
-        weight,
-        first,
-        many,
-        list,
-    );
-    0
+    // every layer is ready, so it was the list
+    16
 }
 
 // A key goes to the layers that its bottom hash says: 9, 11, 16.
@@ -165,14 +228,16 @@ fn send_key(
     record: &[u64],
     weight: u64,
     list: &mut [u64],
+    bottom_hash: u64,
 ) -> u64
     requires { ⌜ KeyReady (lentNow (headNow h lens flags) counters norms entries counts) (now «record») weight ⌝ }
+    requires { ⌜ «bottom_hash» ≡ bottomWord (now «record») ⌝ }
     ensures { λ r. ⌜ left r (lentOut (headOut h lens flags) counters norms entries counts)
         ≡ keySent kind (now («record» .entry)) weight (length (now (list .entry))) (lentIn (headIn h lens flags) counters norms entries counts) ⌝ }
     ensures { λ r. ⌜ now (list .exit)
         ≡ listLeft r (keyTold kind (now («record» .entry)) weight (lentIn (headIn h lens flags) counters norms entries counts)) (now (list .entry)) ⌝ }
 {
-    let bottom = header::bottom_of(record[1], h.shape.layers);
+    let bottom = header::bottom_of(bottom_hash, h.shape.layers);
     let first = first_sent(kind, bottom);
     let many = bottom + 1 - first;
     send_judged(
@@ -191,32 +256,18 @@ fn send_key(
     )
 }
 
-// The same scalars. Where the caller says that all layers are alike, the shape is written so, and then
-// the compiler knows it too: rows, columns and mask bits are the same for every layer.
-fn said_alike(scalars: Scalars, alike: bool) -> Scalars
-    requires { ⌜ (alike ≡ true → OneTiered (scalars .shape)) ⌝ }
-    ensures { λ r. ⌜ r ≡ scalars ⌝ }
+// The bottom hash of a record, 0 where there is none. It is read before anything is judged: a record
+// seldom lies near the processor, and so it is on its way meanwhile.
+fn bottom_word(record: &[u64]) -> u64
+    ensures { λ r. ⌜ r ≡ bottomWord (now («record» .entry)) ⌝ }
 {
-    if !alike {
-        return scalars;
+    if record.len() < 2 {
+        return 0;
     }
-    let shape = scalars.shape;
-    let totals = scalars.totals;
-    let mode = scalars.mode;
-    Scalars {
-        shape: Shape::one_tier(
-            shape.heap_size,
-            shape.mouse_rows,
-            shape.mouse_cols,
-            shape.layers,
-        ),
-        totals,
-        mode,
-    }
+    record[1]
 }
 
-// All of an update but its beginning; `begins` is the number that the beginning is refused with, or 0,
-// and `alike` says that the shape has one tier.
+// All of an update but its beginning; `begins` is the number that the beginning is refused with, or 0.
 // Answers 9, 12, then `begins`, then 9, 11, 16.
 pub fn update(
     kind: Kind,
@@ -231,18 +282,16 @@ pub fn update(
     record: &[u64],
     weight: i64,
     list: &mut [u64],
-    alike: bool,
 ) -> u64
     requires { ⌜ (begins ≡ 0 → natAbs weight ≤ top) ⌝ }
-    requires { ⌜ (alike ≡ true → OneTiered (scalars .shape)) ⌝ }
     ensures { λ r. ⌜ left r (lentOut (headOut scalars lens flags) counters norms entries counts)
         ≡ sentAfter kind begins (now («record» .entry)) weight (length (now (list .entry))) (lentIn (headIn scalars lens flags) counters norms entries counts) ⌝ }
     ensures { λ r. ⌜ now (list .exit)
         ≡ listLeft r (updateAnswers kind (view (lentIn (headIn scalars lens flags) counters norms entries counts)) (now («record» .entry)) weight) (now (list .entry)) ⌝ }
 {
-    let h = said_alike(scalars, alike);
+    let bottom_hash = bottom_word(record);
     let refusal = sound_refusal(
-        h,
+        scalars,
         &*lens,
         &*flags,
         counters.len(),
@@ -250,7 +299,6 @@ pub fn update(
         entries.len(),
         counts.len(),
         record.len(),
-        alike,
     );
     if refusal != 0 {
         return refusal;
@@ -260,7 +308,7 @@ pub fn update(
     }
     send_key(
         kind,
-        h,
+        scalars,
         lens,
         flags,
         counters,
@@ -270,5 +318,6 @@ pub fn update(
         record,
         words::magnitude(weight),
         list,
+        bottom_hash,
     )
 }

@@ -121,16 +121,7 @@ pub extern "C" fn univmon_update_weighted(
         return CAnswered { refusal: 9, header };
     }
     let h = header_of(header);
-    c_answered(univmon::update_weighted_one_tier(
-        h,
-        counters,
-        norms,
-        entries,
-        counts,
-        record,
-        weight,
-        list,
-    ))
+    c_answered(univmon::update_weighted(h, counters, norms, entries, counts, record, weight, list))
 }
 
 // The key goes to its bottom layer only.
@@ -154,7 +145,7 @@ pub extern "C" fn univmon_update_weighted_terminal(
         return CAnswered { refusal: 9, header };
     }
     let h = header_of(header);
-    c_answered(univmon::update_weighted_terminal_one_tier(
+    c_answered(univmon::update_weighted_terminal(
         h,
         counters,
         norms,

@@ -48,7 +48,7 @@ pub extern "C" fn univmon_update_weighted_lent(
         };
     }
     let scalars = scalars_of(shape, total_weight, total_updates, mode);
-    c_step(univmon::update_weighted_lent_one_tier(
+    c_step(univmon::update_weighted_lent(
         scalars,
         lens,
         flags,
@@ -93,7 +93,7 @@ pub extern "C" fn univmon_update_weighted_terminal_lent(
         };
     }
     let scalars = scalars_of(shape, total_weight, total_updates, mode);
-    c_step(univmon::update_weighted_terminal_lent_one_tier(
+    c_step(univmon::update_weighted_terminal_lent(
         scalars,
         lens,
         flags,

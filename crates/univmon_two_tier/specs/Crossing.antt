@@ -13,8 +13,8 @@ use Rattle.univmon_two_tier.specs.declared.CTwoTier.{CTwoTier}
 use Rattle.univmon_two_tier.specs.declared.CTwoTierAnswered.{CTwoTierAnswered}
 use Rattle.univmon_two_tier.specs.declared.CTwoTierShape.{CTwoTierShape}
 
-abbrev pub shapeOf : CTwoTierShape → Shape
-shapeOf s = twoTier (s .«heap_size») (s .«elephant_layers») (s .«elephant_rows») (s .«elephant_cols») (s .«mouse_rows») (s .«mouse_cols») (s .layers)
+abbrev pub dimensionsOf : CTwoTierShape → Shape
+dimensionsOf s = twoTier (s .«heap_size») (s .«elephant_layers») (s .«elephant_rows») (s .«elephant_cols») (s .«mouse_rows») (s .«mouse_cols») (s .layers)
 
 abbrev pub headerOf : CTwoTier → Header
 headerOf h =
@@ -65,7 +65,7 @@ cAnswered a = record { refusal = a .refusal; header = cTwoTier (a .header) }
 
 -- what the library takes by value where lengths and flags are lent
 abbrev pub cScalars : CTwoTierShape → ℕ → ℕ → ℕ → Scalars
-cScalars s w u m = record { shape = shapeOf s; totals = record { weight = w; updates = u }; mode = modeBy m }
+cScalars s w u m = record { shape = dimensionsOf s; totals = record { weight = w; updates = u }; mode = modeBy m }
 
 -- so the calls of two tiers are said as those of one
 abbrev pub twoTierFace : Face CTwoTier

@@ -1,16 +1,19 @@
 -- What updates, deltas and norms are to the code, and what the stores need, by name.
-use Prim.Native.Nat.{ℕ, _+_, _-_, _*_, _≤_, _<_, min, _%_, _/_}
+use Prim.Native.Nat.{ℕ, _+_, _-_, _*_, _^_, _≤_, _<_, min, _%_, _/_}
 use mathlib.Core.Path.{_≡_}
-use mathlib.Core.Bool.{true, Bool, _&&_}
+use mathlib.Core.Bool.{true, false, Bool, _&&_}
 use mathlib.Core.List.{List}
 use lib.ListN.{length, set}
 use lib.IntN.{ℤ, pos, natAbs, _+ℤ_}
+use lib.Signed.{mag}
 use Rattle.words.specs.Num.{top, squareCap, capped, wordSize}
 use Rattle.float64.specs.Norm.{normTop}
 use Rattle.matrix_storage.specs.Bits.{maxRows, maxCols, signed}
 use Rattle.matrix_storage.specs.inner.Shaped.{Shaped}
 use Rattle.countsketch_l2_norm.specs.Norms.{normAt, normsOf}
-use Rattle.countsketch_l2_norm.specs.Sketch.{cellOf, cellAt, cellRead, cellFits, rowsRead, rowsFit, Sketch}
+use Rattle.countsketch_l2_norm.specs.declared.TriedUpdate.{TriedUpdate}
+use Rattle.countsketch_l2_norm.specs.Sketch.{cellAt, cellRead, cellFits, rowsRead, rowsFit, addRows, Sketch}
+use Rattle.countsketch_l2_norm.specs.Estimate.{estimateOf}
 
 -- the sketch of the slices
 abbrev pub sketchOf : List ℤ → List ℕ → ℕ → Sketch
@@ -47,11 +50,22 @@ pub record CellReady (at r : ℕ) (d : ℤ) (xs : List ℤ) (ws : List ℕ) : Ty
   pub holds : capped (cellAt xs at) ≤ normAt ws r
   pub normIn : normAt ws r ≤ maxCols * squareCap
 
--- what row r of an update leaves of counters and norms, and its estimate v after it
-pub record RowAdded (cols h w r : ℕ) (xs : List ℤ) (ws : List ℕ) (ys : List ℤ) (vs : List ℕ) (v : ℤ) : Type 0 where
-  pub cells : ys ≡ set xs (cellOf cols h r) (cellAt xs (cellOf cols h r) +ℤ signed h r (pos w))
-  pub norms : vs ≡ setNorm ws r (normAt ws r - capped (cellAt xs (cellOf cols h r)) + capped (cellAt xs (cellOf cols h r) +ℤ signed h r (pos w)))
-  pub estimate : v ≡ signed h r (cellAt ys (cellOf cols h r))
+-- what row r of an update leaves of counters and norms, with the place of its counter, and its estimate v after it
+pub record RowAdded (at h w r : ℕ) (xs : List ℤ) (ws : List ℕ) (ys : List ℤ) (vs : List ℕ) (v : ℤ) : Type 0 where
+  pub cells : ys ≡ set xs at (cellAt xs at +ℤ signed h r (pos w))
+  pub norms : vs ≡ setNorm ws r (normAt ws r - capped (cellAt xs at) + capped (cellAt xs at +ℤ signed h r (pos w)))
+  pub estimate : v ≡ signed h r (cellAt ys at)
+
+-- the answer of an update that may not be made
+abbrev pub notMade : TriedUpdate
+notMade = record { made = false; count = pos 0 }
+
+-- what an update that is made only where it may be leaves of counters and norms, and its answer
+pub record MadeIfReady (rows cols h w : ℕ) (xs : List ℤ) (ws : List ℕ) (ys : List ℤ) (vs : List ℕ) (m : TriedUpdate) : Type 0 where
+  pub ready : m .made ≡ rowsReady cols h w (sketchOf xs ws rows) rows 0
+  pub made : m .made ≡ true → (sketchOf ys vs rows ≡ addRows cols h w rows 0 (sketchOf xs ws rows)) × (m .count ≡ estimateOf rows cols h ys)
+  pub kept : m .made ≡ false → (ys ≡ xs) × (vs ≡ ws)
+  pub fits : mag (m .count) < 2 ^ 63
 
 -- a row and a column within the counters
 pub record CellPlaced (rows cols row col : ℕ) (xs : List ℤ) : Type 0 where

@@ -28,6 +28,10 @@ layerIn d xs ws es ns len flag = layerOf d (now (xs .entry)) (now (ws .entry)) (
 abbrev pub layerOut : Dims → SliceBoth ℤ → SliceBoth ℕ → SliceBoth ℕ → SliceBoth ℤ → ℕ → Bool → Layer
 layerOut d xs ws es ns len flag = layerOf d (now (xs .exit)) (now (ws .exit)) (now (es .exit)) (now (ns .exit)) len flag
 
+-- they are as they were lent
+abbrev pub Untouched : SliceBoth ℤ → SliceBoth ℕ → SliceBoth ℕ → SliceBoth ℤ → Type 0
+Untouched xs ws es ns = (now (xs .exit) ≡ now (xs .entry)) × ((now (ws .exit) ≡ now (ws .entry)) × ((now (es .exit) ≡ now (es .entry)) × (now (ns .exit) ≡ now (ns .entry))))
+
 -- a layer with nothing counted
 unfoldable pub noLayer : Dims → Layer
 noLayer d =

@@ -3,20 +3,21 @@ use Prim.Native.Nat.{ℕ, _+_, _*_, _≤_, _<_}
 use mathlib.Core.Path.{_≡_}
 use mathlib.Core.Bool.{Bool, true, not, _&&_}
 use mathlib.Core.List.{List, [], _∷_, _++_}
-use lib.ListN.{length}
+use lib.ListN.{length, drop, replicate}
 use lib.IntN.{ℤ, natAbs}
 use lib.Dec.{eqb}
 use Rattle.words.specs.Num.{top}
 use Rattle.header.specs.declared.Shape.{Shape}
 use Rattle.header.specs.declared.Header.{Header}
 use Rattle.header.specs.Header.{Headed}
-use Rattle.layer.specs.Layer.{Layer, addReads, addFits, layerUpdate}
-use Rattle.layout.specs.State.{dimsAt, layerAt, allLayers, overLayers}
+use Rattle.heap.specs.inner.Telling.{tellAt}
+use Rattle.layer.specs.Layer.{Layer, addLayer, addReads, addFits, layerUpdate}
+use Rattle.layout.specs.State.{dimsAt, layerAt, putLayer, allLayers, overLayers}
 use Rattle.layout.specs.Slices.{Lent, view, flat}
 use Rattle.layout.specs.Records.{recordLength, itemAt}
 use Rattle.layout.specs.Answers.{touchedPlaces}
 use Rattle.layout.specs.inner.Needs.{Standing}
-use Rattle.layout.specs.inner.Telling.{listTests}
+use Rattle.layout.specs.inner.Telling.{listTests, tellLayers}
 use Rattle.layout.specs.Outcomes.{Left, leftBy, judge, sizeTests, recordTest}
 use Rattle.univmon.specs.declared.Kind.{Kind}
 use Rattle.univmon.specs.Updates.{readsAt, fitsAt, addsAt, answerAt, firstSent, manySent, bottomBy, layersTests, sentTests}
@@ -41,6 +42,22 @@ pub record SendsReady (r : Lent) (words : List ℕ) (w many first : ℕ) : Type 
   pub inside : first + many ≤ r .head .shape .layers
   pub read : allLayers (readsAt (r .head .shape) words w) many first (view r) ≡ true
   pub fit : allLayers (fitsAt (r .head .shape) words w) many first (view r) ≡ true
+
+-- layer l of r was sent to, which leaves t, and the list tells what the offer of the key did
+pub record SentOne (words : List ℕ) (w l : ℕ) (r t : Lent) (list₀ list : List ℕ) : Type 0 where
+  pub layers : view t ≡ putLayer (view r) l (addLayer (dimsAt (r .head .shape) l) (layerUpdate (itemAt words l) w) (layerAt (view r) l))
+  pub standing : Standing t
+  pub told : list ≡ tellAt list₀ l (answerAt (view r) words w l)
+
+-- many layers from the first on were
+pub record SentAll (words : List ℕ) (w many first : ℕ) (r t : Lent) (list₀ list : List ℕ) : Type 0 where
+  pub layers : view t ≡ overLayers (addsAt (r .head .shape) words w) many first (view r)
+  pub standing : Standing t
+  pub told : list ≡ tellLayers 1 (λ l. answerAt (view r) words w l ∷ []) many first list₀
+
+-- a list with zeros for every layer of a shape, as it is before layers tell
+abbrev pub zeroedFor : Shape → List ℕ → List ℕ
+zeroedFor sh list = replicate (2 * sh .layers) 0 ++ drop (2 * sh .layers) list
 
 -- both tests of an update at a layer
 abbrev pub readyAt : Shape → List ℕ → ℕ → ℕ → Layer → Bool

@@ -40,5 +40,4 @@ returns c =
     rw (e .0, e .1) (cell-stored (a .rows) (a .row * a .cols + a .col) (a .row) (a .count) (now (a .counters)) (now (a .norms)) (c .before .before .before .before .before .before .before .before .pre .placed .below) (c .before .before .before .before .before .before .before .before .pre .pairs))
 
 pub apply-delta-spec : {M : Type 1} → statement M
-apply-delta-spec =
-    tie.close (tie.spec index-of-requires add-cell-requires same-length same-length-2 returns)
+apply-delta-spec = tie.close (tie.spec index-of-requires add-cell-requires same-length same-length-2 returns)

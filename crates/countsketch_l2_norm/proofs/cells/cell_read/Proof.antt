@@ -46,12 +46,4 @@ returns c =
     rw (e, c .before .before .before .index-of .ensures, c .before .norm-of .ensures) at (c .row-read .ensures) ∙ ap (λ (n : ℕ). rowRead (cellAt (now (a .counters)) (a .row * a .cols + a .col)) n (a .cols)) (sym (norm-at (now (a .norms)) (a .rows) (a .row) (c .before .before .before .before .before .pre .0 .below)))
 
 pub cell-read-spec : {M : Type 1} → statement M
-cell-read-spec =
-    tie.close
-    (tie.spec
-    index-of-requires
-    mul-row-read
-    shared-slice-copy-out-row-read
-    norm-of-requires
-    row-read-requires
-    returns)
+cell-read-spec = tie.close (tie.spec index-of-requires mul-row-read shared-slice-copy-out-row-read norm-of-requires row-read-requires returns)

@@ -33,14 +33,4 @@ unfolding setNorm
 returns c = let w = c .args .w in let h : w .lo < 2 ^ 64 = search needs in rw (word-low (w .lo) (w .hi) h, word-high (w .lo) (w .hi) h)
 
 pub put-norm-spec : {M : Type 1} → statement M
-put-norm-spec =
-    tie.close
-    (tie.spec
-    mul-lo-at
-    add-hi-at
-    mul-norms
-    slice-write-norms
-    mul-norms-2
-    slice-write-norms-2
-    same-length
-    returns)
+put-norm-spec = tie.close (tie.spec mul-lo-at add-hi-at mul-norms slice-write-norms mul-norms-2 slice-write-norms-2 same-length returns)

@@ -39,13 +39,4 @@ returns-3 c =
     (c .at-least .ensures ∙ ap (λ (n : ℕ). leb n (valueOf (c .before .before .before .before .before .before .args .w))) (rw (toZ-ofZ (c .before .before .before .before .before .before .fits .x)) at (c .before .capped-square .ensures)))
 
 pub row-read-spec : {M : Type 1} → statement M
-row-read-spec =
-    tie.close
-    (tie.spec
-    in-range-requires
-    returns
-    at-most-caps-requires
-    returns-2
-    capped-square-requires
-    at-least-requires
-    returns-3)
+row-read-spec = tie.close (tie.spec in-range-requires returns at-most-caps-requires returns-2 capped-square-requires at-least-requires returns-3)

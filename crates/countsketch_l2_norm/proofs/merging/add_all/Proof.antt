@@ -68,21 +68,4 @@ returns : tie.Need-returns Inv-loop μ-loop
 returns c = add-end (now (c .before .before .args .xs)) (now (c .before .before .args .ys)) (c .before .loop .xs) (c .before .loop .i) (c .before .loop .inv) (c .loop-test .left)
 
 pub add-all-spec : {M : Type 1} → statement M
-add-all-spec =
-    tie.close
-    (tie.spec
-    Inv-loop
-    μ-loop
-    loop-holds
-    mul-sum-of
-    slice-copy-out-sum-of
-    mul-sum-of-2
-    shared-slice-copy-out-sum-of
-    sum-of-requires
-    mul-z
-    slice-set-from-z
-    add-i
-    loop-less
-    loop-again
-    same-length
-    returns)
+add-all-spec = tie.close (tie.spec Inv-loop μ-loop loop-holds mul-sum-of slice-copy-out-sum-of mul-sum-of-2 shared-slice-copy-out-sum-of sum-of-requires mul-z slice-set-from-z add-i loop-less loop-again same-length returns)

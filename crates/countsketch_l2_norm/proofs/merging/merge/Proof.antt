@@ -37,5 +37,4 @@ returns c =
     λ i. record { cells = e i; norms = n i }
 
 pub merge-spec : {M : Type 1} → statement M
-merge-spec =
-    tie.close (tie.spec add-all-requires row-norms-requires same-length same-length-2 returns)
+merge-spec = tie.close (tie.spec add-all-requires row-norms-requires same-length same-length-2 returns)

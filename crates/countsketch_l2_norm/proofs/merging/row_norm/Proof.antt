@@ -68,19 +68,4 @@ returns c =
     c .before .loop .inv .1 .0 ∙ ap (λ (n : ℕ). squaresFrom (c .before .before .args .r * c .before .before .args .cols) n (now (c .before .before .args .counters))) e
 
 pub row-norm-spec : {M : Type 1} → statement M
-row-norm-spec =
-    tie.close
-    (tie.spec
-    Inv-loop
-    μ-loop
-    mul-a
-    loop-holds
-    add-at
-    mul-capped-square
-    shared-slice-copy-out-capped-square
-    capped-square-requires
-    plus-requires
-    add-i
-    loop-less
-    loop-again
-    returns)
+row-norm-spec = tie.close (tie.spec Inv-loop μ-loop mul-a loop-holds add-at mul-capped-square shared-slice-copy-out-capped-square capped-square-requires plus-requires add-i loop-less loop-again returns)

@@ -44,16 +44,4 @@ returns : tie.Need-returns Inv-loop μ-loop
 returns c = let a = c .before .before .before .args in norm-end (a .rows) (a .cols) (now (a .counters)) (now (a .norms)) (c .before .loop .norms) (c .before .loop .r) (c .before .loop .inv) (c .loop-test .left)
 
 pub row-norms-spec : {M : Type 1} → statement M
-row-norms-spec =
-    tie.close
-    (tie.spec
-    Inv-loop
-    μ-loop
-    loop-holds
-    row-norm-requires
-    put-norm-requires
-    add-r
-    loop-less
-    loop-again
-    same-length
-    returns)
+row-norms-spec = tie.close (tie.spec Inv-loop μ-loop loop-holds row-norm-requires put-norm-requires add-r loop-less loop-again same-length returns)

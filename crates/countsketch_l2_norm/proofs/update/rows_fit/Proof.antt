@@ -108,21 +108,4 @@ returns-2 : tie.Need-returns-2 Inv-loop μ-loop
 returns-2 c = let a = c .before .before .before .args in scan-end (scanned (c .before .before .before)) (a .rows) (c .before .loop .r) (c .before .loop .inv) (c .loop-test .left) (fit-none (a .cols) (hash (c .before .before .before)) (a .weight) (now (a .counters)) (c .before .loop .r))
 
 pub rows-fit-spec : {M : Type 1} → statement M
-rows-fit-spec =
-    tie.close
-    (tie.spec
-    Inv-loop
-    μ-loop
-    mask-bits-requires
-    loop-holds
-    place-requires
-    delta-at-requires
-    mul-sum
-    shared-slice-copy-out-sum
-    add-sum
-    in-range-requires
-    returns
-    add-r
-    loop-less
-    loop-again
-    returns-2)
+rows-fit-spec = tie.close (tie.spec Inv-loop μ-loop mask-bits-requires loop-holds place-requires delta-at-requires mul-sum shared-slice-copy-out-sum add-sum in-range-requires returns add-r loop-less loop-again returns-2)

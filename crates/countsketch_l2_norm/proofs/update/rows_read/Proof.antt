@@ -13,8 +13,8 @@ use Rattle.countsketch_l2_norm.proofs.Places.{cell-lt, place-asks}
 use Rattle.countsketch_l2_norm.proofs.Scans.{Scan, scan-start, scan-on, scan-stop, scan-end}
 use Rattle.countsketch_l2_norm.proofs.Rows.{read-step, read-none}
 use Rattle.countsketch_l2_norm.specs.Norms.{normAt}
-use Rattle.countsketch_l2_norm.specs.Sketch.{cellOf, cellAt, rowRead, rowsRead}
 use Rattle.countsketch_l2_norm.specs.inner.Needs.{sketchOf}
+use Rattle.countsketch_l2_norm.specs.Sketch.{cellOf, cellAt, rowRead, rowsRead}
 use Rattle.matrix_storage.specs.Bits.{hashOf}
 use Rattle.countsketch_l2_norm.proofs.update.rows_read.Statement.{statement}
 use Rattle.countsketch_l2_norm.proofs.update.rows_read.Tie as tie
@@ -79,20 +79,4 @@ returns-2 : tie.Need-returns-2 Inv-loop μ-loop
 returns-2 c = let a = c .before .before .before .before .args in scan-end (scanned (c .before .before .before .before)) (a .rows) (c .before .loop .r) (c .before .loop .inv) (c .loop-test .left) (read-none (a .cols) (hash (c .before .before .before .before)) (sketchOf (now (a .counters)) (now (a .norms)) (a .rows)) (c .before .loop .r))
 
 pub rows-read-spec : {M : Type 1} → statement M
-rows-read-spec =
-    tie.close
-    (tie.spec
-    Inv-loop
-    μ-loop
-    mask-bits-requires
-    loop-holds
-    place-requires
-    mul-row-read
-    shared-slice-copy-out-row-read
-    norm-of-requires
-    row-read-requires
-    returns
-    add-r
-    loop-less
-    loop-again
-    returns-2)
+rows-read-spec = tie.close (tie.spec Inv-loop μ-loop mask-bits-requires loop-holds place-requires mul-row-read shared-slice-copy-out-row-read norm-of-requires row-read-requires returns add-r loop-less loop-again returns-2)

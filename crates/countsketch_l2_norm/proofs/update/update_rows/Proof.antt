@@ -5,6 +5,7 @@ use native.Mathlib.Omega.{arith}
 use borrow.Author.Needs.{needs, sfits-of}
 use denote.Ref.{now}
 use mir.Facts.{toZ-ofZ}
+use Rattle.countsketch_l2_norm.proofs.Places.{place-asks}
 use Rattle.countsketch_l2_norm.proofs.Rows.{end-rows}
 use Rattle.countsketch_l2_norm.proofs.Estimates.{counted}
 use Rattle.countsketch_l2_norm.proofs.Filled.{row-asks, added-bits, Filled, fill-start, fill-on, fill-end}
@@ -27,17 +28,17 @@ mask-bits-requires c κs = c .before .pre .1 .shaped .some
 loop-holds : tie.Need-loop-holds Inv-loop μ-loop
 loop-holds c = let a = c .before .before .args in fill-start (a .rows) (a .cols) (hash (c .before .before)) (a .weight) (now (a .buf)) (now (a .counters)) (now (a .norms)) (c .before .before .pre .1) (c .before .before .pre .0)
 
+place-requires : tie.Need-place-requires Inv-loop μ-loop
+place-requires c κs = place-asks (c .before .before .before .before .args .rows) (c .before .before .before .before .args .cols) (c .before .loop .r) _ (c .before .before .before .before .pre .1 .shaped) (c .loop-test .taken) (c .before .before .mask-bits .ensures)
+
 update-row-requires : tie.Need-update-row-requires Inv-loop μ-loop
-update-row-requires c κs =
-    let a = c .before .before .before .before .before .before .args in
-    let lp = c .before .before .before .loop in
-    row-asks (a .rows) (a .cols) _ (hash (c .before .before .before .before .before .before)) (a .weight) (now (a .counters)) (now (a .norms)) (lp .counters) (lp .norms) (lp .r) (c .before .before .before .before .before .before .pre .1) (c .before .before .before .before .mask-bits .ensures) (lp .inv .counted .going) (c .before .before .loop-test .taken)
+update-row-requires c κs = row-asks (c .before .before .before .before .before .before .before .pre .1) (c .before .before .place .ensures) (c .before .before .before .before .loop .inv .counted .going) (c .before .before .before .loop-test .taken)
 
 mul-v : tie.Need-mul-v Inv-loop μ-loop
-mul-v c = let h : c .before .before .before .before .before .before .before .loop .r < maxRows = omega (arith, c .before .before .before .before .before .before .before .before .before .before .pre .1 .shaped .few, c .before .before .before .before .before .before .loop-test .taken) in let k = c .before .before .before .before .before .before .before .loop .inv .len in search needs
+mul-v c = let h : c .before .before .before .before .before .before .before .before .loop .r < maxRows = omega (arith, c .before .before .before .before .before .before .before .before .before .before .before .pre .1 .shaped .few, c .before .before .before .before .before .before .before .loop-test .taken) in let k = c .before .before .before .before .before .before .before .before .loop .inv .len in search needs
 
 element-set-from-v : tie.Need-element-set-from-v Inv-loop μ-loop
-element-set-from-v c = let h : c .before .before .before .before .before .before .before .loop .r < maxRows = omega (arith, c .before .before .before .before .before .before .before .before .before .before .pre .1 .shaped .few, c .before .before .before .before .before .before .loop-test .taken) in let k = c .before .before .before .before .before .before .before .loop .inv .len in search needs
+element-set-from-v c = let h : c .before .before .before .before .before .before .before .before .loop .r < maxRows = omega (arith, c .before .before .before .before .before .before .before .before .before .before .before .pre .1 .shaped .few, c .before .before .before .before .before .before .before .loop-test .taken) in let k = c .before .before .before .before .before .before .before .before .loop .inv .len in search needs
 
 add-r : tie.Need-add-r Inv-loop μ-loop
 add-r c = omega arith
@@ -47,10 +48,10 @@ loop-less c = omega arith
 
 loop-again : tie.Need-loop-again Inv-loop μ-loop
 loop-again c =
-    let a = c .before .before .before .before .before .before .before .before .before .before .args in
-    let lp = c .before .before .before .before .before .before .before .loop in
-    fill-on (a .rows) (a .cols) (hash (c .before .before .before .before .before .before .before .before .before .before)) (a .weight) (now (a .counters)) (now (a .norms)) (lp .buf) (lp .counters) (lp .norms) (lp .r) _ _ _ (c .before .before .before .before .before .before .before .before .before .before .pre .1) (lp .inv) (c .before .before .before .before .before .before .loop-test .taken)
-    (added-bits (toZ-ofZ (sfits-of (c .before .before .before .update-row .ok))) (c .before .before .before .update-row .ensures))
+    let a = c .before .before .before .before .before .before .before .before .before .before .before .args in
+    let lp = c .before .before .before .before .before .before .before .before .loop in
+    fill-on (a .rows) (a .cols) (hash (c .before .before .before .before .before .before .before .before .before .before .before)) (a .weight) (now (a .counters)) (now (a .norms)) (lp .buf) (lp .counters) (lp .norms) (lp .r) _ _ _ (c .before .before .before .before .before .before .before .before .before .before .before .pre .1) (lp .inv) (c .before .before .before .before .before .before .before .loop-test .taken)
+    (added-bits (a .cols) (c .before .before .before .before .before .before .place .ensures) (toZ-ofZ (sfits-of (c .before .before .before .update-row .ok))) (c .before .before .before .update-row .ensures))
 
 same-length : tie.Need-same-length Inv-loop μ-loop
 same-length c = c .before .loop .inv .counted .going .sameCells
@@ -70,4 +71,4 @@ returns c =
     )
 
 pub update-rows-spec : {M : Type 1} → statement M
-update-rows-spec = tie.close (tie.spec Inv-loop μ-loop mask-bits-requires loop-holds update-row-requires mul-v element-set-from-v add-r loop-less loop-again same-length same-length-2 returns)
+update-rows-spec = tie.close (tie.spec Inv-loop μ-loop mask-bits-requires loop-holds place-requires update-row-requires mul-v element-set-from-v add-r loop-less loop-again same-length same-length-2 returns)

@@ -69,19 +69,4 @@ returns c =
     end-rows (a .rows) (a .cols) (hash (c .before .before .before .before)) (a .weight) (now (a .counters)) (now (a .norms)) (c .before .loop .counters) (c .before .loop .norms) (c .before .loop .r) (c .before .loop .inv) (c .loop-test .left)
 
 pub update-weighted-with-hash-spec : {M : Type 1} → statement M
-update-weighted-with-hash-spec =
-    tie.close
-    (tie.spec
-    Inv-loop
-    μ-loop
-    mask-bits-requires
-    loop-holds
-    place-requires
-    delta-at-requires
-    add-cell-requires
-    add-r
-    loop-less
-    loop-again
-    same-length
-    same-length-2
-    returns)
+update-weighted-with-hash-spec = tie.close (tie.spec Inv-loop μ-loop mask-bits-requires loop-holds place-requires delta-at-requires add-cell-requires add-r loop-less loop-again same-length same-length-2 returns)

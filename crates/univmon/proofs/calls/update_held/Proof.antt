@@ -46,7 +46,7 @@ number-is : (c : tie.After-begin-update) → c .begin-update .result .refusal �
 number-is c = let a = c .before .before .before .before .before .before .args in ap (λ (b : Answered). b .refusal) (begins c) ∙ header-number (a .header) (a .weight) (modeOf (a .kind))
 
 update-requires : tie.Need-update-requires
-update-requires c κs = (λ z. let a = c .before .before .before .before .before .before .before .before .before .before .before .before .before .before .before .before .args in rw (toZ-ofZ (c .before .before .before .before .before .before .before .before .before .before .before .before .before .before .before .before .fits .weight)) (begin-light (scalarsOf (a .header)) (a .weight) (modeOf (a .kind)) (sym (number-is (c .before .before .before .before .before .before .before .before .before .before)) ∙ z)), λ e. rw (c .before .before .before .before .before .before .before .scalars .ensures) (c .before .before .before .before .before .before .before .before .before .before .before .before .before .before .before .before .pre e))
+update-requires c κs = λ z. let a = c .before .before .before .before .before .before .before .before .before .before .before .before .before .before .before .before .args in rw (toZ-ofZ (c .before .before .before .before .before .before .before .before .before .before .before .before .before .before .before .before .fits .weight)) (begin-light (scalarsOf (a .header)) (a .weight) (modeOf (a .kind)) (sym (number-is (c .before .before .before .before .before .before .before .before .before .before)) ∙ z))
 
 with-layers-requires : tie.Need-with-layers-requires
 with-layers-requires c κs = search needs

@@ -2,12 +2,11 @@
 -- Written by tools/places.py from answers.txt; assumes nothing.
 use borrow.Author.Needs.{needs}
 use mir.Facts.{toZ-ofZ}
-use Rattle.words.proofs.Bools.{never}
 use Rattle.univmon.proofs.calls.update_weighted_terminal.Statement.{statement}
 use Rattle.univmon.proofs.calls.update_weighted_terminal.Tie as tie
 
 update-held-requires : tie.Need-update-held-requires
-update-held-requires c κs = λ e. absurd (never e)
+update-held-requires c κs = search needs
 
 same-length : tie.Need-same-length
 same-length c = search needs

@@ -36,7 +36,7 @@ number-is : (c : tie.After-begin-update) → c .begin-update .result .refusal �
 number-is c = let a = c .before .before .before .before .before .before .before .before .args in ap (λ (b : AnsweredLent). b .refusal) (begins c) ∙ begin-number (a .scalars) (a .weight) (modeOf (a .kind))
 
 update-requires : tie.Need-update-requires
-update-requires c κs = (λ z. let a = c .before .before .before .before .before .before .before .before .before .before .before .before .before .before .before .args in rw (toZ-ofZ (c .before .before .before .before .before .before .before .before .before .before .before .before .before .before .before .fits .weight)) (begin-light (a .scalars) (a .weight) (modeOf (a .kind)) (sym (number-is (c .before .before .before .before .before .before .before)) ∙ z)), c .before .before .before .before .before .before .before .before .before .before .before .before .before .before .before .pre)
+update-requires c κs = λ z. let a = c .before .before .before .before .before .before .before .before .before .before .before .before .before .before .before .args in rw (toZ-ofZ (c .before .before .before .before .before .before .before .before .before .before .before .before .before .before .before .fits .weight)) (begin-light (a .scalars) (a .weight) (modeOf (a .kind)) (sym (number-is (c .before .before .before .before .before .before .before)) ∙ z))
 
 same-length : tie.Need-same-length
 same-length c = search needs

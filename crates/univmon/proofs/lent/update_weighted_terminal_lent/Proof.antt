@@ -2,12 +2,11 @@
 -- Written by tools/places.py from answers.txt; assumes nothing.
 use borrow.Author.Needs.{needs}
 use mir.Facts.{toZ-ofZ}
-use Rattle.words.proofs.Bools.{never}
 use Rattle.univmon.proofs.lent.update_weighted_terminal_lent.Statement.{statement}
 use Rattle.univmon.proofs.lent.update_weighted_terminal_lent.Tie as tie
 
 update-lent-requires : tie.Need-update-lent-requires
-update-lent-requires c κs = λ e. absurd (never e)
+update-lent-requires c κs = search needs
 
 same-length : tie.Need-same-length
 same-length c = search needs

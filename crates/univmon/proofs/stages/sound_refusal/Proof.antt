@@ -24,15 +24,15 @@ returns c = rw (ne-eqb _ maxLayers (c .if1 .taken))
 returns-2 : tie.Need-returns-2
 returns-2 c = rw (eq-eqb _ maxLayers (c .before .if1 .left), ne-eqb _ maxLayers (c .if2 .taken))
 
-in-range-requires : tie.Need-in-range-requires
-in-range-requires c κs = ((c .before .before .if1 .left, c .before .if2 .left), c .before .before .before .before .before .pre)
+fields-in-range-requires : tie.Need-fields-in-range-requires
+fields-in-range-requires c κs = (c .before .before .if1 .left, c .before .if2 .left)
 
 -- the header was found in range, or not
 ranged : (c : tie.Else3) → headerOk (head-of (c .before .before .before .before .before .before .before)) ≡ true
-ranged c = sym (c .before .in-range .ensures) ∙ not-false _ (c .if3 .left)
+ranged c = sym (c .before .fields-in-range .ensures (c .before .before .before .before .before .before .before .args .scalars .mode)) ∙ not-false _ (c .if3 .left)
 
 returns-3 : tie.Need-returns-3
-returns-3 c = rw (eq-eqb _ maxLayers (c .before .before .before .before .if1 .left), eq-eqb _ maxLayers (c .before .before .before .if2 .left), sym (c .before .in-range .ensures) ∙ not-true _ (c .if3 .taken))
+returns-3 c = rw (eq-eqb _ maxLayers (c .before .before .before .before .if1 .left), eq-eqb _ maxLayers (c .before .before .before .if2 .left), sym (c .before .fields-in-range .ensures (c .before .before .before .before .before .before .before .args .scalars .mode)) ∙ not-true _ (c .if3 .taken))
 
 lengths-match-requires : tie.Need-lengths-match-requires
 lengths-match-requires c κs = ranged-of (head-of (c .before .before .before .before .before .before .before)) (ranged c) .accepted
@@ -57,4 +57,4 @@ returns-6 : tie.Need-returns-6
 returns-6 c = rw (eq-eqb _ maxLayers (c .before .before .before .before .before .before .before .before .if1 .left), eq-eqb _ maxLayers (c .before .before .before .before .before .before .before .if2 .left), ranged (c .before .before .before .before), sized (c .before .before), eq-eqb _ _ (c .if5 .left))
 
 pub sound-refusal-spec : {M : Type 1} → statement M
-sound-refusal-spec = tie.close (tie.spec returns returns-2 in-range-requires returns-3 lengths-match-requires returns-4 mul-if5 add-if5 returns-5 returns-6)
+sound-refusal-spec = tie.close (tie.spec returns returns-2 fields-in-range-requires returns-3 lengths-match-requires returns-4 mul-if5 add-if5 returns-5 returns-6)

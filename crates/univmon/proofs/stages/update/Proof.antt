@@ -19,15 +19,11 @@ use Rattle.layout.proofs.Telling.{list-kept}
 use Rattle.univmon.proofs.stages.update.Statement.{statement}
 use Rattle.univmon.proofs.stages.update.Tie as tie
 
--- the state that is lent
-abbrev lent-of : tie.Start → Lent
-lent-of c = lent (headOf (c .args .scalars) (now (c .args .lens)) (now (c .args .flags))) (now (c .args .counters)) (now (c .args .norms)) (now (c .args .entries)) (now (c .args .counts))
-
-said-alike-requires : tie.Need-said-alike-requires
-said-alike-requires c κs = c .before .before .before .before .before .before .pre .1
+bottom-word-requires : tie.Need-bottom-word-requires
+bottom-word-requires c κs = search needs
 
 sound-refusal-requires : tie.Need-sound-refusal-requires
-sound-refusal-requires c κs = λ e. rw (c .before .before .said-alike .ensures) (c .before .before .before .before .before .before .before .before .before .pre .1 e)
+sound-refusal-requires c κs = search needs
 
 same-length : tie.Need-same-length
 same-length c = search needs
@@ -35,9 +31,13 @@ same-length c = search needs
 same-length-2 : tie.Need-same-length-2
 same-length-2 c = search needs
 
+-- the state that is lent
+abbrev lent-of : tie.Start → Lent
+lent-of c = lent (headOf (c .args .scalars) (now (c .args .lens)) (now (c .args .flags))) (now (c .args .counters)) (now (c .args .norms)) (now (c .args .entries)) (now (c .args .counts))
+
 -- what the first tests answered, of the state that is lent
 number-is : (c : tie.After-sound-refusal) → c .sound-refusal .result ≡ number (soundIn (lent-of (c .before .before .before .before .before .before .before .before .before .before)) (now (c .before .before .before .before .before .before .before .before .before .before .args .«record»)))
-number-is c = rw (c .before .before .before .said-alike .ensures) at (c .sound-refusal .ensures)
+number-is c = c .sound-refusal .ensures
 
 returns : tie.Need-returns
 returns c =
@@ -68,7 +68,9 @@ weight-is : (c : tie.After-magnitude) → c .magnitude .result ≡ natAbs (c .be
 weight-is c = rw (toZ-ofZ (c .before .before .before .before .before .before .before .before .before .before .before .before .before .before .before .before .before .before .before .fits .weight)) at (c .magnitude .ensures)
 
 send-key-requires : tie.Need-send-key-requires
-send-key-requires c κs = let a = c .before .before .before .before .before .before .before .before .before .before .before .before .before .before .before .before .before .before .before .before .args in rw (c .before .before .before .before .before .before .before .before .before .before .before .before .before .said-alike .ensures, weight-is (c .before)) (key-ready (lent-of (c .before .before .before .before .before .before .before .before .before .before .before .before .before .before .before .before .before .before .before .before)) (now (a .«record»)) (natAbs (a .weight)) (sound (c .before .before .before .before .before .before .before .before .before)) (c .before .before .before .before .before .before .before .before .before .before .before .before .before .before .before .before .before .before .before .before .pre .0 (c .before .before .before .before .before .before .before .before .if2 .left)))
+send-key-requires c κs =
+    let a = c .before .before .before .before .before .before .before .before .before .before .before .before .before .before .before .before .before .before .before .before .args in
+    rw (weight-is (c .before)) (key-ready (lent-of (c .before .before .before .before .before .before .before .before .before .before .before .before .before .before .before .before .before .before .before .before)) (now (a .«record»)) (natAbs (a .weight)) (sound (c .before .before .before .before .before .before .before .before .before)) (c .before .before .before .before .before .before .before .before .before .before .before .before .before .before .before .before .before .before .before .before .pre (c .before .before .before .before .before .before .before .before .if2 .left)), c .before .before .before .before .before .before .before .before .before .before .before .before .before .bottom-word .ensures)
 
 same-length-5 : tie.Need-same-length-5
 same-length-5 c = search needs
@@ -96,9 +98,9 @@ returns-3 c =
     let a = c .before .before .before .before .before .before .before .before .before .before .before .before .before .before .before .before .before .before .before .before .before .before .before .before .before .before .before .before .before .before .before .before .before .args in
     let e = c .before .before .before .before .before .before .before .before .before .before .before .before .send-key .ensures in
     let n = c .before .before .before .before .before .before .before .before .before .before .before .before .send-key .result in (
-      rw (c .before .before .before .before .before .before .before .before .before .before .before .before .before .before .before .before .before .before .before .before .before .before .before .before .before .before .said-alike .ensures, weight-is (c .before .before .before .before .before .before .before .before .before .before .before .before .before .before)) at (e .0) ∙ after-begun (a .kind) (a .begins) (now (a .«record»)) (a .weight) (length (now (a .list))) (lent-of (c .before .before .before .before .before .before .before .before .before .before .before .before .before .before .before .before .before .before .before .before .before .before .before .before .before .before .before .before .before .before .before .before .before)) (sound (c .before .before .before .before .before .before .before .before .before .before .before .before .before .before .before .before .before .before .before .before .before .before)) (c .before .before .before .before .before .before .before .before .before .before .before .before .before .before .before .before .before .before .before .before .before .if2 .left),
-      rw (c .before .before .before .before .before .before .before .before .before .before .before .before .before .before .before .before .before .before .before .before .before .before .before .before .before .before .said-alike .ensures, weight-is (c .before .before .before .before .before .before .before .before .before .before .before .before .before .before)) at (e .1) ∙ ap (λ (t : List ℕ). listLeft n t (now (a .list))) (key-told (a .kind) (now (a .«record»)) (a .weight) (lent-of (c .before .before .before .before .before .before .before .before .before .before .before .before .before .before .before .before .before .before .before .before .before .before .before .before .before .before .before .before .before .before .before .before .before))),
+      rw (weight-is (c .before .before .before .before .before .before .before .before .before .before .before .before .before .before)) at (e .0) ∙ after-begun (a .kind) (a .begins) (now (a .«record»)) (a .weight) (length (now (a .list))) (lent-of (c .before .before .before .before .before .before .before .before .before .before .before .before .before .before .before .before .before .before .before .before .before .before .before .before .before .before .before .before .before .before .before .before .before)) (sound (c .before .before .before .before .before .before .before .before .before .before .before .before .before .before .before .before .before .before .before .before .before .before)) (c .before .before .before .before .before .before .before .before .before .before .before .before .before .before .before .before .before .before .before .before .before .if2 .left),
+      rw (weight-is (c .before .before .before .before .before .before .before .before .before .before .before .before .before .before)) at (e .1) ∙ ap (λ (t : List ℕ). listLeft n t (now (a .list))) (key-told (a .kind) (now (a .«record»)) (a .weight) (lent-of (c .before .before .before .before .before .before .before .before .before .before .before .before .before .before .before .before .before .before .before .before .before .before .before .before .before .before .before .before .before .before .before .before .before))),
     )
 
 pub update-spec : {M : Type 1} → statement M
-update-spec = tie.close (tie.spec said-alike-requires sound-refusal-requires same-length same-length-2 returns same-length-3 same-length-4 returns-2 magnitude-requires send-key-requires same-length-5 same-length-6 same-length-7 same-length-8 same-length-9 same-length-10 same-length-11 returns-3)
+update-spec = tie.close (tie.spec bottom-word-requires sound-refusal-requires same-length same-length-2 returns same-length-3 same-length-4 returns-2 magnitude-requires send-key-requires same-length-5 same-length-6 same-length-7 same-length-8 same-length-9 same-length-10 same-length-11 returns-3)

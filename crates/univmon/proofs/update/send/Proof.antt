@@ -51,9 +51,8 @@ headed-on c = let v = c .before .before .before .before .before .before .before 
 loop-again : tie.Need-loop-again Inv-loop μ-loop
 loop-again c =
     let a = c .before .before .before .before .before .before .before .before .before .before .before .before .before .before .before .before .before .before .before .before .before .before .before .before .before .before .before .before .args in
-    let e = c .before .before .before .before .before .before .before .before .before .before .before .before .send-one .ensures in
     sending-on (lent-of (c .before .before .before .before .before .before .before .before .before .before .before .before .before .before .before .before .before .before .before .before .before .before .before .before .before .before .before .before)) (now (a .«record»)) (a .weight) (a .many) (a .first) (c .before .before .before .before .before .before .before .before .before .before .before .before .before .before .before .before .before .before .before .before .before .before .before .before .before .before .before .before .pre .0) (now (a .list)) (lent-here (c .before .before .before .before .before .before .before .before .before .before .before .before .before .before .before .before .before .before .before .before .before)) (c .before .before .before .before .before .before .before .before .before .before .before .before .before .before .before .before .before .before .before .before .before .loop .list) (c .before .before .before .before .before .before .before .before .before .before .before .before .before .before .before .before .before .before .before .before .before .loop .l) (c .before .before .before .before .before .before .before .before .before .before .before .before .before .before .before .before .before .before .before .before .before .loop .inv) (omega (arith, c .before .before .before .before .before .before .before .before .before .before .before .before .before .before .before .before .before .before .before .before .loop-test .taken)) _ _ (c .before .before .before .before .before .before .before .before .before .before .before .before .before .before .before .before .before .before .before .before .before .before .before .before .before .before .before .before .pre .1)
-    (e .0) (e .1 .0) (e .1 .1) (headed-on (c .before .before))
+    (c .before .before .before .before .before .before .before .before .before .before .before .before .send-one .ensures) (headed-on (c .before .before))
 
 same-length : tie.Need-same-length Inv-loop μ-loop
 same-length c = c .before .loop .inv .headed .lens ∙ sym (c .before .before .before .before .before .before .before .before .pre .0 .headed .lens)
@@ -79,8 +78,7 @@ same-length-7 c = c .before .loop .inv .told .long
 returns : tie.Need-returns Inv-loop μ-loop
 returns c =
     let a = c .before .before .before .before .before .before .before .before .args in
-    let e = sending-end (lent-of (c .before .before .before .before .before .before .before .before)) (now (a .«record»)) (a .weight) (a .many) (a .first) (c .before .before .before .before .before .before .before .before .pre .0) (now (a .list)) (lent-here (c .before)) (c .before .loop .list) (c .before .loop .l) (c .before .loop .inv) (omega (arith, c .loop-test .left)) in
-    (e .0, (c .before .loop .inv .turn .standing, e .1))
+    sending-end (lent-of (c .before .before .before .before .before .before .before .before)) (now (a .«record»)) (a .weight) (a .many) (a .first) (c .before .before .before .before .before .before .before .before .pre .0) (now (a .list)) (lent-here (c .before)) (c .before .loop .list) (c .before .loop .l) (c .before .loop .inv) (omega (arith, c .loop-test .left))
 
 pub send-spec : {M : Type 1} → statement M
 send-spec = tie.close (tie.spec Inv-loop μ-loop add-end loop-holds send-one-requires add-l loop-less loop-again same-length same-length-2 same-length-3 same-length-4 same-length-5 same-length-6 same-length-7 returns)

@@ -32,8 +32,8 @@ returns c = (change-no-mode oneTierFace true (call (c .before .before .before .b
 header-of-requires : tie.Need-header-of-requires
 header-of-requires c κs = search needs
 
-update-weighted-terminal-one-tier-requires : tie.Need-update-weighted-terminal-one-tier-requires
-update-weighted-terminal-one-tier-requires c κs = rw (c .before .before .before .before .before .header-of .ensures) refl
+update-weighted-terminal-requires : tie.Need-update-weighted-terminal-requires
+update-weighted-terminal-requires c κs = search needs
 
 c-answered-requires : tie.Need-c-answered-requires
 c-answered-requires c κs = search needs
@@ -55,11 +55,11 @@ same-length-5 c = search needs
 
 returns-2 : tie.Need-returns-2
 returns-2 c =
-    let e = c .before .before .before .before .before .before .before .before .before .update-weighted-terminal-one-tier .ensures in (
+    let e = c .before .before .before .before .before .before .before .before .before .update-weighted-terminal .ensures in (
       rw (c .c-answered .ensures)
           (changed oneTierFace true (call (c .before .before .before .before .before .before .before .before .before .before .before .before .before .before .before .before .before .before .before .before .before .before)) (here (c .before .before .before .before .before .before .before .before .before .before .before .before .before .before .before .before .before .before .before .before .before .before)) (omega (arith, c .before .before .before .before .before .before .before .before .before .before .before .before .before .before .before .before .if1 .left)) refl _ _ (rw (c .before .before .before .before .before .before .before .before .before .before .before .before .before .before .before .header-of .ensures, toZ-ofZ (c .before .before .before .before .before .before .before .before .before .before .before .before .before .before .before .before .before .before .before .before .before .before .fits .weight)) at (e .0))),
       rw (c .c-answered .ensures) (rw (c .before .before .before .before .before .before .before .before .before .before .before .before .before .before .before .header-of .ensures, toZ-ofZ (c .before .before .before .before .before .before .before .before .before .before .before .before .before .before .before .before .before .before .before .before .before .before .fits .weight)) at (e .1)),
     )
 
 pub univmon-update-weighted-terminal-spec : {M : Type 1} → statement M
-univmon-update-weighted-terminal-spec = tie.close (tie.spec returns header-of-requires update-weighted-terminal-one-tier-requires c-answered-requires same-length same-length-2 same-length-3 same-length-4 same-length-5 returns-2)
+univmon-update-weighted-terminal-spec = tie.close (tie.spec returns header-of-requires update-weighted-terminal-requires c-answered-requires same-length same-length-2 same-length-3 same-length-4 same-length-5 returns-2)

@@ -32,8 +32,8 @@ returns c =
 scalars-of-requires : tie.Need-scalars-of-requires
 scalars-of-requires c κs = search needs
 
-update-weighted-lent-one-tier-requires : tie.Need-update-weighted-lent-one-tier-requires
-update-weighted-lent-one-tier-requires c κs = rw (c .before .before .before .before .before .before .before .scalars-of .ensures) refl
+update-weighted-lent-requires : tie.Need-update-weighted-lent-requires
+update-weighted-lent-requires c κs = search needs
 
 c-step-requires : tie.Need-c-step-requires
 c-step-requires c κs = search needs
@@ -62,11 +62,11 @@ same-length-7 c = search needs
 returns-2 : tie.Need-returns-2
 returns-2 c =
     let a = c .before .before .before .before .before .before .before .before .before .before .before .before .before .before .before .before .before .before .before .before .before .before .before .before .before .before .before .before .before .args in
-    let e = c .before .before .before .before .before .before .before .before .before .before .before .before .before .update-weighted-lent-one-tier .ensures in (
+    let e = c .before .before .before .before .before .before .before .before .before .before .before .before .before .update-weighted-lent .ensures in (
       rw (c .c-step .ensures)
           (stepped oneTierFace kind.Standard (now (a .«record»)) (a .weight) (length (now (a .list))) (here (c .before .before .before .before .before .before .before .before .before .before .before .before .before .before .before .before .before .before .before .before .before .before .before .before .before .before .before .before .before)) (omega (arith, c .before .before .before .before .before .before .before .before .before .before .before .before .before .before .before .before .before .before .before .before .before .before .if1 .left)) _ _ (rw (c .before .before .before .before .before .before .before .before .before .before .before .before .before .before .before .before .before .before .before .before .before .scalars-of .ensures, toZ-ofZ (c .before .before .before .before .before .before .before .before .before .before .before .before .before .before .before .before .before .before .before .before .before .before .before .before .before .before .before .before .before .fits .weight)) at (e .0))),
       rw (c .c-step .ensures) (rw (c .before .before .before .before .before .before .before .before .before .before .before .before .before .before .before .before .before .before .before .before .before .scalars-of .ensures, toZ-ofZ (c .before .before .before .before .before .before .before .before .before .before .before .before .before .before .before .before .before .before .before .before .before .before .before .before .before .before .before .before .before .fits .weight)) at (e .1)),
     )
 
 pub univmon-update-weighted-lent-spec : {M : Type 1} → statement M
-univmon-update-weighted-lent-spec = tie.close (tie.spec returns scalars-of-requires update-weighted-lent-one-tier-requires c-step-requires same-length same-length-2 same-length-3 same-length-4 same-length-5 same-length-6 same-length-7 returns-2)
+univmon-update-weighted-lent-spec = tie.close (tie.spec returns scalars-of-requires update-weighted-lent-requires c-step-requires same-length same-length-2 same-length-3 same-length-4 same-length-5 same-length-6 same-length-7 returns-2)
