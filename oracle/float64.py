@@ -6,6 +6,9 @@
 writes crates/float64_test/stdin and stdout. ORACLE is the program built from the Rust. Both files
 are groups, one for each function: in stdin its number, how many cases follow, and their words; in
 stdout one word a case. Words have 16 hexadecimal digits, capital letters in stdin and small ones in stdout. Every NaN is written as 7FF8000000000000.
+
+Group 8, how many digits of a root are worked out, the original does not have: what is wanted there is by exact arithmetic on whole
+numbers (roots.py). Every root that the original answers is held against the same arithmetic, and the generator stops if they differ.
 """
 import os
 import random
@@ -13,7 +16,8 @@ import struct
 import subprocess
 import sys
 
-NAN, INF, SIGN = 0x7FF8000000000000, 0x7FF0000000000000, 1 << 63
+from roots import INF, LONGEST, NAN, SIGN, digits, moved, near, root as exact_root, square
+
 WORD = (1 << 64) - 1
 
 
@@ -35,10 +39,6 @@ def distinct(xs):
 
 SPECIAL = [0, SIGN, INF, INF | SIGN, NAN, NAN | SIGN, INF + 1, 1, 2, 3, SIGN + 1, (1 << 52) - 1, 1 << 52, (1 << 52) + 1,
            INF - 1, (INF - 1) | SIGN] + [pattern(x) for x in (0.25, 0.5, 1.0, -1.0, 1.5, 2.0, 2.5, -2.5, 3.0, 4.0, 25.0, 1e300, -1e300)]
-
-
-def near(bits):
-    return [bits - 1, bits, bits + 1]
 
 
 def rounded(n):
@@ -107,6 +107,24 @@ def thresholds(r):
     return distinct(out)
 
 
+# How many digits of a root are worked out, by hand: of some numbers, and of subnormals by their patterns.
+BY_HAND = [(pattern(x), n) for x, n in (
+    (0.0, 0), (1.0, 1), (2.0, 54), (4.0, 1), (9.0, 2), (25.0, 3), (0.25, 1), (float((2 ** 26 + 1) ** 2), 27), (2.0 ** 62, 1), (2.0 ** 63, 54))]
+BY_HAND += [(1, 1), (2, 54), (4, 1), (9, 2), (25, 3), ((1 << 52) - 1, 54)]
+
+
+def counted(r, cases):
+    """the patterns of these cases, those by hand, and squares of every length, moved, with their neighbours"""
+    out = [b for b, in cases]
+    for b, n in BY_HAND:
+        assert digits(b) == n, (f"{b:016X}", n)
+        out += [b, b | SIGN]
+    for length in range(1, LONGEST + 1):
+        n = square(r, length)
+        out += near(moved(r, n, 0)) + near(moved(r, n, 0, small=True)) + [moved(r, n, 1), moved(r, n, 1, small=True)]
+    return [(b,) for b in distinct(out)]
+
+
 class Oracle:
     def __init__(self, path):
         self.run = subprocess.Popen([path, "-i"], stdin=subprocess.PIPE, stdout=subprocess.PIPE, text=True)
@@ -124,7 +142,10 @@ class Oracle:
         return NAN if is_nan(b) else b
 
     def root(self, b):
-        return self.bits("sqrt", f"{b:016X}")
+        answer = self.bits("sqrt", f"{b:016X}")
+        if answer != exact_root(b):
+            sys.exit(f"sqrt {b:016X}: {answer:016X}, by exact arithmetic {exact_root(b):016X}")
+        return answer
 
     def cut(self, b):
         return int(self.ask("toi64", f"{b:016X}")) & WORD
@@ -163,6 +184,7 @@ def main(path):
         (middles(r), oracle.middle),
         (thresholds(r), oracle.threshold),
     ]
+    groups.append((counted(random.Random(8), groups[0][0]), digits))
     given, wanted = [], []
     for number, (cases, function) in enumerate(groups, 1):
         cases = distinct(cases)

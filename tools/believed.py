@@ -16,7 +16,7 @@ import sys
 ROOT = os.path.realpath(os.path.join(os.path.dirname(os.path.abspath(__file__)), ".."))
 # the theorems' statements, and the definitions that say of another what it is
 STATED = {
-    "float64": ["Norm", "Root"],
+    "float64": ["Norm", "Root", "RootCount"],
     "univmon": ["Told"],
     "univmon_delta": ["Told"],
     "univmon_merge": ["Told"],

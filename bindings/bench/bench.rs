@@ -18,6 +18,9 @@ const ROWS: usize = 5;
 const COLS: usize = 2048;
 const LAYERS: usize = 8;
 
+/// How often L2 is asked in a round.
+const L2_TIMES: usize = 20_000;
+
 /// The default dimensions of the original's `UnivMonTwoTier`.
 const TWO_TIERS: TwoTierShape = TwoTierShape {
     heap_size: 32,
@@ -87,29 +90,36 @@ fn original_update<O: Original, const N: usize>(u: &mut O, complete: &mut [bool;
     }
 }
 
-fn ours<S: Tiers, const N: usize>(shape: S, stream: &[u64], keys: &[Key<N>], terminal: bool) -> Owned<S> {
+fn ours<S: Tiers, const N: usize>(shape: S, stream: &[u64], keys: &[Key<N>], weight: i64, terminal: bool) -> Owned<S> {
     let mut state = Owned::new(shape).unwrap();
-    state.with(|s| run(s, stream, keys, terminal, &mut [[0; 2]; N]));
+    state.with(|s| run(s, stream, keys, weight, terminal, &mut [[0; 2]; N]));
     state
 }
 
-fn run<S: Tiers, const N: usize>(s: &mut State<'_, S>, stream: &[u64], keys: &[Key<N>], terminal: bool, list: &mut [[u64; 2]; N]) {
+fn run<S: Tiers, const N: usize>(
+    s: &mut State<'_, S>,
+    stream: &[u64],
+    keys: &[Key<N>],
+    weight: i64,
+    terminal: bool,
+    list: &mut [[u64; 2]; N],
+) {
     let list = list[1..].as_flattened_mut();
     for &n in stream {
         let words = keys[n as usize].words.as_flattened();
         if terminal {
-            s.update_weighted_terminal(words, 1, list).unwrap();
+            s.update_weighted_terminal(words, weight, list).unwrap();
         } else {
-            s.update_weighted(words, 1, list).unwrap();
+            s.update_weighted(words, weight, list).unwrap();
         }
     }
 }
 
 /// The original by its own calls, so that its mode and flags are set.
-fn theirs<O: Original>(shape: O::Shape, stream: &[u64], terminal: bool) -> O {
+fn theirs<O: Original>(shape: O::Shape, stream: &[u64], weight: i64, terminal: bool) -> O {
     let mut u = O::fresh(shape);
     for &n in stream {
-        u.update(n, 1, terminal);
+        u.update(n, weight, terminal);
     }
     u
 }
@@ -173,13 +183,48 @@ where
                 this: Box::new(move || {
                     let mut state = Owned::new(shape).unwrap();
                     let mut list = [[0; 2]; N];
-                    timed(|| state.with(|s| run(s, stream, keys, terminal, &mut list)))
+                    timed(|| state.with(|s| run(s, stream, keys, 1, terminal, &mut list)))
                 }),
                 times: Vec::new(),
             });
         }
     }
     items
+}
+
+/// One answer, so many times on each side.
+fn answer_of<'a, O: Original + 'a>(
+    name: String,
+    times: usize,
+    (u, f): (O, fn(&O) -> f64),
+    (mut o, g): (Owned<O::Shape>, fn(&State<'_, O::Shape>) -> f64),
+) -> Item<'a>
+where
+    O::Shape: 'a,
+{
+    Item {
+        name,
+        per: times as f64,
+        original: Box::new(move || timed(|| for _ in 0..times { black_box(f(black_box(&u))); })),
+        this: Box::new(move || timed(|| o.with(|s| for _ in 0..times { black_box(g(black_box(s))); }))),
+        times: Vec::new(),
+    }
+}
+
+/// L2 of squares whose roots have no digit, few, many, and no end: of each the keys, and the weight that each of them has.
+fn squares<'a, const N: usize>(keys: &[Key<N>]) -> [Item<'a>; 4] {
+    let squares: [(&str, &[u64], i64); 4] =
+        [("0", &[], 1), ("25", &[1], 5), ("(2^26+1)^2", &[1], (1 << 26) + 1), ("2", &[0, 1], 1)];
+    squares.map(|(name, stream, weight)| {
+        let u: UnivMon = theirs(shape(32), stream, weight, false);
+        let mut o = ours(shape(32), stream, keys, weight, false);
+        // The median row's square is the named one: two keys share no counter there.
+        let root = ((stream.len() as i64 * weight * weight) as f64).sqrt();
+        for l2 in [u.l2(), o.with(|s| s.estimate_l2()).unwrap()] {
+            assert_eq!(l2.to_bits(), root.to_bits(), "square {name}");
+        }
+        answer_of(format!("L2, standard, square {name}"), L2_TIMES, (u, Original::l2), (o, |s| s.estimate_l2().unwrap()))
+    })
 }
 
 /// A merge and the answers, in both modes, in each of these shapes.
@@ -191,8 +236,8 @@ where
     for terminal in [false, true] {
         for (name, shape) in shapes {
             let kind = if terminal { "terminal" } else { "standard" };
-            let (u, v) = (theirs::<O>(*shape, sa, terminal), theirs::<O>(*shape, sb, terminal));
-            let (mut o, mut p) = (ours(*shape, sa, keys, terminal), ours(*shape, sb, keys, terminal));
+            let (u, v) = (theirs::<O>(*shape, sa, 1, terminal), theirs::<O>(*shape, sb, 1, terminal));
+            let (mut o, mut p) = (ours(*shape, sa, keys, 1, terminal), ours(*shape, sb, keys, 1, terminal));
             // Both hold the same, or the times say nothing.
             let same = |a: f64, b: f64| assert_eq!(a.to_bits(), b.to_bits(), "{kind} {name}");
             same(u.l2(), o.with(|s| s.estimate_l2()).unwrap());
@@ -223,22 +268,13 @@ where
                 times: Vec::new(),
             });
             let answers: [(&str, usize, fn(&O) -> f64, fn(&State<'_, O::Shape>) -> f64); 4] = [
-                ("L2", 20_000, |u| u.l2(), |s| s.estimate_l2().unwrap()),
+                ("L2", L2_TIMES, |u| u.l2(), |s| s.estimate_l2().unwrap()),
                 ("cardinality", 40, |u| u.cardinality(), |s| s.estimate_cardinality().unwrap()),
                 ("g-sum value", 40, |u| u.g_sum(G::Value, false), |s| s.estimate_g_sum(G::Value, false).unwrap()),
                 ("g-sum square", 40, |u| u.g_sum(G::Square, false), |s| s.estimate_g_sum(G::Square, false).unwrap()),
             ];
             for (answer, times, f, g) in answers {
-                let (u, mut o) = (u.clone(), o.clone());
-                items.push(Item {
-                    name: format!("{answer}, {kind}, {name}"),
-                    per: times as f64,
-                    original: Box::new(move || timed(|| for _ in 0..times { black_box(f(black_box(&u))); })),
-                    this: Box::new(move || {
-                        timed(|| o.with(|s| for _ in 0..times { black_box(g(black_box(s))); }))
-                    }),
-                    times: Vec::new(),
-                });
+                items.push(answer_of(format!("{answer}, {kind}, {name}"), times, (u.clone(), f), (o.clone(), g)));
             }
         }
     }
@@ -265,6 +301,7 @@ fn main() {
     items.extend(updates_of::<UnivMonTwoTier, _>(&tiers, streams[0], &more));
     items.extend(answers_of::<UnivMon, _>(&shapes, streams, &keys));
     items.extend(answers_of::<UnivMonTwoTier, _>(&tiers, streams, &more));
+    items.extend(squares(&keys));
     for round in 0..rounds {
         for item in &mut items {
             let (a, b) = if round % 2 == 0 {

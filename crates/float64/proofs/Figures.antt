@@ -11,13 +11,16 @@ use lib.Ieee.Positive.{num, den}
 use Rattle.float64.specs.Values.{plain}
 use Rattle.float64.specs.Norm.{normRead}
 use Rattle.float64.specs.Root.{root}
+use Rattle.float64.specs.RootCount.{rootCount}
 use Rattle.float64.specs.Cut.{heavyThreshold}
 
--- a norm reads as a number; a number has a root; a pattern has a root's pattern, and is cut to a number; an l2, a heap size and a flag give a threshold
+-- a norm reads as a number; a number has a root, of which so many digits are worked out; a pattern has a root's pattern and so many digits, and is cut to a number; an l2, a heap size and a flag give a threshold
 pub data Row : Type 0 where
   reads : ℕ → ℕ → Row
   rooted : ℕ → ℕ → Row
   rootBits : ℕ → ℕ → Row
+  digits : ℕ → ℕ → Row
+  digitsBits : ℕ → ℕ → Row
   cuts : ℕ → ℤ → Row
   threshold : ℕ → ℕ → Bool → ℤ → Row
 
@@ -33,6 +36,8 @@ unfolding isWhole sameZ
 right (reads n m) = isWhole (normRead n) m
 right (rooted n m) = isWhole (ofInt binary64 (pos n)) n && isWhole (root (ofInt binary64 (pos n))) m
 right (rootBits b c) = eqb (toBits binary64 (root (ofBits binary64 b))) c
+right (digits n k) = isWhole (ofInt binary64 (pos n)) n && eqb (rootCount (ofInt binary64 (pos n))) k
+right (digitsBits b k) = eqb (rootCount (ofBits binary64 b)) k
 right (cuts b z) = sameZ (toSigned 63 (ofBits binary64 b)) z
 right (threshold l size complete z) = sameZ (heavyThreshold (ofInt binary64 (pos l)) size complete) z
 
@@ -62,6 +67,29 @@ rows =
     ∷ rootBits 0xBFF0000000000000 0x7FF8000000000000
     ∷ rootBits 0xFFF0000000000000 0x7FF8000000000000
     ∷ rootBits 0x7FF8000000000000 0x7FF8000000000000
+    -- the digits worked out: of 0, 1, 2, 4, 9, 25, (2^26 + 1)^2, 2^62 and 2^63
+    ∷ digits 0 0
+    ∷ digits 1 1
+    ∷ digits 2 54
+    ∷ digits 4 1
+    ∷ digits 9 2
+    ∷ digits 25 3
+    ∷ digits ((2 ^ 26 + 1) * (2 ^ 26 + 1)) 27
+    ∷ digits (2 ^ 62) 1
+    ∷ digits (2 ^ 63) 54
+    -- of 0.25, of the least value, twice it, nine times it, of the greatest subnormal and of the greatest value
+    ∷ digitsBits 0x3FD0000000000000 1
+    ∷ digitsBits 1 1
+    ∷ digitsBits 2 54
+    ∷ digitsBits 9 2
+    ∷ digitsBits 0x000FFFFFFFFFFFFF 54
+    ∷ digitsBits 0x7FEFFFFFFFFFFFFF 54
+    -- of -0, of +infinity, of -4, of -infinity and of a NaN
+    ∷ digitsBits 0x8000000000000000 0
+    ∷ digitsBits 0x7FF0000000000000 0
+    ∷ digitsBits 0xC010000000000000 0
+    ∷ digitsBits 0xFFF0000000000000 0
+    ∷ digitsBits 0x7FF8000000000000 0
     -- 2.5 and -2.5 are cut toward zero; then -0.5, 2^63, the infinities and a NaN
     ∷ cuts 0x4004000000000000 (pos 2)
     ∷ cuts 0xC004000000000000 (negsuc 1)
@@ -78,5 +106,5 @@ rows =
     ∷ []
 
 pub figures : T (allRight rows)
-unfolding allRight rows normRead root heavyThreshold ofInt ofBits toBits toSigned div leadingZeros
+unfolding allRight rows normRead root rootCount heavyThreshold ofInt ofBits toBits toSigned div leadingZeros
 figures = tt

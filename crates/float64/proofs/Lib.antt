@@ -5,7 +5,9 @@ pub mod Ints
 pub mod Cut
 pub mod MiddleCut
 pub mod WholeRoot
+pub mod Squares
 pub mod DigitLoop
+pub mod Stops
 pub mod PatternDigits
 pub mod Patterns
 pub mod RootPattern
@@ -13,6 +15,7 @@ pub mod RootTests
 pub mod Smallest
 pub mod Spacing
 pub mod RootIs
+pub mod CountIs
 pub mod RootUnique
 pub mod Kept
 pub mod LastDigit

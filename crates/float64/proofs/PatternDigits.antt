@@ -1,4 +1,4 @@
--- `rootBits` by its two cases, and a subnormal's digits moved up to 53.
+-- `atPattern` by its two cases, and a subnormal's digits moved up to 53.
 use Prim.Native.Nat.{ℕ, suc, _+_, _-_, _*_, _/_, _%_, _^_, _≤_, _<_}
 use mathlib.Core.Path.{_≡_, refl, sym, subst}
 use mathlib.Core.Bool.{Bool, true, false, not, cond}
@@ -8,7 +8,7 @@ use lib.Dec.{T, ltb, lt→ltb, lit≤}
 use lib.Arith.{le→nltb}
 use lib.Pow.{pow-mono, pow-add, pow-pos}
 use lib.Count.{leadingZeros, leading-top}
-use Rattle.float64.specs.Root.{rootAt, rootBits}
+use Rattle.float64.specs.Root.{atPattern}
 
 abbrev pub zeros : ℕ → ℕ
 zeros b = leadingZeros 64 b
@@ -40,10 +40,10 @@ pick-no : {X : Type 0} (b : Bool) (x y : X) → T (not b) → cond b x y ≡ y
 pick-no true x y t = absurd t
 pick-no false x y t = refl
 
-pub rootBits-low : (b : ℕ) → b < 2 ^ 52 → rootBits b ≡ rootAt (b * 2 ^ (zeros b - 11)) (1035 - zeros b)
-unfolding rootBits
-rootBits-low b h = pick-yes (ltb b (2 ^ 52)) _ _ (lt→ltb b (2 ^ 52) h)
+pub pattern-low : (f : ℕ → ℕ → ℕ) (b : ℕ) → b < 2 ^ 52 → atPattern f b ≡ f (b * 2 ^ (zeros b - 11)) (1035 - zeros b)
+unfolding atPattern
+pattern-low f b h = pick-yes (ltb b (2 ^ 52)) _ _ (lt→ltb b (2 ^ 52) h)
 
-pub rootBits-high : (b : ℕ) → 2 ^ 52 ≤ b → rootBits b ≡ rootAt (b % 2 ^ 52 + 2 ^ 52) (b / 2 ^ 52 + 1023)
-unfolding rootBits
-rootBits-high b h = pick-no (ltb b (2 ^ 52)) _ _ (le→nltb b (2 ^ 52) h)
+pub pattern-high : (f : ℕ → ℕ → ℕ) (b : ℕ) → 2 ^ 52 ≤ b → atPattern f b ≡ f (b % 2 ^ 52 + 2 ^ 52) (b / 2 ^ 52 + 1023)
+unfolding atPattern
+pattern-high f b h = pick-no (ltb b (2 ^ 52)) _ _ (le→nltb b (2 ^ 52) h)

@@ -9,15 +9,13 @@ use lib.Dec.{T, ltb, ltb→lt, nltb→le}
 use lib.Pow.{shl-lt, pow-add}
 use lib.Ieee.{Float, binary64, odd, ofBits}
 use lib.Ieee.Exact.{HasValue, odd-sign}
-use Rattle.float64.specs.Root.{isqrt, rootAt, rootBits}
+use Rattle.float64.specs.Root.{isqrt, under, rootAt, atPattern, rootBits}
+use Rattle.float64.specs.RootCount.{countAt, countBits}
 use Rattle.float64.proofs.WholeRoot.{Whole, isqrt-whole, root-low}
 use Rattle.float64.proofs.Patterns.{Pattern, read-normal, read-low}
-use Rattle.float64.proofs.PatternDigits.{zeros, moved, rootBits-low, rootBits-high}
+use Rattle.float64.proofs.PatternDigits.{zeros, moved, pattern-low, pattern-high}
 
--- the number under the root, its whole root, and that rounded to 53 digits
-abbrev pub under : ℕ → ℕ → ℕ
-under d p = d * 2 ^ (54 + p % 2)
-
+-- the whole root of the number under the root, and that rounded to 53 digits
 abbrev pub whole : ℕ → ℕ → ℕ
 whole d p = isqrt 54 (under d p)
 
@@ -92,7 +90,7 @@ pub record Split (b d p k X : ℕ) : Type 0 where
   pub high : d < 2 ^ 53
   pub half : p / 2 ≡ suc k
   pub small : k < 2046
-  pub is : rootBits b ≡ rootAt d p
+  pub is : (f : ℕ → ℕ → ℕ) → atPattern f b ≡ f d p
   pub value : HasValue (ofBits binary64 b) false X (2 ^ 1074)
   pub square : 4 * X * 2 ^ 1074 ≡ under d p * (2 ^ k * 2 ^ k)
 
@@ -128,7 +126,7 @@ split-low b h l =
         high = m .3;
         half = e;
         small = omega (arith, m .1);
-        is = rootBits-low b l;
+        is = λ f. pattern-low f b l;
         value = subst (λ (v : Float). HasValue v false b (2 ^ 1074)) (sym (read-low b l)) (subst (λ (n : ℕ). HasValue (odd 53 false b 0 1074) false n (2 ^ 1074)) (mul-one b) (odd-sign 53 false b 0 1074));
         square = four b ∙ ap (λ (x : ℕ). b * 2 ^ x) (sym a) ∙ ap (λ (x : ℕ). b * x) (pow-add 2 (z - 11) (52 + p)) ∙ sym (mul-assoc b (2 ^ (z - 11)) (2 ^ (52 + p))) ∙ sym (place (b * 2 ^ (z - 11)) p k e);
       },
@@ -156,7 +154,7 @@ split-high b l h =
         high = omega arith;
         half = e;
         small = omega arith;
-        is = rootBits-high b l;
+        is = λ f. pattern-high f b l;
         value = subst (λ (v : Float). HasValue v false X (2 ^ 1074)) (sym (ap (ofBits binary64) E ∙ read-normal j t J T')) (subst (λ (n : ℕ). HasValue (odd 53 false (2 ^ 52 + t) j 1074) false (n * 2 ^ j) (2 ^ 1074)) (add-comm (2 ^ 52) t) (odd-sign 53 false (2 ^ 52 + t) j 1074));
         square = four X ∙ mul-assoc d (2 ^ j) (2 ^ 1076) ∙ ap (λ (x : ℕ). d * x) (sym (pow-add 2 j 1076)) ∙ ap (λ (x : ℕ). d * 2 ^ x) a ∙ sym (place d p k e);
       },
@@ -168,3 +166,11 @@ split b h = go (ltb b (2 ^ 52)) (ltb→lt b (2 ^ 52)) (nltb→le b (2 ^ 52))
     go : (t : Bool) → (T t → b < 2 ^ 52) → (T (not t) → 2 ^ 52 ≤ b) → Parts b
     go true y n = split-low b (h .0) (y tt)
     go false y n = split-high b (n tt) (h .1)
+
+pub root-split : (b d p k X : ℕ) → Split b d p k X → rootBits b ≡ rootAt d p
+unfolding rootBits
+root-split b d p k X v = v .is rootAt
+
+pub count-split : (b d p k X : ℕ) → Split b d p k X → countBits b ≡ countAt d p
+unfolding countBits
+count-split b d p k X v = v .is countAt

@@ -1,4 +1,4 @@
--- What the four tests of `sqrt` say of x, and that its pattern and its root's are no NaN's.
+-- What the tests of `sqrt_counted` say of x, and that its pattern and its root's are no NaN's.
 use Prim.Native.Nat.{ℕ, zero, suc, _*_, _<_}
 use mathlib.Core.Path.{_≡_, refl, sym, ap, _∙_, subst}
 use mathlib.Core.Bool.{Bool, true, false, not, _&&_, _||_, Bool·beq}
@@ -11,8 +11,9 @@ use lib.Ieee.Positive.{first-pos}
 use lib.Ieee.Bits.{nanBits-is}
 use Rattle.float64.proofs.Flags.{nought, yes, clash}
 use Rattle.float64.specs.Root.{root, rootBits}
+use Rattle.float64.specs.RootCount.{countBits, rootCount}
 use Rattle.float64.proofs.Patterns.{Pattern, pattern}
-use Rattle.float64.proofs.RootPattern.{split, root-read, rounded}
+use Rattle.float64.proofs.RootPattern.{split, root-read, rounded, root-split}
 
 -- x is finite and above zero
 abbrev pub Above : Float → Type 0
@@ -48,6 +49,10 @@ zero-level : (s : Bool) (a b : ℕ) → a ≡ 0 → b ≡ 0 → T (eqb a b && (s
 zero-level true a b p q = subst (λ (z : ℕ). T (eqb z b && true)) (sym p) (subst (λ (z : ℕ). T (eqb 0 z && true)) (sym q) tt)
 zero-level false a b p q = subst (λ (z : ℕ). T (eqb z b && eqb z 0)) (sym p) (subst (λ (z : ℕ). T (eqb 0 z && true)) (sym q) tt)
 
+is-above : (m : ℕ) (e : ℤ) → T (lt nought (fin false (suc m) e))
+unfolding lt
+is-above m e = lt→ltb (0 * 1 * down e) (suc m * up e * 1) (subst (λ (z : ℕ). z < suc m * up e * 1) (sym (zero-mul (down e))) (mul-pos (mul-pos (zero-lt-suc m) (up-pos e)) (zero-lt-suc 0)))
+
 pub no-root : (x : Float) → lt nought x ≡ false → eq x nought ≡ false → nan ≡ root x
 unfolding lt eq root
 no-root nan p q = refl
@@ -55,8 +60,7 @@ no-root (inf true) p q = refl
 no-root (inf false) p q = absurd (clash p tt)
 no-root (fin s zero e) p q = absurd (clash q (zero-level (Bool·beq s false) (0 * up e * 1) (0 * 1 * down e) (ap (λ (z : ℕ). z * 1) (zero-mul (up e))) (zero-mul (down e))))
 no-root (fin true (suc m) e) p q = refl
-no-root (fin false (suc m) e) p q =
-    absurd (clash p (lt→ltb (0 * 1 * down e) (suc m * up e * 1) (subst (λ (z : ℕ). z < suc m * up e * 1) (sym (zero-mul (down e))) (mul-pos (mul-pos (zero-lt-suc m) (up-pos e)) (zero-lt-suc 0)))))
+no-root (fin false (suc m) e) p q = absurd (clash p (is-above m e))
 
 -- ---- of a value above zero
 
@@ -77,8 +81,28 @@ root-not-nan b h =
     let s = split b h in
     let v = s .4 in
     subst (λ (z : Bool). T (not z)) (sym (nanBits-is binary64 (rootBits b)))
-    (subst (λ (x : Float). T (not (isNan x))) (sym (ap (ofBits binary64) (v .is) ∙ root-read (s .0) (s .1) (s .2) (v .low) (v .high) (v .half) (v .small))) (odd-plain (rounded (s .0) (s .1)) (s .2)))
+    (subst (λ (x : Float). T (not (isNan x))) (sym (ap (ofBits binary64) (root-split b (s .0) (s .1) (s .2) (s .3) v) ∙ root-read (s .0) (s .1) (s .2) (v .low) (v .high) (v .half) (v .small))) (odd-plain (rounded (s .0) (s .1)) (s .2)))
 
 pub root-of : (x : Float) → Above x → ofBits binary64 (rootBits (toBits binary64 x)) ≡ root x
 unfolding root
 root-of x a = subst (λ (v : Float). ofBits binary64 (rootBits (toBits binary64 v)) ≡ root v) (sym (a .2)) refl
+
+-- ---- the count
+
+pub count-of : (x : Float) → Above x → countBits (toBits binary64 x) ≡ rootCount x
+unfolding rootCount
+count-of x a = subst (λ (v : Float). countBits (toBits binary64 v) ≡ rootCount v) (sym (a .2)) refl
+
+pub count-infinity : (x : Float) → lt x (inf false) ≡ false → 0 ≡ rootCount x
+unfolding lt rootCount
+count-infinity nan q = refl
+count-infinity (inf s) q = refl
+count-infinity (fin s m e) q = absurd (clash q tt)
+
+pub count-not-above : (x : Float) → lt nought x ≡ false → 0 ≡ rootCount x
+unfolding lt rootCount
+count-not-above nan p = refl
+count-not-above (inf s) p = refl
+count-not-above (fin s zero e) p = refl
+count-not-above (fin true (suc m) e) p = refl
+count-not-above (fin false (suc m) e) p = absurd (clash p (is-above m e))

@@ -2,4 +2,5 @@
 pub mod Values
 pub mod Norm
 pub mod Root
+pub mod RootCount
 pub mod Cut

@@ -4,11 +4,13 @@
 // input: what it answers at a NaN, an infinity or a number below zero is part of its definition, and
 // no caller has to rule one out.
 ghost use mathlib.Core.Path.{_≡_};
-ghost use mathlib.Core.Bool.{false};
+ghost use mathlib.Core.Bool.{false, _||_};
+ghost use lib.Dec.{eqb};
 ghost use Prim.Native.Nat.{_+_, _*_, _^_, _<_, _≤_, min};
 ghost use lib.Ieee.{binary64, round, toSigned, ofInt, toBits, ofBits};
 ghost use Rattle.float64.specs.Norm.{normTop, normRead};
 ghost use Rattle.float64.specs.Root.{isqrt, rootAt, rootBits, root};
+ghost use Rattle.float64.specs.RootCount.{worked, countAt, countBits, rootCount};
 ghost use Rattle.float64.specs.Cut.{middleOf, heavyThreshold};
 
 // 2^63 - 1, the greatest norm that is read.
@@ -16,6 +18,9 @@ const NORM_TOP: u64 = 9223372036854775807;
 
 // 2^52, the weight of the exponent's field in a pattern: the digits below it are the fraction.
 const FIELD: u64 = 0x10_0000_0000_0000;
+
+// 2^53, the weight of the first of 54 digits.
+const FIRST_DIGIT: u64 = 0x20_0000_0000_0000;
 
 // The pattern of +infinity: above it, the sign left out, are the NaNs.
 const INFINITY: u64 = 0x7ff0_0000_0000_0000;
@@ -100,43 +105,79 @@ pub fn count_to_f64(x: i64) -> f64
 
 // ---- the root
 
-// The 54 digits of the whole root of a * 2^54.
-fn root_digits(a: u64) -> u64
-    requires { ⌜ a < 2 ^ 54 ⌝ }
-    ensures { λ r. ⌜ r ≡ isqrt 54 (a * 2 ^ 54) ⌝ }
+// The 54 digits of a root, and how many of them were worked out; the others are zeros.
+struct RootDigits {
+    root: u64,
+    count: u64,
+}
+
+// The pattern of a root, and how many of its digits were worked out.
+struct RootBits {
+    bits: u64,
+    count: u64,
+}
+
+// A root, and how many of its binary digits were worked out, from its first 1.
+pub struct CountedRoot {
+    pub value: f64,
+    pub count: u64,
+}
+
+// Whether the search ends: nothing is left, so that the remainder is zero with only zeros left to
+// bring down, or all 54 digits are worked out.
+fn search_ends(left: u64, count: u64) -> bool
+    ensures { λ r. ⌜ r ≡ (eqb left 0 || eqb count 54) ⌝ }
 {
-    let mut root = 0u64;
-    let mut left = 0u64;
-    let mut rest = a;
-    let mut i = 0u64;
-    while i < 54 {
-        // two more digits of a come down, and the root gets one more
-        left = left * 4 + rest / FIELD;
-        rest = rest % FIELD * 4;
-        root = root * 2;
-        if 2 * root < left {
-            left = left - (2 * root + 1);
-            root = root + 1;
+    (left == 0) | (count == 54)
+}
+
+// The 54 digits of the whole root of a * 2^54.
+fn root_search(a: u64) -> RootDigits
+    requires { ⌜ a < 2 ^ 54 ⌝ }
+    ensures { λ r. ⌜ r .root ≡ isqrt 54 (a * 2 ^ 54) ⌝ ∗ ⌜ r .count ≡ worked (a * 2 ^ 54) ⌝ }
+{
+    // the root, doubled: that is what the next digit is held against
+    let mut twice = 0u64;
+    // what the root's square leaves of the number, counted in the weight of the last digit: the
+    // remainder, with the digits that are not brought down yet behind it
+    let mut left = a;
+    let mut count = 0u64;
+    loop {
+        if search_ends(left, count) {
+            break RootDigits {
+                root: twice / 2,
+                count: count,
+            };
         }
-        i = i + 1;
+        let digit = FIRST_DIGIT >> count;
+        let next = twice + digit;
+        left = 2 * left;
+        if next <= left {
+            left = left - next;
+            twice = next + digit;
+        }
+        count = count + 1;
     }
-    root
 }
 
 // The pattern of the root of d * 2^(p - 2098), where d has 53 digits.
-fn root_at(d: u64, p: u64) -> u64
+fn root_at(d: u64, p: u64) -> RootBits
     requires { ⌜ 2 ^ 52 ≤ d ⌝ ∗ ⌜ d < 2 ^ 53 ⌝ ∗ ⌜ p < 4096 ⌝ }
-    ensures { λ r. ⌜ r ≡ rootAt d p ⌝ }
+    ensures { λ r. ⌜ r .bits ≡ rootAt d p ⌝ ∗ ⌜ r .count ≡ countAt d p ⌝ }
 {
     let a = if p % 2 == 0 { d } else { d * 2 };
-    let q = (root_digits(a) + 1) / 2;
-    p / 2 * FIELD + (q - FIELD)
+    let found = root_search(a);
+    let q = (found.root + 1) / 2;
+    RootBits {
+        bits: p / 2 * FIELD + (q - FIELD),
+        count: found.count,
+    }
 }
 
 // The pattern of the root of the number above zero whose pattern is b.
-fn root_bits(b: u64) -> u64
+fn root_bits(b: u64) -> RootBits
     requires { ⌜ 0 < b ⌝ ∗ ⌜ b < 2047 * 2 ^ 52 ⌝ }
-    ensures { λ r. ⌜ r ≡ rootBits b ⌝ }
+    ensures { λ r. ⌜ r .bits ≡ rootBits b ⌝ ∗ ⌜ r .count ≡ countBits b ⌝ }
 {
     if b < FIELD {
         // a subnormal: its digits are moved up to 53
@@ -147,21 +188,36 @@ fn root_bits(b: u64) -> u64
     }
 }
 
-// The correctly rounded root: of a zero that zero, of +infinity itself, of a NaN and of anything
-// below zero a NaN.
-pub fn sqrt(x: f64) -> f64
-    ensures { λ r. ⌜ r ≡ root x ⌝ }
+// The correctly rounded root, and how many of its digits were worked out: of a zero that zero, of
+// +infinity itself, of a NaN and of anything below zero a NaN, each without a digit.
+pub fn sqrt_counted(x: f64) -> CountedRoot
+    ensures { λ r. ⌜ r .value ≡ root x ⌝ ∗ ⌜ r .count ≡ rootCount x ⌝ }
 {
     if x > 0.0 {
         if x < 1.0 / 0.0 {
-            return f64::from_bits(root_bits(f64::to_bits(x)));
+            let found = root_bits(f64::to_bits(x));
+            let value = f64::from_bits(found.bits);
+            return CountedRoot {
+                value: value,
+                count: found.count,
+            };
         }
-        return x;
+        return CountedRoot { value: x, count: 0 };
     }
     if x == 0.0 {
-        return x;
+        return CountedRoot { value: x, count: 0 };
     }
-    0.0 / 0.0
+    CountedRoot {
+        value: 0.0 / 0.0,
+        count: 0,
+    }
+}
+
+// The correctly rounded root.
+pub fn sqrt(x: f64) -> f64
+    ensures { λ r. ⌜ r ≡ root x ⌝ }
+{
+    sqrt_counted(x).value
 }
 
 // ---- floats cut to whole numbers

@@ -24,7 +24,10 @@ fn answer(function: u64, a: u64, b: u64, c: u64) -> u64 {
     if function == 6 {
         return float64::to_bits(float64::middle(x, float64::from_bits(b)));
     }
-    vectors::unsigned(float64::heavy_threshold(x, b as usize, c == 1))
+    if function == 7 {
+        return vectors::unsigned(float64::heavy_threshold(x, b as usize, c == 1));
+    }
+    float64::sqrt_counted(x).count
 }
 
 // How many words a case has.
@@ -35,7 +38,10 @@ fn width(function: u64) -> usize {
     if function < 7 {
         return 2;
     }
-    3
+    if function == 7 {
+        return 3;
+    }
+    1
 }
 
 // One case; false where the input ends.
@@ -70,7 +76,7 @@ fn group() -> bool {
 
 fn main() {
     let mut groups = 0u64;
-    while groups < 7 {
+    while groups < 8 {
         groups += 1;
         if !group() {
             return;

@@ -6,6 +6,7 @@ use native.Mathlib.Omega.{arith}
 use borrow.Author.Needs.{needs}
 use mathlib.Core.Logic.{⊎-elim}
 use Rattle.float64.specs.Root.{isqrt, rootAt}
+use Rattle.float64.specs.RootCount.{worked, countAt}
 use Rattle.float64.proofs.WholeRoot.{root-low, root-high}
 use Rattle.float64.proofs.root_at.Statement.{statement}
 use Rattle.float64.proofs.root_at.Tie as tie
@@ -34,31 +35,33 @@ given c =
     (c .if1 .came)
 
 -- the root has 54 digits
-digits : (c : tie.After-root-digits) → (2 ^ 53 ≤ c .root-digits .result) × (c .root-digits .result < 2 ^ 54)
+digits : (c : tie.After-root-search) → (2 ^ 53 ≤ c .root-search .result .root) × (c .root-search .result .root < 2 ^ 54)
 digits c =
     let g = given (c .before) in
-    rw (c .root-digits .ensures) (root-low (c .before .if1 .a) (g .0) (g .1), root-high (c .before .if1 .a) (g .1))
+    rw (c .root-search .ensures .0) (root-low (c .before .if1 .a) (g .0) (g .1), root-high (c .before .if1 .a) (g .1))
 
-root-digits-requires : tie.Need-root-digits-requires
-root-digits-requires c κs = given c .1
+root-search-requires : tie.Need-root-search-requires
+root-search-requires c κs = given c .1
 
 add-q : tie.Need-add-q
-add-q c = omega (arith, digits c)
+add-q c = omega (arith, digits (c .before))
 
-mul-result : tie.Need-mul-result
-mul-result c = search needs
+mul-t9 : tie.Need-mul-t9
+mul-t9 c = search needs
 
-sub-result : tie.Need-sub-result
-sub-result c = omega (arith, digits c)
+sub-t10 : tie.Need-sub-t10
+sub-t10 c = omega (arith, digits (c .before))
 
-add-result : tie.Need-add-result
-add-result c = search needs
+add-t11 : tie.Need-add-t11
+add-t11 c = search needs
 
 returns : tie.Need-returns
-unfolding rootAt
+unfolding rootAt countAt
 returns c =
-    ap (λ (r : ℕ). c .before .before .args .p / 2 * 2 ^ 52 + ((r + 1) / 2 - 2 ^ 52)) (c .root-digits .ensures ∙ ap (λ (n : ℕ). isqrt 54 n) ((given (c .before)) .2))
+    let g = given (c .before .before) in (
+      ap (λ (r : ℕ). c .before .before .before .args .p / 2 * 2 ^ 52 + ((r + 1) / 2 - 2 ^ 52)) (c .before .root-search .ensures .0 ∙ ap (isqrt 54) (g .2)),
+      c .before .root-search .ensures .1 ∙ ap worked (g .2),
+    )
 
 pub root-at-spec : {M : Type 1} → statement M
-root-at-spec =
-    tie.close (tie.spec mul-a root-digits-requires add-q mul-result sub-result add-result returns)
+root-at-spec = tie.close (tie.spec mul-a root-search-requires add-q mul-t9 sub-t10 add-t11 returns)

@@ -6,8 +6,9 @@ use lib.Dec.{lit≤}
 use native.Mathlib.Omega.{arith}
 use borrow.Author.Needs.{needs}
 use native.Mathlib.Nat.{lt-of-lt-of-le, mod-eq-of-lt}
-use Rattle.float64.specs.Root.{rootAt}
-use Rattle.float64.proofs.PatternDigits.{Moved, moved, zeros, rootBits-low, rootBits-high}
+use Rattle.float64.specs.Root.{rootAt, rootBits}
+use Rattle.float64.specs.RootCount.{countAt, countBits}
+use Rattle.float64.proofs.PatternDigits.{Moved, moved, zeros, pattern-low, pattern-high}
 use Rattle.float64.proofs.root_bits.Statement.{statement}
 use Rattle.float64.proofs.root_bits.Tie as tie
 
@@ -43,22 +44,21 @@ root-at-requires-2 : tie.Need-root-at-requires-2
 root-at-requires-2 c κs = search needs
 
 returns : tie.Need-returns
-returns c = c .root-at .ensures ∙ ap (λ (d : ℕ). rootAt d (1035 - zeros (c .before .before .args .b))) (shifted (c .before)) ∙ sym (rootBits-low (c .before .before .args .b) (c .before .if1 .taken))
+unfolding rootBits countBits
+returns c =
+    let b = c .before .before .args .b in
+    let z = zeros b in
+    let low = c .before .if1 .taken in (
+      c .root-at .ensures .0 ∙ ap (λ (d : ℕ). rootAt d (1035 - z)) (shifted (c .before)) ∙ sym (pattern-low rootAt b low),
+      c .root-at .ensures .1 ∙ ap (λ (d : ℕ). countAt d (1035 - z)) (shifted (c .before)) ∙ sym (pattern-low countAt b low),
+    )
 
 returns-2 : tie.Need-returns-2
-returns-2 c = c .root-at2 .ensures ∙ sym (rootBits-high (c .before .before .args .b) (c .before .if1 .left))
+unfolding rootBits countBits
+returns-2 c =
+    let b = c .before .before .args .b in
+    let high = c .before .if1 .left in
+    (c .root-at2 .ensures .0 ∙ sym (pattern-high rootAt b high), c .root-at2 .ensures .1 ∙ sym (pattern-high countAt b high))
 
 pub root-bits-spec : {M : Type 1} → statement M
-root-bits-spec =
-    tie.close
-    (tie.spec
-    cast-z
-    sub-root-at
-    shl-root-at
-    sub-root-at-2
-    root-at-requires
-    add-root-at
-    add-root-at-2
-    root-at-requires-2
-    returns
-    returns-2)
+root-bits-spec = tie.close (tie.spec cast-z sub-root-at shl-root-at sub-root-at-2 root-at-requires add-root-at add-root-at-2 root-at-requires-2 returns returns-2)

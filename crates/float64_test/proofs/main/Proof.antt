@@ -1,4 +1,4 @@
--- `float64_test::main` ends after seven groups.
+-- `float64_test::main` ends after eight groups.
 -- Written by tools/places.py from answers.txt; assumes nothing.
 use Prim.Native.Nat.{_-_, _≤_}
 use borrow.Author.Needs.{needs}
@@ -6,10 +6,10 @@ use Rattle.float64_test.proofs.main.Statement.{statement}
 use Rattle.float64_test.proofs.main.Tie as tie
 
 abbrev Inv-loop : tie.InvT-loop
-Inv-loop groups₀ groups = groups ≤ 7
+Inv-loop groups₀ groups = groups ≤ 8
 
 abbrev μ-loop : tie.MeasureT-loop
-μ-loop groups₀ groups = 7 - groups
+μ-loop groups₀ groups = 8 - groups
 
 loop-holds : tie.Need-loop-holds Inv-loop μ-loop
 loop-holds c = search needs
