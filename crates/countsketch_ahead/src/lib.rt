@@ -2,6 +2,9 @@
 // by it before anything is touched. `countsketch_l2_norm::update_if_ready` makes the update.
 //
 // These functions are called by the other crates of this repository, which show what they require.
+
+#![tactic(auto)]
+
 mod rows;
 mod straight;
 

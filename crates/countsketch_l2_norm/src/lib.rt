@@ -4,6 +4,9 @@
 // These functions are called by the other crates of this repository, which show what they require:
 // the functions that answer yes or no judge, the functions that store do not judge again, and
 // `update_if_ready` does both.
+
+#![tactic(auto)]
+
 mod cells;
 mod estimate;
 mod merging;

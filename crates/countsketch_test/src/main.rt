@@ -1,5 +1,8 @@
 // Runs stored calls on one layer's Count Sketch and prints what they answer: `stdout` holds the
 // oracle's answers. A line of `stdin` is an operation, the number of its words, and the words.
+
+#![tactic(auto)]
+
 ghost use Rattle.std.specs.Prelude.{◌≡◌, true, ◌*◌, ◌≤◌};
 ghost use Rattle.matrix_storage.specs.inner.Shaped.{Shaped};
 

@@ -1,4 +1,7 @@
 // What a state answers: norms, sums over candidates, cardinality.
+
+#![tactic(auto)]
+
 pub mod anew;
 mod calls;
 mod norms;

@@ -3,6 +3,9 @@
 // Rattle has no cast that rounds and no root, so each is worked out here. Every function takes every
 // input: what it answers at a NaN, an infinity or a number below zero is part of its definition, and
 // no caller has to rule one out.
+
+#![tactic(auto)]
+
 ghost use Rattle.std.specs.Prelude.{◌≡◌, ◌+◌, ◌*◌, ◌^◌, ◌<◌, ◌≤◌, min, false, ◌||◌, ◌==◌, from_bits, to_bits};
 ghost use Rattle.std.specs.Float.{binary64};
 ghost use Rattle.std.specs.Float.Ieee.{round, to_signed, of_int};

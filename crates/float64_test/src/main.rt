@@ -3,6 +3,8 @@
 //
 // The input is groups, one for each function: its number, how many cases follow, and their words.
 
+#![tactic(auto)]
+
 // The answer to a case, as a word.
 fn answer(function: u64, a: u64, b: u64, c: u64) -> u64 {
     if function == 1 {

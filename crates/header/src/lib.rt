@@ -2,6 +2,9 @@
 //
 // `check_shape`, `Shape::new`, `Shape::new_one_tier` and `bottom_layer_for_hash` are public calls. The
 // other functions are for the crates of this repository, and may ask for what their callers have tested.
+
+#![tactic(auto)]
+
 ghost use Rattle.std.specs.Prelude.{◌≡◌, Bool, true, false, ◌&&◌, ◌||◌, List, ℕ, ◌+◌, ◌-◌, ◌<◌, ◌≤◌, length, get_or, set, replicate, eqb, leb};
 ghost use Rattle.words.specs.Num.{top};
 ghost use Rattle.words.specs.Tests.{number};

@@ -1,6 +1,9 @@
 // One layer's candidates (the Rust's `TopKHeap`): the first `len` of `size` places are used.
 //
 // These functions are called by the other crates of this repository, which show what they require.
+
+#![tactic(auto)]
+
 mod blocks;
 mod tell;
 

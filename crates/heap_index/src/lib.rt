@@ -4,6 +4,9 @@
 // candidate, or lead nowhere, a lookup says so.
 //
 // These functions are called by the other crates of this repository, which show what they require.
+
+#![tactic(auto)]
+
 mod building;
 mod changes;
 mod checking;

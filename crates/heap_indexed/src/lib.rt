@@ -3,6 +3,9 @@
 // stops, and says so.
 //
 // These functions are called by the other crates of this repository, which show what they require.
+
+#![tactic(auto)]
+
 mod moves;
 mod offers;
 

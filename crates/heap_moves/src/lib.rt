@@ -3,6 +3,9 @@
 // `RetainLargest`; an entry's words and its count move together.
 //
 // These functions are called by the other crates of this repository, which show what they require.
+
+#![tactic(auto)]
+
 ghost use Rattle.std.specs.Prelude.{◌≡◌, ℕ, ◌+◌, ◌≤◌, ◌<◌, ◌*◌, not, List, length, set};
 ghost use Rattle.heap_moves.specs.Cands.{smaller, swapped, up, left_or, lower, down, stays, update_at};
 ghost use Rattle.heap_moves.specs.Flat.{cands_of, item_of, cand_of};

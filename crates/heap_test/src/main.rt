@@ -1,5 +1,8 @@
 // Runs stored offers through one layer's candidates and prints what they answer and leave: `stdout`
 // holds the oracle's answers. A line of `stdin` is an operation, the number of its words, and the words.
+
+#![tactic(auto)]
+
 use heap::Answer;
 use heap_moves::Item;
 

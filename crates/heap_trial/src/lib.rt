@@ -5,6 +5,9 @@
 // The stack is the journal: a function makes one step, calls itself for the rest, and takes its own step back.
 //
 // These functions are called by the other crates of this repository, which show what they require.
+
+#![tactic(auto)]
+
 mod gaps;
 mod offers;
 mod paths;

@@ -1,5 +1,8 @@
 // A state with an index: the tables of all layers, lent in one slice beside the four. Its check, the index
 // built from the entries, and the lookup of a key.
+
+#![tactic(auto)]
+
 mod building;
 mod check;
 mod lookups;

@@ -3,6 +3,9 @@
 //
 // These functions are called by the other crates of this repository, which show what they require:
 // those that answer yes or no judge, those that store do not judge again, and `add_if_ready` does both.
+
+#![tactic(auto)]
+
 mod adding;
 mod candidates;
 mod deltas;

@@ -4,6 +4,9 @@
 //
 // These functions are called by the other crates of this repository, which show what they require. Those
 // that judge leave everything as it was lent.
+
+#![tactic(auto)]
+
 mod adding;
 mod deltas;
 mod looks;

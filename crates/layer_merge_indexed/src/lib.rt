@@ -2,6 +2,9 @@
 // and the index made anew. What is left of layer and list is what `layer::merge` leaves.
 //
 // For the crates of this repository, which show what it requires.
+
+#![tactic(auto)]
+
 mod candidates;
 mod distinct;
 

@@ -1,5 +1,8 @@
 // Where layers stand in the slices that a caller lends, and hashes in a key's record. For the crates of
 // this repository, which show first that the shape is accepted.
+
+#![tactic(auto)]
+
 mod lists;
 mod parts;
 

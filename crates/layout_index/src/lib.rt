@@ -1,5 +1,8 @@
 // Where the tables of layers stand in the index that a caller lends beside a state. For the crates of this
 // repository, which show first that the shape is accepted.
+
+#![tactic(auto)]
+
 ghost use Rattle.std.specs.Prelude.{◌≡◌, ℕ, ◌+◌, ◌*◌, ◌<◌, length};
 ghost use Rattle.words.specs.Tests.{number};
 ghost use Rattle.header.specs.inner.Accepted.{Accepted};

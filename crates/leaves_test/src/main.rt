@@ -1,5 +1,8 @@
 // Runs stored inputs through the leaves and prints what they answer: `stdout` holds the oracle's
 // answers. A line of `stdin` is an operation, the number of its words, and the words.
+
+#![tactic(auto)]
+
 ghost use Rattle.std.specs.Prelude.{◌≡◌, true, ◌≤◌, length, take};
 ghost use Rattle.words.specs.Num.{all_in};
 ghost use Rattle.matrix_storage.specs.Bits.{max_rows};

@@ -1,5 +1,8 @@
 // Reads lines from standard input, in small chunks so that many lines lie across two, and prints how each was read.
 // `stdout` is written by oracle/lines.py, which has the grammar as a regular expression.
+
+#![tactic(auto)]
+
 ghost use Rattle.std.specs.Prelude.{ℕ, ◌+◌, ◌≤◌, leb, ◌≡◌, length, take};
 ghost use Rattle.panel_lines.specs.Split.{most_held, chunk_held};
 

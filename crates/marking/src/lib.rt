@@ -1,4 +1,7 @@
 // Marks on a header that is lent.
+
+#![tactic(auto)]
+
 ghost use Rattle.std.specs.Prelude.{◌≡◌};
 ghost use Rattle.univmon.specs.Calls.{mark_layer_call};
 

@@ -1,4 +1,7 @@
 // The program `panel`: reads lines from standard input and answers each with one.
+
+#![tactic(auto)]
+
 ghost use Rattle.std.specs.Prelude.{◌≡◌, ℕ, min, ◌+◌, ◌≤◌, length, take};
 ghost use Rattle.layout.specs.Lending.{lent_in, lent_out};
 ghost use Rattle.panel_lines.specs.Split.{most_held, chunk_lines, chunk_held};

@@ -1,4 +1,7 @@
 // One line of the program `panel`: what it is answered, and what it leaves of the state.
+
+#![tactic(auto)]
+
 use header::Header;
 
 mod calls;

@@ -3,6 +3,9 @@
 // tell which keys are new.
 //
 // These functions are called by the other crates of this repository, which show what they require.
+
+#![tactic(auto)]
+
 mod blocks;
 mod marks;
 mod order;

@@ -1,6 +1,9 @@
 // Runs stored calls on whole states and prints what they answer and leave: `stdout` holds what the oracle
 // and, where it cannot be asked, the definitions of oracle/model.py say. A line of `stdin` is an operation,
 // the number of its words, and the words. Operations 1 to 9 and 19 change the relay at work.
+
+#![tactic(auto)]
+
 mod asked;
 mod changes;
 mod digest;

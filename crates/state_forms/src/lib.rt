@@ -2,6 +2,9 @@
 // room for and answers the place past the whole text: lent a slice of no use, it only measures.
 //
 // These functions are for the other crates of this repository: each caller proves what they require.
+
+#![tactic(auto)]
+
 pub mod cells;
 pub mod keys;
 pub mod lay;

@@ -1,4 +1,7 @@
 // A state read from text: everything is judged before anything is written.
+
+#![tactic(auto)]
+
 mod call;
 mod judge;
 mod keeping;

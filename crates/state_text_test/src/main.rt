@@ -1,6 +1,9 @@
 // Reads cases from standard input and says what becomes of each: `stdout` is written by oracle/state_text.py, which
 // has the grammar as regular expressions. A case is two words and a text: the lengths of the four slices, 16 bits each,
 // and the number of its bytes. The first text, a short one, is also broken in every way.
+
+#![tactic(auto)]
+
 mod breaks;
 mod digest;
 mod trials;

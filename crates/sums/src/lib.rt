@@ -1,6 +1,9 @@
 // Sums over candidates, in floats, in the Rust's order of operations.
 //
 // These functions are called by the other crates of this repository, which show what they require.
+
+#![tactic(auto)]
+
 ghost use Rattle.std.specs.Prelude.{◌≡◌, [], ℕ, ◌<◌, ◌≤◌, length};
 ghost use Rattle.sums.specs.inner.Spaces.{space, entries_in};
 ghost use Rattle.sums.specs.Terms.{plus_zero, g_of, factor, counted, add_term, sum_over};

@@ -2,6 +2,9 @@
 // `Header` by value and four slices that the caller lends: counters, norms, entries and counts. For
 // updates lengths and flags may be lent too. What stands behind the calls here is for `univmon_indexed`, which
 // shows what it requires: steps of an update that an index does not change.
+
+#![tactic(auto)]
+
 mod calls;
 mod fresh;
 mod judge;

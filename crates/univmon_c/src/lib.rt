@@ -2,6 +2,9 @@
 // header has four dimensions; those of `UnivMonTwoTier` are in `univmon_two_tier`.
 // A header crosses by value with its mode as a number, a slice as a pointer and a length. For updates
 // the header's lengths and flags may be lent instead, so that nothing large is copied.
+
+#![tactic(auto)]
+
 pub mod answering;
 pub mod changing;
 pub mod crossing;

@@ -1,5 +1,8 @@
 // A delta on a state with an index. Everything is judged before anything is written; the offer is tried on the
 // slices and taken back.
+
+#![tactic(auto)]
+
 ghost use Rattle.std.specs.Prelude.{◌≡◌, Bool, cond, ◌++◌, ℕ, ◌+◌, ◌*◌, ◌≤◌, length, eqb};
 ghost use Rattle.words.specs.Tests.{number};
 ghost use Rattle.heap.specs.inner.Telling.{tell_at};

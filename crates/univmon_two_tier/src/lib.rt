@@ -1,6 +1,9 @@
 // UnivMonTwoTier for programs in C and Rust: wide top layers, under plain names with the prefix
 // `univmon_two_tier_`. Each call takes the header apart, calls what the calls of one tier call, and puts
 // the answer together. What crosses besides headers is as in `univmon_c`.
+
+#![tactic(auto)]
+
 pub mod answering;
 pub mod changing;
 mod crossing;

@@ -1,4 +1,7 @@
 // What the test programs read and write: words of 16 hexadecimal digits, with one byte after each.
+
+#![tactic(auto)]
+
 ghost use Rattle.std.specs.Prelude.{◌<◌};
 
 pub const PRIME: u64 = 4294967291;

@@ -1,0 +1,10 @@
+-- `words::filling::copy_counts` meets its contract.
+use Rattle.std.proofs.Common.{◌-◌, ◌≤◌, length, get_or, pos}
+use Rattle.words.proofs.Fills.{Filled}
+use Rattle.words.proofs.filling.copy_counts.Given as goal
+
+abbrev pub invariant-loop-i : goal.invariant-loop-i
+invariant-loop-i l = (l.i ≤ l.n) × Filled (pos 0) (λ j. get_or l.from j (pos 0)) (length l.initial.to) l.i l.to
+
+abbrev pub decreases-loop-i : goal.decreases-loop-i
+decreases-loop-i l = l.n - l.i

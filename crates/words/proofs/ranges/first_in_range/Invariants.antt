@@ -1,0 +1,10 @@
+-- `words::ranges::first_in_range` meets its contract.
+use Rattle.std.proofs.Common.{◌≡◌, ◌-◌, ◌≤◌, take, drop}
+use Rattle.words.specs.Num.{all_in}
+use Rattle.words.proofs.ranges.first_in_range.Given as goal
+
+abbrev pub invariant-loop-i : goal.invariant-loop-i
+invariant-loop-i l = (l.i ≤ l.n) × (all_in (take l.n l.xs) ≡ all_in (drop l.i (take l.n l.xs)))
+
+abbrev pub decreases-loop-i : goal.decreases-loop-i
+decreases-loop-i l = l.n - l.i

@@ -1,0 +1,343 @@
+#!/usr/bin/env python3
+"""Turns a crate's Proof.antt files, which walk the code place by place, to Invariants.antt and Answers.antt.
+
+    tools/turn_proofs.py NAME [FN ..]     at the top of a checkout, after port.py and tools/snake_names.py
+
+It asks the check for each goal's and each place's old and new name (`rt check --generated DIR --old-names`), takes
+each answer of Proof.antt over under its goal's new name, and a path `c.before.before.STEP.FIELD` becomes `c.STEP.FIELD`.
+An answer that is `search rules` alone is left to the check. What it cannot turn it prints.
+"""
+import difflib
+import glob
+import json
+import os
+import re
+import subprocess
+import sys
+
+PATH = re.compile(r"(?<![\w'.₀-₉-])c((?:\.(?:«[^»]*»|[\w'₀-₉]+(?:-[\w'₀-₉]+)*))*)(?![\w'₀-₉-])")
+
+
+def read(p):
+    with open(p, encoding="utf-8") as f:
+        return f.read()
+
+
+def put(p, t):
+    with open(p, "w", encoding="utf-8") as f:
+        f.write(t)
+
+
+def norm(s):
+    return s.replace("-", "_").replace("μ", "decreases")
+
+
+def blocks(text):
+    """the declarations of a proof file: each a list of lines from the signature on, without its indentation"""
+    out, cur = [], []
+    text = re.sub(r"^use [^{\n]*\.\{[^}]*\}\n", "", text, flags=re.M)
+    for line in text.split("\n"):
+        if re.match(r"use ", line):
+            continue
+        if line.strip() == "":
+            if cur:
+                out.append(cur)
+            cur = []
+            continue
+        cur.append(line)
+    if cur:
+        out.append(cur)
+    # a `where` block below an empty line goes with what stands before it
+    joined = []
+    for b in out:
+        if joined and b[0].startswith(" "):
+            joined[-1] += [""] + b
+        else:
+            joined.append(b)
+    return joined
+
+
+class Fn:
+    def __init__(self, crate, fn, info):
+        self.crate, self.fn, self.info, self.bad = crate, fn, info, []
+        self.place = {}
+        for i, (old, parent, (of, nf), callee, fields) in enumerate(info["places"]):
+            self.place[old] = dict(parent=parent, of=of, nf=nf, fields=dict(fields), new=info["places_by_name"][i], typed=info["typed"][i] if i < len(info.get("typed", [])) else [])
+        self.byname = {norm(k): k for k in self.place}
+        self.loops = {l[0][0]: (l[0][1], l[1], info["changed"][i]) for i, l in enumerate(info["loops"])}
+        self.used_places = set()
+
+    def up(self, p, k):
+        for _ in range(k):
+            q = self.place[p]["parent"]
+            if q is None:
+                return None
+            p = q
+        return p
+
+    def paths(self, term, place, goal):
+        """a term's paths from the place `place` (an old name); goal is None in a helper"""
+        while True:
+            # a name for a place is written out
+            m = re.search(r"let (\w+) = (c(?:\.before)+) in\s*", term)
+            if not m:
+                break
+            rest = term[m.end():]
+            rest = re.sub(r"(?<![\w'.-])" + m.group(1) + r"(?![\w'-])", m.group(2), rest)
+            term = term[: m.start()] + rest
+
+        def one(m):
+            parts = re.findall(r"\.(«[^»]*»|[\w'₀-₉]+(?:-[\w'₀-₉]+)*)", m.group(1))
+            k = 0
+            while k < len(parts) and parts[k] == "before":
+                k += 1
+            q = self.up(place, k)
+            rest = parts[k:]
+            if q is None:
+                self.bad.append("above the start: " + m.group(0))
+                return m.group(0)
+            if not rest:
+                if goal is None:
+                    return m.group(0)
+                new = self.place[q]["new"]
+                self.used_places.add(new)
+                return f"(goal.at.{goal} c).{new}"
+            f = rest[0]
+            here = self.place[q]
+            if norm(f) == norm(here["of"]) and here["of"]:
+                rest[0] = here["nf"]
+                if len(rest) > 1 and rest[1] in here["fields"]:
+                    rest[1] = here["fields"][rest[1]]
+            elif f in ("args", "requires", "ranges", "well_formed", "good", "was", "entry", "fits", "pre"):
+                rest[0] = {"fits": "ranges", "pre": "requires", "good": "well_formed"}.get(f, f)
+            else:
+                # a step of an earlier place, named without its `before`
+                r = q
+                while r is not None and not (self.place[r]["of"] and norm(self.place[r]["of"]) == norm(f)):
+                    r = self.place[r]["parent"]
+                if r is None:
+                    self.bad.append(f"{goal}: no step {f} at {q}: {m.group(0)}")
+                    return m.group(0)
+                rest[0] = self.place[r]["nf"]
+                if len(rest) > 1 and rest[1] in self.place[r]["fields"]:
+                    rest[1] = self.place[r]["fields"][rest[1]]
+            if len(rest) > 1 and rest[1] in ("taken", "left") and rest[0].startswith(("if", "loop", "prove")):
+                rest[1] = {"taken": "true", "left": "false"}[rest[1]]
+            clauses = None
+            if rest[0] == "requires":
+                clauses, at = (self.info.get("pre") or {}).get("fields"), 1
+            elif len(rest) > 1 and rest[1] == "ensures":
+                r = next((i for i, p in enumerate(self.info["places"]) if p[2][1] == rest[0]), None)
+                clauses, at = (self.info["clauses"][r] or {}).get("fields") if r is not None else None, 2
+            if clauses:
+                at0, n = at, 0
+                while n < len(clauses) - 1 and at < len(rest) and rest[at] == "1":
+                    n, at = n + 1, at + 1
+                if len(clauses) == 1:
+                    rest[at0:at0] = clauses
+                elif n == len(clauses) - 1:
+                    rest[at0:at] = [clauses[n]]
+                elif at < len(rest) and rest[at] == "0":
+                    rest[at0 : at + 1] = [clauses[n]]
+                else:
+                    self.bad.append(f"{goal}: clauses {clauses} as a whole: {m.group(0)}")
+            for i in range(1, len(rest)):
+                before = rest[i - 1]
+                if before in ("args", "ranges", "new", "last", "kept", "result", "initial") or (i == 1 and f.startswith("loop") and "test" not in f):
+                    if rest[i] not in ("invariant",):
+                        rest[i] = rest[i].replace("-", "_")
+            return "c." + ".".join(rest)
+
+        return PATH.sub(one, term)
+
+
+def turn(crate, fn, info, folder):
+    text = read(folder + "/Proof.antt")
+    F = Fn(crate, fn, info)
+    head = []
+    for line in text.split("\n"):
+        if line.startswith("--"):
+            if "tools/places.py" not in line:
+                head.append(line)
+        else:
+            break
+    uses = re.findall(r"^use [^{\n]*\.\{[^}]*\}|^use [^{\n]+$", text, re.M)
+    uses = [re.sub(r"\s*\n\s*", " ", u) for u in uses]
+    uses = [u for u in uses if not re.search(r"\.(Statement|Tie|Lts)\b", u)]
+    body = text.split("\n", len(head))[-1] if False else "\n".join(l for l in text.split("\n"))
+    while body.startswith("--"):
+        body = body.split("\n", 1)[1]
+    decls, needs = [], []
+    for b in blocks(body):
+        while b and b[0].startswith("--"):
+            decls.append(("comment", None, b[:1]))
+            b = b[1:]
+        if not b:
+            continue
+        m = re.match(r"(?:abbrev )?(?:pub )?(\S+)\s*(?:\{[^}]*\}\s*)*:", b[0])
+        if not m:
+            F.bad.append("not understood: " + b[0])
+            continue
+        name = m.group(1)
+        sig = [b[0]]
+        rest = b[1:]
+        while rest and not re.match(re.escape(name) + r"(\s|$)", rest[0]) and not rest[0].startswith("unfolding"):
+            sig.append(rest[0])
+            rest = rest[1:]
+        s = "\n".join(sig)
+        mm = re.search(r":\s*tie\.Need-(\S+)", s)
+        if re.match(r"pub \S+[-_]spec :", s):
+            order = re.search(r"tie\.spec(.*)", "\n".join(rest), re.S)
+            continue
+        if mm and re.match(r"(?:pub )?\S+ : tie\.Need-", s):
+            needs.append(name)
+            decls.append(("need", name, rest, mm.group(1)))
+        elif re.search(r"tie\.(invariant|decreases|InvT|MeasureT)-", s):
+            kind = re.search(r"tie\.(\S+)", s).group(1)
+            decls.append(("inv", name, rest, kind))
+        else:
+            decls.append(("helper", name, sig, rest))
+    wanted = info["needs"]
+    olds = [d[3] for d in decls if d[0] == "need"]
+    new_of = {}
+    idx = [i for i, d in enumerate(decls) if d[0] == "need"]
+    if len(olds) == len(wanted):
+        pairs = list(zip(range(len(olds)), range(len(wanted))))
+    else:
+        clean = lambda s: re.sub(r"^(overflow|bounds|offset_bounds)_", "", norm(s))
+        sm = difflib.SequenceMatcher(None, [clean(o) for o in olds], [clean(w[0]) for w in wanted], autojunk=False)
+        pairs = []
+        for tag, a0, a1, b0, b1 in sm.get_opcodes():
+            if tag == "equal" or (tag == "replace" and a1 - a0 == b1 - b0):
+                pairs += list(zip(range(a0, a1), range(b0, b1)))
+            elif tag in ("replace", "delete"):
+                F.bad.append(f"needs without a goal: {olds[a0:a1]} against {[w[0] for w in wanted[b0:b1]]}")
+    for a, b in pairs:
+        new_of[idx[a]] = (wanted[b][1], info["asked_at"][b][0])
+    answers, invs, places = [], [], set()
+    helpers = []
+    for i, d in enumerate(decls):
+        if d[0] == "comment":
+            continue
+        if d[0] == "inv":
+            kind, lines = d[3], "\n".join(d[2])
+            m = re.match(r"(invariant|decreases|InvT|MeasureT)-(.*)$", kind)
+            what = {"InvT": "invariant", "MeasureT": "decreases"}.get(m.group(1), m.group(1))
+            loop = next((l for l in F.loops if norm(l) == norm(m.group(2))), None)
+            unf = [l for l in d[2] if l.startswith("unfolding")]
+            eq = "\n".join(l for l in d[2] if not l.startswith("unfolding"))
+            mm = re.match(r"\S+((?: [^\s=]+)*) =", eq)
+            params = mm.group(1).split()
+            term = eq[mm.end():]
+            if loop is None:
+                # a function's own measure
+                invs.append((f"{what}-{m.group(2)}", unf, " " + " ".join(params), term))
+                continue
+            new, vs, ch = F.loops[loop]
+            want = [v + "₀" if c else v for v, c in zip(vs, ch)] + [v for v, c in zip(vs, ch) if c]
+            if len(want) != len(params):
+                F.bad.append(f"{kind}: parameters {params} against {want}")
+            for p, w in zip(params, want):
+                base = w[:-1] if w.endswith("₀") else w
+                to = f"l.initial.{base}" if w.endswith("₀") else f"l.{base}"
+                if p == "_":
+                    continue
+                term = re.sub(r"(?<![\w'.₀-₉«-])" + re.escape(p) + r"(?![\w'₀-₉-])", to, term)
+            invs.append((f"{what}-{new}", unf, " l", term))
+            continue
+        if d[0] == "helper":
+            sig, rest = "\n".join(d[2]), "\n".join(d[3])
+            m = re.search(r"\(c : tie\.(\S+?)((?: invariant-\S+| decreases-\S+)*)\)", sig)
+            if not m:
+                if "tie." in sig + rest:
+                    F.bad.append("helper with tie: " + sig.split("\n")[0])
+                helpers.append(sig + "\n" + rest)
+                continue
+            p = F.byname.get(norm(m.group(1)))
+            if p is None:
+                F.bad.append("no place " + m.group(1))
+                helpers.append(sig + "\n" + rest)
+                continue
+            new = F.place[p]["new"]
+            places.add(new)
+            sig = sig.replace(m.group(0), f"(c : {new})")
+            helpers.append(F.paths(sig.replace("(c : ", "(\0 : "), p, None).replace("\0", "c") + "\n" + F.paths(rest, p, None))
+            if "tie." in helpers[-1]:
+                F.bad.append("helper with tie: " + helpers[-1].split("\n")[0])
+            continue
+        name, lines = d[1], d[2]
+        if i not in new_of:
+            F.bad.append(f"no goal for {name} ({d[3]})")
+            continue
+        goal, place = new_of[i]
+        t = "\n".join(lines)
+        unf = re.match(r"(unfolding [^\n]*\n(?:    [^\n]*\n)*)", t)
+        u = unf.group(1) if unf else ""
+        t = t[len(u):]
+        m = re.match(re.escape(name) + r"((?: [^\s=]+)*) =", t)
+        if not m:
+            F.bad.append(f"{name}: no equation: {t[:60]}")
+            continue
+        args = m.group(1).split()
+        term = t[m.end():]
+        args = [a for a in args if not a.startswith("κ")]
+        if re.fullmatch(r"\s*search rules\s*", term) and not u:
+            continue
+        used = re.search(r"\bκs\b", term)
+        if used:
+            F.bad.append(f"{name}: uses κs")
+        term = F.paths(term, place, goal)
+        if "tie." in term:
+            F.bad.append(f"{name}: cites tie")
+        answers.append(f"pub {goal} : goal.{goal}\n{u}{goal} {' '.join(args)} ={term}")
+    places |= F.used_places
+    names = (f"{crate}.proofs." + fn).strip(".")
+    for p in ("Invariants.antt", "Answers.antt"):
+        if os.path.exists(f"{folder}/{p}"):
+            os.remove(f"{folder}/{p}")
+    title = "\n".join(head) + "\n" if head else ""
+    path = ".".join(("«%s»" % x if False else x) for x in fn.split("/"))
+    if invs:
+        out = title + "\n".join(uses) + f"\nuse Rattle.{crate}.proofs.{path}.Given as goal\n"
+        for name, unf, params, term in invs:
+            out += f"\nabbrev pub {name} : goal.{name}\n" + "".join(x + "\n" for x in unf) + f"{name}{params} ={term}\n"
+        put(folder + "/Invariants.antt", out)
+    if answers or helpers:
+        out = title + "\n".join(uses) + f"\nuse Rattle.{crate}.proofs.{path}.Goals as goal\n"
+        if places:
+            out += f"use Rattle.{crate}.proofs.{path}.Goals.{{{', '.join(sorted(places))}}}\n"
+        out += "\n" + "\n\n".join(x.strip("\n") for x in helpers + answers) + "\n"
+        put(folder + "/Answers.antt", out)
+    for f in ("Proof.antt", "answers.txt"):
+        if os.path.exists(f"{folder}/{f}"):
+            os.remove(f"{folder}/{f}")
+    for b in F.bad:
+        print(f"{crate} {fn}: {b}")
+
+
+def main():
+    crate, only = sys.argv[1], sys.argv[2:]
+    gen = f"/tmp/names-{os.getpid()}"
+    subprocess.run(["rm", "-rf", gen])
+    r = subprocess.run(["rt", "check", "--generated", gen, "--old-names"], cwd=f"crates/{crate}", capture_output=True, text=True)
+    if not os.path.exists(gen + "/names.json"):
+        sys.exit("no names: " + (r.stdout + r.stderr)[-3000:])
+    names = json.load(open(gen + "/names.json"))
+    top = f"crates/{crate}/proofs/"
+    for p in sorted(glob.glob(top + "**/Proof.antt", recursive=True)):
+        folder = os.path.dirname(p)
+        fn = folder[len(top):]
+        if only and fn not in only:
+            continue
+        if not os.path.exists(folder + "/answers.txt"):
+            print(f"{crate} {fn}: written by hand, left")
+            continue
+        key = f"Rattle-{crate}-proofs.{fn.replace('/', '.')}.Lts"
+        if key not in names:
+            print(f"{crate} {fn}: no names ({key})")
+            continue
+        turn(crate, fn, names[key], folder)
+    subprocess.run(["rm", "-rf", gen])
+
+
+main()
