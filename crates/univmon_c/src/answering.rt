@@ -13,8 +13,7 @@ use crate::{CAnswer, CHeader, CPanel};
 pub const LAST_G: u64 = 2;
 
 // L1: the exact weight.
-#[unsafe(no_mangle)]
-pub extern "C" fn univmon_estimate_l1(header: CHeader) -> CAnswer
+pub fn univmon_estimate_l1(header: CHeader) -> CAnswer
     ensures { result ≡ answer_by true header.mode (l1_call (header_of header)) }
 {
     if LAST_MODE < header.mode {
@@ -25,8 +24,7 @@ pub extern "C" fn univmon_estimate_l1(header: CHeader) -> CAnswer
 }
 
 // L2, from the norms.
-#[unsafe(no_mangle)]
-pub extern "C" fn univmon_estimate_l2(header: CHeader, norms: &[u64]) -> CAnswer
+pub fn univmon_estimate_l2(header: CHeader, norms: &[u64]) -> CAnswer
     ensures { result ≡ answer_by true header.mode (l2_call (header_of header) norms.now) }
 {
     if LAST_MODE < header.mode {
@@ -37,8 +35,7 @@ pub extern "C" fn univmon_estimate_l2(header: CHeader, norms: &[u64]) -> CAnswer
 }
 
 // The sum of g over the candidates: g 0 is one, 1 value, 2 square; another number is refused with 9.
-#[unsafe(no_mangle)]
-pub extern "C" fn univmon_estimate_g_sum(
+pub fn univmon_estimate_g_sum(
     header: CHeader,
     counters: &[i64],
     norms: &[u64],
@@ -69,8 +66,7 @@ pub extern "C" fn univmon_estimate_g_sum(
 }
 
 // The number of keys.
-#[unsafe(no_mangle)]
-pub extern "C" fn univmon_estimate_cardinality(
+pub fn univmon_estimate_cardinality(
     header: CHeader,
     counters: &[i64],
     norms: &[u64],
@@ -87,8 +83,7 @@ pub extern "C" fn univmon_estimate_cardinality(
 }
 
 // L1, L2 and cardinality.
-#[unsafe(no_mangle)]
-pub extern "C" fn univmon_panel_answer(
+pub fn univmon_panel_answer(
     header: CHeader,
     counters: &[i64],
     norms: &[u64],
@@ -106,8 +101,7 @@ pub extern "C" fn univmon_panel_answer(
 
 // Whether a header and four slices have what every accepted call keeps: no, where the mode's number
 // stands for no mode.
-#[unsafe(no_mangle)]
-pub extern "C" fn univmon_check_state(
+pub fn univmon_check_state(
     header: CHeader,
     counters: &[i64],
     norms: &[u64],

@@ -22,21 +22,14 @@ const LAST_FIDELITY: u64 = 1;
 // ---- shapes
 
 // 0, or the refusal of these dimensions.
-#[unsafe(no_mangle)]
-pub extern "C" fn univmon_check_shape(
-    heap_size: usize,
-    rows: usize,
-    cols: usize,
-    layers: usize,
-) -> u64
+pub fn univmon_check_shape(heap_size: usize, rows: usize, cols: usize, layers: usize) -> u64
     ensures { result ≡ shape_refusal (one_tier heap_size rows cols layers) }
 {
     header::check_shape(heap_size, rows, cols, layers)
 }
 
 // The last layer that a key with this bottom hash reaches.
-#[unsafe(no_mangle)]
-pub extern "C" fn univmon_bottom_layer_for_hash(hash: u64, layers: usize) -> CBottom
+pub fn univmon_bottom_layer_for_hash(hash: u64, layers: usize) -> CBottom
     ensures { result ≡ c_bottom (bottom_layer hash layers) }
 {
     c_bottom(header::bottom_layer_for_hash(hash, layers))
@@ -45,8 +38,7 @@ pub extern "C" fn univmon_bottom_layer_for_hash(hash: u64, layers: usize) -> CBo
 // ---- whole states
 
 // A fresh state in lent slices.
-#[unsafe(no_mangle)]
-pub extern "C" fn univmon_new(
+pub fn univmon_new(
     heap_size: usize,
     rows: usize,
     cols: usize,
@@ -65,8 +57,7 @@ pub extern "C" fn univmon_new(
 }
 
 // Clears a state: header and slices are then as `new` leaves them.
-#[unsafe(no_mangle)]
-pub extern "C" fn univmon_clear(
+pub fn univmon_clear(
     header: CHeader,
     counters: &mut [i64],
     norms: &mut [u64],
@@ -86,8 +77,7 @@ pub extern "C" fn univmon_clear(
 // ---- updates
 
 // The key goes to layers 0 to its bottom layer.
-#[unsafe(no_mangle)]
-pub extern "C" fn univmon_update_weighted(
+pub fn univmon_update_weighted(
     header: CHeader,
     counters: &mut [i64],
     norms: &mut [u64],
@@ -110,8 +100,7 @@ pub extern "C" fn univmon_update_weighted(
 }
 
 // The key goes to its bottom layer only.
-#[unsafe(no_mangle)]
-pub extern "C" fn univmon_update_weighted_terminal(
+pub fn univmon_update_weighted_terminal(
     header: CHeader,
     counters: &mut [i64],
     norms: &mut [u64],
@@ -137,8 +126,7 @@ pub extern "C" fn univmon_update_weighted_terminal(
 
 // A change of one counter that another relay saw: fidelity 0 is every insert, 1 promoted only;
 // another number is refused with 9.
-#[unsafe(no_mangle)]
-pub extern "C" fn univmon_apply_delta(
+pub fn univmon_apply_delta(
     header: CHeader,
     counters: &mut [i64],
     norms: &mut [u64],
@@ -174,8 +162,7 @@ pub extern "C" fn univmon_apply_delta(
 // ---- two states
 
 // Merges the other state into this one.
-#[unsafe(no_mangle)]
-pub extern "C" fn univmon_merge(
+pub fn univmon_merge(
     header: CHeader,
     counters: &mut [i64],
     norms: &mut [u64],
@@ -221,8 +208,7 @@ pub extern "C" fn univmon_merge(
 // ---- the header alone
 
 // Sets the weight that a relay fed by deltas believes it has seen.
-#[unsafe(no_mangle)]
-pub extern "C" fn univmon_set_total_weight(header: CHeader, weight: u64) -> CAnswered
+pub fn univmon_set_total_weight(header: CHeader, weight: u64) -> CAnswered
     ensures { result ≡ head_by (λ h. weight_call h weight) header }
 {
     if LAST_MODE < header.mode {
@@ -233,8 +219,7 @@ pub extern "C" fn univmon_set_total_weight(header: CHeader, weight: u64) -> CAns
 }
 
 // Marks every layer's candidates as partial.
-#[unsafe(no_mangle)]
-pub extern "C" fn univmon_mark_candidates_incomplete(header: CHeader) -> CAnswered
+pub fn univmon_mark_candidates_incomplete(header: CHeader) -> CAnswered
     ensures { result ≡ head_by mark_call header }
 {
     if LAST_MODE < header.mode {
@@ -245,11 +230,7 @@ pub extern "C" fn univmon_mark_candidates_incomplete(header: CHeader) -> CAnswer
 }
 
 // Marks one layer's candidates as partial.
-#[unsafe(no_mangle)]
-pub extern "C" fn univmon_mark_layer_candidates_incomplete(
-    header: CHeader,
-    layer: usize,
-) -> CAnswered
+pub fn univmon_mark_layer_candidates_incomplete(header: CHeader, layer: usize) -> CAnswered
     ensures { result ≡ head_by (λ h. mark_layer_call h layer) header }
 {
     if LAST_MODE < header.mode {

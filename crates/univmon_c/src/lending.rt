@@ -13,8 +13,7 @@ use crate::crossing::{LAST_MODE, c_step, scalars_of};
 use crate::{CShape, CStep};
 
 // The key goes to layers 0 to its bottom layer.
-#[unsafe(no_mangle)]
-pub extern "C" fn univmon_update_weighted_lent(
+pub fn univmon_update_weighted_lent(
     shape: CShape,
     total_weight: u64,
     total_updates: u64,
@@ -49,8 +48,7 @@ pub extern "C" fn univmon_update_weighted_lent(
 }
 
 // The key goes to its bottom layer only.
-#[unsafe(no_mangle)]
-pub extern "C" fn univmon_update_weighted_terminal_lent(
+pub fn univmon_update_weighted_terminal_lent(
     shape: CShape,
     total_weight: u64,
     total_updates: u64,

@@ -11,8 +11,7 @@ use crate::{CAnswered, CHeader, CWritten};
 
 // A state's text at the start of the lent space: 9 for a state that fails the check, 16 for a space that
 // is too short.
-#[unsafe(no_mangle)]
-pub extern "C" fn univmon_write_state(
+pub fn univmon_write_state(
     header: CHeader,
     counters: &[i64],
     norms: &[u64],
@@ -33,8 +32,7 @@ pub extern "C" fn univmon_write_state(
 }
 
 // A state read into the lent slices: 15, 1 to 4, 16, 15, and then the header is all zero.
-#[unsafe(no_mangle)]
-pub extern "C" fn univmon_read_state(
+pub fn univmon_read_state(
     text: &[u8],
     counters: &mut [i64],
     norms: &mut [u64],

@@ -1,0 +1,92 @@
+// The calls that answer.
+ghost use Rattle.std.specs.Prelude.{◌≡◌, true};
+ghost use Rattle.estimates.specs.Calls.{l1_call, l2_call, sum_call, cardinality_call, panel_call};
+ghost use Rattle.state_check.specs.Check.{state_ok};
+ghost use Rattle.univmon_c.specs.Crossing.{is_g, g_by, header_of};
+ghost use Rattle.univmon_c.specs.Calls.{one_tier_face, lent_of, answer_by, panel_by, check_by};
+ghost use Rattle.univmon_c.specs.Lending.{c_lent_in};
+
+use univmon_c::{CAnswer, CHeader, CPanel};
+
+// L1: the exact weight.
+#[unsafe(no_mangle)]
+pub extern "C" fn univmon_estimate_l1(header: CHeader) -> CAnswer
+    ensures { result ≡ answer_by true header.mode (l1_call (header_of header)) }
+{
+    univmon_c::answering::univmon_estimate_l1(header)
+}
+
+// L2, from the norms.
+#[unsafe(no_mangle)]
+pub extern "C" fn univmon_estimate_l2(header: CHeader, norms: &[u64]) -> CAnswer
+    ensures { result ≡ answer_by true header.mode (l2_call (header_of header) norms.now) }
+{
+    univmon_c::answering::univmon_estimate_l2(header, norms)
+}
+
+// The sum of g over the candidates: g 0 is one, 1 value, 2 square; another number is refused with 9.
+#[unsafe(no_mangle)]
+pub extern "C" fn univmon_estimate_g_sum(
+    header: CHeader,
+    counters: &[i64],
+    norms: &[u64],
+    entries: &[u64],
+    counts: &[i64],
+    g: u64,
+    count_every_key: bool,
+) -> CAnswer
+    ensures { result ≡ answer_by (is_g g) header.mode (sum_call (g_by g) count_every_key (lent_of one_tier_face (c_lent_in header counters norms entries counts))) }
+{
+    univmon_c::answering::univmon_estimate_g_sum(
+        header,
+        counters,
+        norms,
+        entries,
+        counts,
+        g,
+        count_every_key,
+    )
+}
+
+// The number of keys.
+#[unsafe(no_mangle)]
+pub extern "C" fn univmon_estimate_cardinality(
+    header: CHeader,
+    counters: &[i64],
+    norms: &[u64],
+    entries: &[u64],
+    counts: &[i64],
+) -> CAnswer
+    ensures { result ≡ answer_by true header.mode (cardinality_call (lent_of one_tier_face (c_lent_in header counters norms entries counts))) }
+{
+    univmon_c::answering::univmon_estimate_cardinality(header, counters, norms, entries, counts)
+}
+
+// L1, L2 and cardinality.
+#[unsafe(no_mangle)]
+pub extern "C" fn univmon_panel_answer(
+    header: CHeader,
+    counters: &[i64],
+    norms: &[u64],
+    entries: &[u64],
+    counts: &[i64],
+) -> CPanel
+    ensures { result ≡ panel_by header (panel_call (lent_of one_tier_face (c_lent_in header counters norms entries counts))) }
+{
+    univmon_c::answering::univmon_panel_answer(header, counters, norms, entries, counts)
+}
+
+// Whether a header and four slices have what every accepted call keeps: no, where the mode's number
+// stands for no mode.
+#[unsafe(no_mangle)]
+pub extern "C" fn univmon_check_state(
+    header: CHeader,
+    counters: &[i64],
+    norms: &[u64],
+    entries: &[u64],
+    counts: &[i64],
+) -> bool
+    ensures { result ≡ check_by state_ok (c_lent_in header counters norms entries counts) }
+{
+    univmon_c::answering::univmon_check_state(header, counters, norms, entries, counts)
+}

@@ -1,0 +1,9 @@
+// The archive for C and Rust, libunivmon_c.a: one export for each call of `univmon_c`, under the same name and with the
+// same clauses.
+
+#![tactic(auto)]
+
+mod answering;
+mod changing;
+mod lending;
+mod texts;
