@@ -4,6 +4,9 @@
 
 ghost use Rattle.std.specs.Prelude.{◌<◌};
 
+use std::io;
+use std::io::{Read, Stdin, Stdout};
+
 pub const PRIME: u64 = 4294967291;
 
 // The value of a hexadecimal digit (capital letters); 0 for any other byte.
@@ -65,14 +68,13 @@ pub fn unsigned(x: i64) -> u64 {
 }
 
 // Reads n words from standard input to the front of a text; false where they do not all come.
-pub fn read(text: &mut [u8], n: usize) -> bool {
+pub fn read(mut input: Stdin, text: &mut [u8], n: usize) -> bool {
     let room = text.len() / 17;
     if room < n {
         return false;
     }
     let bytes = 17 * n;
-    let got = io::read_full(0, &mut text[..bytes]);
-    got == bytes
+    input.read_exact(&mut text[..bytes]).is_ok()
 }
 
 // The head of a line: its operation, and how many words it has. Operation 0 is the end of the input.
@@ -83,13 +85,13 @@ pub struct Line {
 }
 
 // Reads a line, its words to the front of a text; one that does not come whole is the end of the input.
-pub fn next(text: &mut [u8]) -> Line {
+pub fn next(input: Stdin, text: &mut [u8]) -> Line {
     let mut head = [0u8; 34];
-    if !read(&mut head, 2) {
+    if !read(input, &mut head, 2) {
         return Line { op: 0, many: 0 };
     }
     let many = word(&head, 1) as usize;
-    if !read(text, many) {
+    if !read(input, text, many) {
         return Line { op: 0, many: 0 };
     }
     Line {
@@ -99,25 +101,24 @@ pub fn next(text: &mut [u8]) -> Line {
 }
 
 // Writes a word and a newline.
-pub fn print(n: u64) {
-    io::print_hex(1, n, 16);
-    io::write_all(1, b"\n");
+pub fn print(output: Stdout, n: u64) -> io::Result<()> {
+    println!(output; "{n:016x}")
 }
 
 // Writes 1 for true, 0 for false.
-pub fn print_flag(b: bool) {
+pub fn print_flag(output: Stdout, b: bool) -> io::Result<()> {
     if b {
-        print(1);
-        return;
+        return print(output, 1);
     }
-    print(0);
+    print(output, 0)
 }
 
 // Writes a refusal: its number in the top byte of a word.
-pub fn print_refusal(n: u64) {
+pub fn print_refusal(output: Stdout, n: u64) -> io::Result<()> {
     if n < 256 {
-        print(n * 0x100_0000_0000_0000);
+        return print(output, n * 0x100_0000_0000_0000);
     }
+    Ok(())
 }
 
 // The digest of some words, from that of all but the last: the value of their polynomial at 65,599, modulo
