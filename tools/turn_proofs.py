@@ -57,6 +57,56 @@ def blocks(text):
     return joined
 
 
+def shut(s, i):
+    """the place behind the bracket that closes the one at i"""
+    pair, deep = {"(": ")", "[": "]", "{": "}"}, []
+    for j in range(i, len(s)):
+        if s[j] in pair:
+            deep.append(pair[s[j]])
+        elif deep and s[j] == deep[-1]:
+            deep.pop()
+            if not deep:
+                return j + 1
+    return None
+
+
+def parts(s):
+    """the terms between the commas of a tuple's inside"""
+    out, cur, i = [], "", 0
+    while i < len(s):
+        if s[i] in "([{":
+            j = shut(s, i)
+            cur, i = cur + s[i:j], j
+        elif s[i] == ",":
+            out, cur, i = out + [cur], "", i + 1
+        else:
+            cur, i = cur + s[i], i + 1
+    if cur.strip():
+        out.append(cur)
+    return [x.strip() for x in out]
+
+
+def record(term, fields):
+    """a term whose end is a tuple, with the tuple as a record of these fields; None where it is not one"""
+    s = term.rstrip()
+    for i in range(len(s)):
+        if s[i] == "(" and shut(s, i) == len(s):
+            before = s[:i].rstrip()
+            if before and not re.search(r"(\bin|\brw .*\))$", before):
+                continue
+            ps = parts(s[i + 1 : -1])
+            while len(ps) < len(fields) and len(ps) > 1 and ps[-1].startswith("(") and shut(ps[-1], 0) == len(ps[-1]):
+                inner = parts(ps[-1][1:-1])
+                if len(inner) < 2:
+                    break
+                ps[-1:] = inner
+            if len(ps) != len(fields):
+                return None
+            r = "record {\n" + "".join(f"      {f} = {p};\n" for f, p in zip(fields, ps)) + "    }"
+            return s[:i] + (f"({r})" if before.endswith(")") else r)
+    return None
+
+
 class Fn:
     def __init__(self, crate, fn, info):
         self.crate, self.fn, self.info, self.bad = crate, fn, info, []
@@ -108,8 +158,8 @@ class Fn:
                 rest[0] = here["nf"]
                 if len(rest) > 1 and rest[1] in here["fields"]:
                     rest[1] = here["fields"][rest[1]]
-            elif f in ("args", "requires", "ranges", "well_formed", "good", "was", "entry", "fits", "pre"):
-                rest[0] = {"fits": "ranges", "pre": "requires", "good": "well_formed"}.get(f, f)
+            elif f in ("args", "requires", "ranges", "well_formed", "well-formed", "good", "was", "entry", "fits", "pre"):
+                rest[0] = {"fits": "ranges", "pre": "requires", "good": "well_formed", "well-formed": "well_formed"}.get(f, f)
             else:
                 # a step of an earlier place, named without its `before`
                 r = q
@@ -121,7 +171,7 @@ class Fn:
                 rest[0] = self.place[r]["nf"]
                 if len(rest) > 1 and rest[1] in self.place[r]["fields"]:
                     rest[1] = self.place[r]["fields"][rest[1]]
-            if len(rest) > 1 and rest[1] in ("taken", "left") and rest[0].startswith(("if", "loop", "prove")):
+            if len(rest) > 1 and rest[1] in ("taken", "left") and (rest[0].startswith(("if", "prove")) or rest[0].startswith("loop") and rest[0].endswith("-test")):
                 rest[1] = {"taken": "true", "left": "false"}[rest[1]]
             clauses = None
             if rest[0] == "requires":
@@ -199,7 +249,7 @@ def turn(crate, fn, info, folder):
             decls.append(("helper", name, sig, rest))
     wanted = info["needs"]
     olds = [d[3] for d in decls if d[0] == "need"]
-    new_of = {}
+    new_of, told = {}, {}
     idx = [i for i, d in enumerate(decls) if d[0] == "need"]
     if len(olds) == len(wanted):
         pairs = list(zip(range(len(olds)), range(len(wanted))))
@@ -214,11 +264,16 @@ def turn(crate, fn, info, folder):
                 F.bad.append(f"needs without a goal: {olds[a0:a1]} against {[w[0] for w in wanted[b0:b1]]}")
     for a, b in pairs:
         new_of[idx[a]] = (wanted[b][1], info["asked_at"][b][0])
+        told[wanted[b][1]] = info.get("asked", {}).get(wanted[b][0])
     answers, invs, places = [], [], set()
     helpers = []
+    said = ""
     for i, d in enumerate(decls):
         if d[0] == "comment":
+            if "tools/places.py" not in d[2][0] and d[2][0] not in head:
+                said += d[2][0] + "\n"
             continue
+        note, said = said, ""
         if d[0] == "inv":
             kind, lines = d[3], "\n".join(d[2])
             m = re.match(r"(invariant|decreases|InvT|MeasureT)-(.*)$", kind)
@@ -231,7 +286,7 @@ def turn(crate, fn, info, folder):
             term = eq[mm.end():]
             if loop is None:
                 # a function's own measure
-                invs.append((f"{what}-{m.group(2)}", unf, " " + " ".join(params), term))
+                invs.append((f"{what}-{m.group(2)}", unf, " " + " ".join(params), term, note))
                 continue
             new, vs, ch = F.loops[loop]
             want = [v + "₀" if c else v for v, c in zip(vs, ch)] + [v for v, c in zip(vs, ch) if c]
@@ -243,7 +298,7 @@ def turn(crate, fn, info, folder):
                 if p == "_":
                     continue
                 term = re.sub(r"(?<![\w'.₀-₉«-])" + re.escape(p) + r"(?![\w'₀-₉-])", to, term)
-            invs.append((f"{what}-{new}", unf, " l", term))
+            invs.append((f"{what}-{new}", unf, " l", term, note))
             continue
         if d[0] == "helper":
             sig, rest = "\n".join(d[2]), "\n".join(d[3])
@@ -251,17 +306,17 @@ def turn(crate, fn, info, folder):
             if not m:
                 if "tie." in sig + rest:
                     F.bad.append("helper with tie: " + sig.split("\n")[0])
-                helpers.append(sig + "\n" + rest)
+                helpers.append(note + sig + "\n" + rest)
                 continue
             p = F.byname.get(norm(m.group(1)))
             if p is None:
                 F.bad.append("no place " + m.group(1))
-                helpers.append(sig + "\n" + rest)
+                helpers.append(note + sig + "\n" + rest)
                 continue
             new = F.place[p]["new"]
             places.add(new)
             sig = sig.replace(m.group(0), f"(c : {new})")
-            helpers.append(F.paths(sig.replace("(c : ", "(\0 : "), p, None).replace("\0", "c") + "\n" + F.paths(rest, p, None))
+            helpers.append(note + F.paths(sig.replace("(c : ", "(\0 : "), p, None).replace("\0", "c") + "\n" + F.paths(rest, p, None))
             if "tie." in helpers[-1]:
                 F.bad.append("helper with tie: " + helpers[-1].split("\n")[0])
             continue
@@ -289,7 +344,13 @@ def turn(crate, fn, info, folder):
         term = F.paths(term, place, goal)
         if "tie." in term:
             F.bad.append(f"{name}: cites tie")
-        answers.append(f"pub {goal} : goal.{goal}\n{u}{goal} {' '.join(args)} ={term}")
+        if told.get(goal):
+            r = record(term, told[goal])
+            if r is None:
+                F.bad.append(f"{goal}: not written as a record of {told[goal]}")
+            else:
+                term = r
+        answers.append(f"{note}pub {goal} : goal.{goal}\n{u}{goal} {' '.join(args)} ={term}")
     places |= F.used_places
     names = (f"{crate}.proofs." + fn).strip(".")
     for p in ("Invariants.antt", "Answers.antt"):
@@ -299,8 +360,8 @@ def turn(crate, fn, info, folder):
     path = ".".join(("«%s»" % x if False else x) for x in fn.split("/"))
     if invs:
         out = title + "\n".join(uses) + f"\nuse Rattle.{crate}.proofs.{path}.Given as goal\n"
-        for name, unf, params, term in invs:
-            out += f"\nabbrev pub {name} : goal.{name}\n" + "".join(x + "\n" for x in unf) + f"{name}{params} ={term}\n"
+        for name, unf, params, term, note in invs:
+            out += f"\n{note}abbrev pub {name} : goal.{name}\n" + "".join(x + "\n" for x in unf) + f"{name}{params} ={term}\n"
         put(folder + "/Invariants.antt", out)
     if answers or helpers:
         out = title + "\n".join(uses) + f"\nuse Rattle.{crate}.proofs.{path}.Goals as goal\n"
