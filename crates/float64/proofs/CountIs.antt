@@ -165,6 +165,7 @@ odd_least r r' u v o e = go (v - u) refl
     none z = omega arith
 
     times : (w : ℕ) → 0 < w → r * w ≡ r' → r ≤ r'
+    times zero h q = elim h [ ]
     times (suc w) h q = omega arith
 
     even : (y : ℕ) → r ≡ y * 2 → ⊥
