@@ -6,7 +6,7 @@ use lib.Ieee.Bits.{of_bits-to_bits}
 use lib.Ieee.Positive.{num, den, den_pos, value→cross}
 use lib.Ieee.Exact.{HasValue}
 use Rattle.float64.specs.Values.{plain}
-use Rattle.float64.specs.Root.{radicand}
+use Rattle.float64.specs.Root.{under}
 use Rattle.float64.specs.RootCount.{stops, worked, count_at, count_bits, root_count, FewestElse, EndsIn, IsCount}
 use Rattle.float64.proofs.Squares.{four_pow, four_pos, below_four, below_four_back, square-back}
 use Rattle.float64.proofs.Stops.{Ends, all_digits, stops_ends, ends_stops, worked_is}
@@ -125,7 +125,7 @@ above_zero b h =
     let v = s.4 in
     let x = of_bits binary64 b in
     let u = under_facts d p v.low v.high in
-    subst (λ (j : ℕ). IsCount x j) (sym (count_split b d p k s.3 v)) (counted x (radicand d p) 1075 k (under_low (radicand d p) (whole d p) u) (under-high (radicand d p) (whole d p) u) (placed x (radicand d p) k s.3 v.value v.square))
+    subst (λ (j : ℕ). IsCount x j) (sym (count_split b d p k s.3 v)) (counted x (under d p) 1075 k (under_low (under d p) (whole d p) u) (under-high (under d p) (whole d p) u) (placed x (under d p) k s.3 v.value v.square))
 
 -- ---- zero
 

@@ -2,7 +2,7 @@
 use Rattle.std.proofs.Common.{◌≡◌, ℕ, suc, ◌+◌, ◌-◌, ◌*◌, ◌/◌, ◌%◌, ◌^◌, ◌<◌, ◌≤◌, Bool, true, false, not, T, ltb, ◌⊎◌, sym, ap, ◌∙◌, subst, inl, inr, mul_assoc, mul_comm, mul-le-mul, add_comm, eq-or-lt_of_le, lt_of_not-le, mul-one, arith, ltb→lt, nltb→le, pow-add, shl_lt}
 use lib.Ieee.{Float, binary64, odd, of_bits}
 use lib.Ieee.Exact.{HasValue, odd_sign}
-use Rattle.float64.specs.Root.{isqrt, radicand, root_at, at_pattern, root_bits}
+use Rattle.float64.specs.Root.{isqrt, under, root_at, at_pattern, root_bits}
 use Rattle.float64.specs.RootCount.{count_at, count_bits}
 use Rattle.float64.proofs.WholeRoot.{Whole, isqrt-whole, root-low}
 use Rattle.float64.proofs.Patterns.{Pattern, read_normal, read_low}
@@ -10,7 +10,7 @@ use Rattle.float64.proofs.PatternDigits.{zeros, moved, pattern_low, pattern_high
 
 -- the whole root of the number under the root, and that rounded to 53 digits
 abbrev pub whole : ℕ → ℕ → ℕ
-whole d p = isqrt 54 (radicand d p)
+whole d p = isqrt 54 (under d p)
 
 abbrev pub rounded : ℕ → ℕ → ℕ
 rounded d p = (whole d p + 1) / 2
@@ -37,15 +37,15 @@ at a l h =
     two : (a : ℕ) → a * 2 ^ 54 % 2 ≡ 0
     two a = omega arith
 
-pub under_facts : (d p : ℕ) → 2 ^ 52 ≤ d → d < 2 ^ 53 → Under (radicand d p) (whole d p)
+pub under_facts : (d p : ℕ) → 2 ^ 52 ≤ d → d < 2 ^ 53 → Under (under d p) (whole d p)
 under_facts d p l h = go (eq-or-lt_of_le (bit p))
   where
     bit : (p : ℕ) → p % 2 ≤ 1
     bit p = omega arith
 
-    go : (p % 2 ≡ 1) ⊎ (p % 2 < 1) → Under (radicand d p) (whole d p)
+    go : (p % 2 ≡ 1) ⊎ (p % 2 < 1) → Under (under d p) (whole d p)
     go (inl e) =
-        let s : d * 2 * 2 ^ 54 ≡ radicand d p = mul_assoc d 2 (2 ^ 54) ∙ ap (λ (x : ℕ). d * 2 ^ (54 + x)) (sym e) in
+        let s : d * 2 * 2 ^ 54 ≡ under d p = mul_assoc d 2 (2 ^ 54) ∙ ap (λ (x : ℕ). d * 2 ^ (54 + x)) (sym e) in
         subst (λ (n : ℕ). Under n (isqrt 54 n)) s (at (d * 2) (omega arith) (omega arith))
     go (inr e) =
         let z : p % 2 ≡ 0 = omega arith in
@@ -85,10 +85,10 @@ pub record Split (b d p k X : ℕ) : Type 0 where
   pub small : k < 2046
   pub is : (f : ℕ → ℕ → ℕ) → at_pattern f b ≡ f d p
   pub value : HasValue (of_bits binary64 b) false X (2 ^ 1074)
-  pub square : 4 * X * 2 ^ 1074 ≡ radicand d p * (2 ^ k * 2 ^ k)
+  pub square : 4 * X * 2 ^ 1074 ≡ under d p * (2 ^ k * 2 ^ k)
 
 -- the exponents
-place : (d p k : ℕ) → p / 2 ≡ suc k → radicand d p * (2 ^ k * 2 ^ k) ≡ d * 2 ^ (52 + p)
+place : (d p k : ℕ) → p / 2 ≡ suc k → under d p * (2 ^ k * 2 ^ k) ≡ d * 2 ^ (52 + p)
 place d p k e =
     let s : 54 + p % 2 + (k + k) ≡ 52 + p = omega arith in
     ap (λ (x : ℕ). d * 2 ^ (54 + p % 2) * x) (sym (pow-add 2 k k))

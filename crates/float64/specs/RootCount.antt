@@ -4,7 +4,7 @@
 use Rattle.std.specs.Prelude.{◌≡◌, ℕ, zero, suc, ◌-◌, ◌*◌, ◌/◌, ◌%◌, ◌^◌, ◌<◌, ◌≤◌, Bool, true, false, cond, ◌&&◌, ◌==◌, to_bits, Float}
 use Rattle.std.specs.Float.{nan, inf, fin, binary64}
 use Rattle.std.specs.Float.Ieee.Positive.{num, den}
-use Rattle.float64.specs.Root.{isqrt, radicand, at_pattern}
+use Rattle.float64.specs.Root.{isqrt, under, at_pattern}
 
 -- ---- by a computation
 
@@ -39,7 +39,7 @@ worked n = first_stop 54 n 0
 -- of the root of d * 2 ^ (p - 2098), where d has 53 digits: the first of the 54 is the root's first 1
 unfoldable pub count_at : ℕ → ℕ → ℕ
 unfolding worked
-count_at d p = worked (radicand d p)
+count_at d p = worked (under d p)
 
 -- of the root of the number above zero whose pattern is b
 unfoldable pub count_bits : ℕ → ℕ
