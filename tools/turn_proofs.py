@@ -143,6 +143,9 @@ class Fn:
                 k += 1
             q = self.up(place, k)
             rest = parts[k:]
+            if q is None and rest:
+                # there were more places once: the start
+                q = "Start"
             if q is None:
                 self.bad.append("above the start: " + m.group(0))
                 return m.group(0)
@@ -166,6 +169,13 @@ class Fn:
                 while r is not None and not (self.place[r]["of"] and norm(self.place[r]["of"]) == norm(f)):
                     r = self.place[r]["parent"]
                 if r is None:
+                    # there were more places once: the nearest one between the goal's place and the counted one
+                    s = place
+                    while s is not None and s != q:
+                        if self.place[s]["of"] and norm(self.place[s]["of"]) == norm(f):
+                            r = s
+                        s = self.place[s]["parent"]
+                if r is None:
                     self.bad.append(f"{goal}: no step {f} at {q}: {m.group(0)}")
                     return m.group(0)
                 rest[0] = self.place[r]["nf"]
@@ -180,17 +190,7 @@ class Fn:
                 r = next((i for i, p in enumerate(self.info["places"]) if p[2][1] == rest[0]), None)
                 clauses, at = (self.info["clauses"][r] or {}).get("fields") if r is not None else None, 2
             if clauses:
-                at0, n = at, 0
-                while n < len(clauses) - 1 and at < len(rest) and rest[at] == "1":
-                    n, at = n + 1, at + 1
-                if len(clauses) == 1:
-                    rest[at0:at0] = clauses
-                elif n == len(clauses) - 1:
-                    rest[at0:at] = [clauses[n]]
-                elif at < len(rest) and rest[at] == "0":
-                    rest[at0 : at + 1] = [clauses[n]]
-                else:
-                    self.bad.append(f"{goal}: clauses {clauses} as a whole: {m.group(0)}")
+                self.clause(clauses, rest, at, goal, m.group(0))
             for i in range(1, len(rest)):
                 before = rest[i - 1]
                 if before in ("args", "ranges", "new", "last", "kept", "result", "initial") or (i == 1 and f.startswith("loop") and "test" not in f):
@@ -198,7 +198,35 @@ class Fn:
                         rest[i] = rest[i].replace("-", "_")
             return "c." + ".".join(rest)
 
-        return PATH.sub(one, term)
+        term = PATH.sub(one, term)
+        # a call bound by a `let`: its clauses
+        for name, step in re.findall(r"let (\w+) = c\.([\w-]+) in", term):
+            r = next((i for i, p in enumerate(self.info["places"]) if p[2][1] == step), None)
+            clauses = (self.info["clauses"][r] or {}).get("fields") if r is not None else None
+            if not clauses:
+                continue
+
+            def of_let(m):
+                rest = ["ensures"] + re.findall(r"\.([\w'₀-₉-]+)", m.group(1))
+                self.clause(clauses, rest, 1, goal, m.group(0))
+                return name + "." + ".".join(rest)
+
+            term = re.sub(r"(?<![\w'.₀-₉-])" + name + r"\.ensures((?:\.[\w'₀-₉-]+)*)", of_let, term)
+        return term
+
+    def clause(self, clauses, rest, at, goal, said):
+        """`.1.1.0` of a contract's clauses, from `at` on, under the clause's name"""
+        at0, n = at, 0
+        while n < len(clauses) - 1 and at < len(rest) and rest[at] == "1":
+            n, at = n + 1, at + 1
+        if len(clauses) == 1:
+            rest[at0:at0] = clauses
+        elif n == len(clauses) - 1:
+            rest[at0:at] = [clauses[n]]
+        elif at < len(rest) and rest[at] == "0":
+            rest[at0 : at + 1] = [clauses[n]]
+        else:
+            self.bad.append(f"{goal}: clauses {clauses} as a whole: {said}")
 
 
 def turn(crate, fn, info, folder):
