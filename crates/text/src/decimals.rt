@@ -42,6 +42,9 @@ fn number(s: &[u8], at: usize) -> Num
     Num::At(v, i)
 }
 
+// The digit that ends a decimal which begins with it.
+const ZERO: u8 = b'0';
+
 // A decimal. A `0` ends it at once: in `01` what follows is then not the byte that has to follow.
 pub fn decimal(s: &[u8], at: usize) -> Num
     ensures { result ≡ dec_from at (drop at s.now) }
@@ -50,7 +53,7 @@ pub fn decimal(s: &[u8], at: usize) -> Num
         return Num::Bad;
     }
     let b = s[at];
-    if b == b'0' {
+    if b == ZERO {
         return Num::At(0, at + 1);
     }
     if !is_digit(b) {
