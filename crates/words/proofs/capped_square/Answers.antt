@@ -17,8 +17,8 @@ returns-then-is_short c = rw (to_z-of_z c.ranges.x) at c.short_square.ensures âˆ
 pub overflow_mul-result : goal.overflow_mul-result
 overflow_mul-result c = let a = c.magnitude-a.result in record { fits = omega (arith, square-small a (omega arith)) }
 
-pub returns-then-a-le3037000499 : goal.returns-then-a-le3037000499
-returns-then-a-le3037000499 c = let e = rw (to_z-of_z c.ranges.x) at c.magnitude-a.ensures in rw e (capped_small c.args.x (omega (arith, c.if-a-le3037000499.true)))
+pub returns-then-a-le-ROOT_CAP : goal.returns-then-a-le-ROOT_CAP
+returns-then-a-le-ROOT_CAP c = let e = rw (to_z-of_z c.ranges.x) at c.magnitude-a.ensures in rw e (capped_small c.args.x (omega (arith, c.if-a-le-ROOT_CAP.true)))
 
 pub returns : goal.returns
-returns c = let e = rw (to_z-of_z c.ranges.x) at c.magnitude-a.ensures in capped_large c.args.x (omega (arith, c.if-a-le3037000499.false))
+returns c = let e = rw (to_z-of_z c.ranges.x) at c.magnitude-a.ensures in capped_large c.args.x (omega (arith, c.if-a-le-ROOT_CAP.false))
