@@ -25,7 +25,7 @@ pub use update::{
 };
 
 // What an update that is made only where it may be answers: whether it was made, and the count after it.
-#[derive(Drop)]
+#[derive(Clone, Copy)]
 pub struct TriedUpdate {
     pub made: bool,
     pub count: i64,

@@ -12,14 +12,14 @@ mod terminal;
 pub use calls::{estimate_cardinality, estimate_g_sum, estimate_l1, estimate_l2, panel_answer};
 
 // A refusal's number and +0.0, or 0 and the answer.
-#[derive(Drop)]
+#[derive(Clone, Copy)]
 pub struct Answer {
     pub refusal: u64,
     pub value: f64,
 }
 
 // A refusal's number and +0.0 three times, or 0 and the three answers.
-#[derive(Drop)]
+#[derive(Clone, Copy)]
 pub struct PanelAnswer {
     pub l1: f64,
     pub l2: f64,

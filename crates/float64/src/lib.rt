@@ -107,21 +107,21 @@ pub fn count_to_f64(x: i64) -> f64
 // ---- the root
 
 // The 54 digits of a root, and how many of them were worked out; the others are zeros.
-#[derive(Drop)]
+#[derive(Clone, Copy)]
 struct RootDigits {
     root: u64,
     count: u64,
 }
 
 // The pattern of a root, and how many of its digits were worked out.
-#[derive(Drop)]
+#[derive(Clone, Copy)]
 struct RootBits {
     bits: u64,
     count: u64,
 }
 
 // A root, and how many of its binary digits were worked out, from its first 1.
-#[derive(Drop)]
+#[derive(Clone, Copy)]
 pub struct CountedRoot {
     pub value: f64,
     pub count: u64,

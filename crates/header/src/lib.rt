@@ -19,7 +19,7 @@ ghost use Rattle.header.specs.Lending.{head_in};
 // The dimensions of a state: heap size, layers, and rows and columns of two tiers. Layers below
 // `elephant_layers` are of the first, the others of the second. `UnivMon`'s four dimensions are a shape
 // whose tiers are alike (`Shape::one_tier`).
-#[derive(Drop)]
+#[derive(Clone, Copy)]
 pub struct Shape {
     pub heap_size: usize,
     pub layers: usize,
@@ -31,21 +31,21 @@ pub struct Shape {
 }
 
 // A shape that was checked, or its refusal.
-#[derive(Drop)]
+#[derive(Clone, Copy)]
 pub enum CheckedShape {
     Good(Shape),
     Refused(u64),
 }
 
 // The last layer that a key reaches, or a refusal.
-#[derive(Drop)]
+#[derive(Clone, Copy)]
 pub enum BottomLayer {
     At(usize),
     Refused(u64),
 }
 
 // How keys were sent to layers; a fresh state has no mode yet.
-#[derive(Drop)]
+#[derive(Clone, Copy)]
 pub enum Mode {
     Unset,
     Standard,
@@ -54,14 +54,14 @@ pub enum Mode {
 
 // What updates and merges add up, beside the layers: the weight of all that was counted, and the number
 // of updates.
-#[derive(Drop)]
+#[derive(Clone, Copy)]
 pub struct Totals {
     pub weight: u64,
     pub updates: u64,
 }
 
 // The fields stand by falling alignment, so that no copy of a header starts at an odd byte.
-#[derive(Drop)]
+#[derive(Clone, Copy)]
 pub struct Header {
     pub shape: Shape,
     pub totals: Totals,
@@ -72,7 +72,7 @@ pub struct Header {
 
 // A header without what it holds by layer. It goes beside lengths and flags, which are lent: a header by
 // value would be copied at each call.
-#[derive(Drop)]
+#[derive(Clone, Copy)]
 pub struct Scalars {
     pub shape: Shape,
     pub totals: Totals,
@@ -80,14 +80,14 @@ pub struct Scalars {
 }
 
 // What a call on a header answers: a refusal and the header as it was, or 0 and the new header.
-#[derive(Drop)]
+#[derive(Clone, Copy)]
 pub struct Answered {
     pub refusal: u64,
     pub header: Header,
 }
 
 // The same where lengths and flags are lent.
-#[derive(Drop)]
+#[derive(Clone, Copy)]
 pub struct AnsweredLent {
     pub refusal: u64,
     pub scalars: Scalars,

@@ -19,7 +19,7 @@ ghost use Rattle.heap.specs.inner.Slices.{Room, table_of, offered_of, offered};
 pub use tell::tell_at;
 
 // What an offered candidate did: got a new count, was seated, displaced a key, or was turned away.
-#[derive(Drop)]
+#[derive(Clone, Copy)]
 pub enum Answer {
     Rescored,
     Seated,

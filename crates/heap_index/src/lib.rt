@@ -21,7 +21,7 @@ pub use checking::index_ok;
 pub use lookups::{found_under, is_name, look};
 
 // Where a lookup ended: at the key or at an empty place, with its probes; or it was refused.
-#[derive(Drop)]
+#[derive(Clone, Copy)]
 pub enum Lookup {
     Met(usize, usize),
     Vacant(usize, usize),

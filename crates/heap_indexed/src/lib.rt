@@ -14,7 +14,7 @@ pub use moves::child_in;
 pub use offers::{come_in, offer};
 
 // What an offer did, and whether it was made: a lookup of its moves may have been refused.
-#[derive(Drop)]
+#[derive(Clone, Copy)]
 pub struct TriedOffer {
     pub made: bool,
     pub answer: Answer,

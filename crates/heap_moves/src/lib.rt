@@ -15,7 +15,7 @@ ghost use Rattle.heap_moves.specs.inner.Post.{store4, Two};
 pub const MAX_HEAP_SIZE: usize = 1024;
 
 // An item: a key, its bottom hash, and the halves of one layer's hash.
-#[derive(Drop)]
+#[derive(Clone, Copy)]
 pub struct Item {
     pub key: u64,
     pub bottom: u64,

@@ -15,7 +15,7 @@ mod paths;
 pub use offers::try_offer;
 
 // A place, and how many are left from it on.
-#[derive(Drop)]
+#[derive(Clone, Copy)]
 struct Spot {
     place: usize,
     left: usize,

@@ -13,7 +13,7 @@ pub use lookups::lookup;
 
 // What a lookup answers: the number of a refusal or 0, whether the key was found, its entry, and the places
 // that were probed. On a refusal all but the number is 0 or false.
-#[derive(Drop)]
+#[derive(Clone, Copy)]
 pub struct LookedUp {
     pub refusal: u64,
     pub found: bool,

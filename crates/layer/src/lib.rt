@@ -17,7 +17,7 @@ use heap::Answer;
 pub use merging::{merge, merge_fits, merge_reads};
 
 // Rows, columns and heap size of a layer.
-#[derive(Drop)]
+#[derive(Clone, Copy)]
 pub struct Dims {
     pub rows: usize,
     pub cols: usize,
@@ -25,14 +25,14 @@ pub struct Dims {
 }
 
 // What an update that is made only where it may be answers: whether it was made, and what the offer did.
-#[derive(Drop)]
+#[derive(Clone, Copy)]
 pub struct TriedAdd {
     pub made: bool,
     pub answer: Answer,
 }
 
 // What a merge leaves: the number of candidates, and of the distinct keys that were offered.
-#[derive(Drop)]
+#[derive(Clone, Copy)]
 pub struct Merged {
     pub len: usize,
     pub keys: usize,

@@ -24,7 +24,7 @@ pub use lists::zero_places;
 pub use parts::{cells_at, norms_at, seats_at, words_at};
 
 // Counters, norm words, entry words and counts of a shape.
-#[derive(Drop)]
+#[derive(Clone, Copy)]
 pub struct Extent {
     pub cells: usize,
     pub norms: usize,
@@ -33,7 +33,7 @@ pub struct Extent {
 }
 
 // Counters and rows of the layers before one.
-#[derive(Drop)]
+#[derive(Clone, Copy)]
 struct Start {
     cells: usize,
     rows: usize,
@@ -128,7 +128,7 @@ pub fn lent_refusal(
 }
 
 // Where a layer's counters, norm words, entry words and counts begin and end.
-#[derive(Drop)]
+#[derive(Clone, Copy)]
 pub struct Span {
     pub cells: usize,
     pub cells_end: usize,

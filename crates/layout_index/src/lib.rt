@@ -12,7 +12,7 @@ ghost use Rattle.layout_index.specs.Tables.{table_length, tables_in, table_at, i
 use header::{Header, Shape};
 
 // Where a layer's table begins and ends.
-#[derive(Drop)]
+#[derive(Clone, Copy)]
 pub struct TableSpan {
     pub start: usize,
     pub end: usize,

@@ -16,14 +16,14 @@ pub const LONGEST_LINE: usize = 1024;
 pub const LINE_WORDS: usize = 2 + 2 * ((LONGEST_LINE - 24) / 36);
 
 // How many pairs stand at the end of an `add`.
-#[derive(Drop)]
+#[derive(Clone, Copy)]
 pub enum Tail {
     Pairs(usize),
     Bad,
 }
 
 // What a line asks. `Shape` has heap, rows, cols and layers; `Add` has the weight and the number of its words.
-#[derive(Drop)]
+#[derive(Clone, Copy)]
 pub enum Request {
     Shape(u64, u64, u64, u64),
     Add(i64, usize),

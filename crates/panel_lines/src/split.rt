@@ -10,7 +10,7 @@ use crate::line::LONGEST_LINE;
 pub const MOST_HELD: usize = LONGEST_LINE + 1;
 
 // Where a chunk was left, how many bytes of the line are held, and whether the line ended.
-#[derive(Drop)]
+#[derive(Clone, Copy)]
 pub struct Step {
     pub next: usize,
     pub held: usize,

@@ -12,7 +12,7 @@ pub use extent::{MAX_CANDIDATES, MAX_COUNTERS};
 pub use step::{LONGEST, answer_line};
 
 // The header after a line, and how many bytes its answer has.
-#[derive(Drop)]
+#[derive(Clone, Copy)]
 pub struct LineAnswered {
     pub header: Header,
     pub len: usize,

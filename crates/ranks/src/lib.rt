@@ -19,7 +19,7 @@ pub use step::{close, cut, sum_level};
 use sums::G;
 
 // What is asked: g, whether every key counts, and the heap size.
-#[derive(Drop)]
+#[derive(Clone, Copy)]
 pub struct Ask {
     pub g: G,
     pub every: bool,
@@ -27,7 +27,7 @@ pub struct Ask {
 }
 
 // A layer: its flag, its L2 times its L2, whether it is the last one, and the bit that signs.
-#[derive(Drop)]
+#[derive(Clone, Copy)]
 pub struct Place {
     pub flag: bool,
     pub square: f64,
@@ -37,7 +37,7 @@ pub struct Place {
 
 // What a layer hands up: how many candidates it retained, which stand in the working space, whether
 // no flag fell so far, the squares and the sum so far.
-#[derive(Drop)]
+#[derive(Clone, Copy)]
 pub struct Level {
     pub n: usize,
     pub whole: bool,

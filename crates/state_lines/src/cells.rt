@@ -13,14 +13,14 @@ use text::signed::{Int, signed_field};
 use text::word::has_word;
 
 // The place past a form.
-#[derive(Drop)]
+#[derive(Clone, Copy)]
 pub enum Next {
     At(usize),
     Bad,
 }
 
 // A column and its counter, and the place past them.
-#[derive(Drop)]
+#[derive(Clone, Copy)]
 pub enum Pair {
     At(u64, i64, usize),
     Bad,

@@ -7,7 +7,7 @@ use text::decimals::{Num, field};
 use text::word::has_word;
 
 // Heap size, rows, columns and layers, and the place past the line.
-#[derive(Drop)]
+#[derive(Clone, Copy)]
 pub enum FirstLine {
     At(u64, u64, u64, u64, usize),
     Bad,
@@ -64,7 +64,7 @@ fn line_at(s: &[u8], at: usize, word: &[u8], most: u64) -> Num
 }
 
 // Weight, updates and mode, and the place past their lines.
-#[derive(Drop)]
+#[derive(Clone, Copy)]
 pub enum HeadLines {
     At(u64, u64, u64, usize),
     Bad,
@@ -90,7 +90,7 @@ pub fn head_at(s: &[u8], at: usize) -> HeadLines
 }
 
 // A layer's flag, and the place past its line.
-#[derive(Drop)]
+#[derive(Clone, Copy)]
 pub enum FlagLine {
     At(bool, usize),
     Bad,

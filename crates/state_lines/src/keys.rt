@@ -13,7 +13,7 @@ use text::signed::{Int, signed_field};
 use text::word::has_word;
 
 // A candidate and the place past its line.
-#[derive(Drop)]
+#[derive(Clone, Copy)]
 pub enum KeyLine {
     At(Item, i64, usize),
     Bad,
@@ -66,7 +66,7 @@ pub fn key_at(s: &[u8], at: usize, l: usize) -> KeyLine
 }
 
 // How many keys there are, and the place past their lines.
-#[derive(Drop)]
+#[derive(Clone, Copy)]
 pub enum KeyLines {
     At(usize, usize),
     Bad,

@@ -15,7 +15,7 @@ use header::Header;
 use layout::{dims, span_of};
 
 // The header with a layer's lines kept, and the place past them.
-#[derive(Drop)]
+#[derive(Clone, Copy)]
 struct Kept {
     header: Header,
     at: usize,

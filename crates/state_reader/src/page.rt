@@ -16,7 +16,7 @@ use state_lines::keys::{KeyLines, read_keys};
 use state_lines::rows::read_rows;
 
 // A layer's flag, the number of its candidates, and the place past its lines.
-#[derive(Drop)]
+#[derive(Clone, Copy)]
 pub enum PageLines {
     At(bool, usize, usize),
     Bad,

@@ -133,7 +133,7 @@ fn lay_state(
 }
 
 // The refusal's number, 0 for none, and the number of bytes written.
-#[derive(Drop)]
+#[derive(Clone, Copy)]
 pub struct Written {
     pub refusal: u64,
     pub bytes: usize,

@@ -10,7 +10,7 @@ ghost use Rattle.sums.specs.Terms.{plus_zero, g_of, factor, counted, add_term, s
 ghost use Rattle.sums.specs.inner.Up.{joined_sums};
 
 // What is summed of a count.
-#[derive(Drop)]
+#[derive(Clone, Copy)]
 pub enum G {
     One,
     Value,
@@ -19,7 +19,7 @@ pub enum G {
 
 // How the candidates of one layer are summed: g, whether every key counts or those above a
 // threshold, whether this is the last layer (no signs), and the bit of the bottom hash that signs.
-#[derive(Drop)]
+#[derive(Clone, Copy)]
 pub struct Rule {
     pub g: G,
     pub every: bool,

@@ -6,7 +6,7 @@ ghost use Rattle.text.specs.Decimals.{is_digit, num_from, dec_from, field_at, de
 use crate::word::{low_byte, wide};
 
 // A number and the place past it.
-#[derive(Drop)]
+#[derive(Clone, Copy)]
 pub enum Num {
     At(u64, usize),
     Bad,

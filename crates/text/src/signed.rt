@@ -6,7 +6,7 @@ ghost use Rattle.text.specs.Signs.{negated, unsigned, int_at, signed_dec};
 use crate::decimals::{Num, field, put_decimal};
 
 // A signed number and the place past it.
-#[derive(Drop)]
+#[derive(Clone, Copy)]
 pub enum Int {
     At(i64, usize),
     Bad,

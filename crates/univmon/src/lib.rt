@@ -21,7 +21,7 @@ pub use stages::{bottom_word, first_sent, mode_of, sized_refusal};
 pub use update::note;
 
 // How an update sends its key to layers.
-#[derive(Drop)]
+#[derive(Clone, Copy)]
 pub enum Kind {
     Standard,
     Terminal,

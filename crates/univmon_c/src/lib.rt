@@ -15,7 +15,7 @@ use header::Shape;
 
 // A header as C has it: mode 0 is unset, 1 standard, 2 terminal; another number is refused with 9.
 #[repr(C)]
-#[derive(Drop)]
+#[derive(Clone, Copy)]
 pub struct CHeader {
     pub heap_size: usize,
     pub rows: usize,
@@ -30,7 +30,7 @@ pub struct CHeader {
 
 // What a call that changes a state answers: a refusal and the header as it was, or 0 and the new one.
 #[repr(C)]
-#[derive(Drop)]
+#[derive(Clone, Copy)]
 pub struct CAnswered {
     pub refusal: u64,
     pub header: CHeader,
@@ -38,7 +38,7 @@ pub struct CAnswered {
 
 // A refusal and layer 0, or 0 and the last layer that a key reaches.
 #[repr(C)]
-#[derive(Drop)]
+#[derive(Clone, Copy)]
 pub struct CBottom {
     pub refusal: u64,
     pub layer: usize,
@@ -46,7 +46,7 @@ pub struct CBottom {
 
 // A refusal and +0.0, or 0 and the answer.
 #[repr(C)]
-#[derive(Drop)]
+#[derive(Clone, Copy)]
 pub struct CAnswer {
     pub refusal: u64,
     pub value: f64,
@@ -54,7 +54,7 @@ pub struct CAnswer {
 
 // A refusal and +0.0 three times, or 0 and the three answers.
 #[repr(C)]
-#[derive(Drop)]
+#[derive(Clone, Copy)]
 pub struct CPanel {
     pub refusal: u64,
     pub l1: f64,
@@ -64,7 +64,7 @@ pub struct CPanel {
 
 // A refusal and 0, or 0 and the number of bytes written.
 #[repr(C)]
-#[derive(Drop)]
+#[derive(Clone, Copy)]
 pub struct CWritten {
     pub refusal: u64,
     pub bytes: usize,
@@ -72,7 +72,7 @@ pub struct CWritten {
 
 // Dimensions, for calls that have no header by value.
 #[repr(C)]
-#[derive(Drop)]
+#[derive(Clone, Copy)]
 pub struct CShape {
     pub heap_size: usize,
     pub rows: usize,
@@ -82,7 +82,7 @@ pub struct CShape {
 
 // A refusal and weight, updates and mode as they were, or 0 and the new ones.
 #[repr(C)]
-#[derive(Drop)]
+#[derive(Clone, Copy)]
 pub struct CStep {
     pub refusal: u64,
     pub weight: u64,

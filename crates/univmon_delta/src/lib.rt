@@ -27,7 +27,7 @@ use heap::Answer;
 use layout::{cells_at, dims, item_in, lent_refusal, norms_at, seats_at, span_of, zero_places};
 
 // How much of the stream reached a relay that is fed by deltas.
-#[derive(Drop)]
+#[derive(Clone, Copy)]
 pub enum Fidelity {
     EveryInsert,
     PromotedOnly,

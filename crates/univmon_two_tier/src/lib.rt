@@ -13,7 +13,7 @@ use header::Shape;
 
 // A header as C has it: the seven dimensions, then what a header of one tier has.
 #[repr(C)]
-#[derive(Drop)]
+#[derive(Clone, Copy)]
 pub struct CTwoTier {
     pub heap_size: usize,
     pub layers: usize,
@@ -31,7 +31,7 @@ pub struct CTwoTier {
 
 // What a call that changes a state answers: a refusal and the header as it was, or 0 and the new one.
 #[repr(C)]
-#[derive(Drop)]
+#[derive(Clone, Copy)]
 pub struct CTwoTierAnswered {
     pub refusal: u64,
     pub header: CTwoTier,
@@ -39,7 +39,7 @@ pub struct CTwoTierAnswered {
 
 // Dimensions, for calls that have no header by value.
 #[repr(C)]
-#[derive(Drop)]
+#[derive(Clone, Copy)]
 pub struct CTwoTierShape {
     pub heap_size: usize,
     pub layers: usize,
