@@ -112,10 +112,22 @@ class Fn:
         self.crate, self.fn, self.info, self.bad = crate, fn, info, []
         self.place = {}
         for i, (old, parent, (of, nf), callee, fields) in enumerate(info["places"]):
-            self.place[old] = dict(parent=parent, of=of, nf=nf, fields=dict(fields), new=info["places_by_name"][i], typed=info["typed"][i] if i < len(info.get("typed", [])) else [])
+            self.place[old] = dict(parent=parent, of=of, nf=nf, callee=callee, fields=dict(fields), new=info["places_by_name"][i], typed=info["typed"][i] if i < len(info.get("typed", [])) else [])
+        arms = info.get("arms") or [None] * len(info["places"])
+        for (old, *_), arm in zip(info["places"], arms):
+            self.place[old]["arm"] = arm
+        # an arm's facts are in its last place, under the arm's name
+        self.arm_end = {}
+        for (old, *_), arm, new in zip(info["places"], arms, info["places_by_name"]):
+            if arm and new.replace("In-", "in-", 1) == arm[0]:
+                self.arm_end[arm[0]] = new
         self.byname = {norm(k): k for k in self.place}
         self.loops = {l[0][0]: (l[0][1], l[1], info["changed"][i]) for i, l in enumerate(info["loops"])}
         self.used_places = set()
+
+    def spelled(self, p):
+        arm = self.place[p]["arm"]
+        return self.arm_end.get(arm[0], self.place[p]["new"]) if arm else self.place[p]["new"]
 
     def up(self, p, k):
         for _ in range(k):
@@ -152,35 +164,31 @@ class Fn:
             if not rest:
                 if goal is None:
                     return m.group(0)
-                new = self.place[q]["new"]
+                new = self.spelled(q)
                 self.used_places.add(new)
                 return f"(goal.at.{goal} c).{new}"
             f = rest[0]
             here = self.place[q]
-            if norm(f) == norm(here["of"]) and here["of"]:
-                rest[0] = here["nf"]
-                if len(rest) > 1 and rest[1] in here["fields"]:
-                    rest[1] = here["fields"][rest[1]]
+            if norm(f).lower() == norm(here["of"]).lower() and here["of"]:
+                self.step(rest, q)
             elif f in ("args", "requires", "ranges", "well_formed", "well-formed", "good", "was", "entry", "fits", "pre"):
                 rest[0] = {"fits": "ranges", "pre": "requires", "good": "well_formed", "well-formed": "well_formed"}.get(f, f)
             else:
                 # a step of an earlier place, named without its `before`
                 r = q
-                while r is not None and not (self.place[r]["of"] and norm(self.place[r]["of"]) == norm(f)):
+                while r is not None and not (self.place[r]["of"] and norm(self.place[r]["of"]).lower() == norm(f).lower()):
                     r = self.place[r]["parent"]
                 if r is None:
                     # there were more places once: the nearest one between the goal's place and the counted one
                     s = place
                     while s is not None and s != q:
-                        if self.place[s]["of"] and norm(self.place[s]["of"]) == norm(f):
+                        if self.place[s]["of"] and norm(self.place[s]["of"]).lower() == norm(f).lower():
                             r = s
                         s = self.place[s]["parent"]
                 if r is None:
                     self.bad.append(f"{goal}: no step {f} at {q}: {m.group(0)}")
                     return m.group(0)
-                rest[0] = self.place[r]["nf"]
-                if len(rest) > 1 and rest[1] in self.place[r]["fields"]:
-                    rest[1] = self.place[r]["fields"][rest[1]]
+                self.step(rest, r)
             if len(rest) > 1 and rest[1] in ("taken", "left") and (rest[0].startswith(("if", "prove")) or rest[0].startswith("loop") and rest[0].endswith("-test")):
                 rest[1] = {"taken": "true", "left": "false"}[rest[1]]
             clauses = None
@@ -199,10 +207,15 @@ class Fn:
             return "c." + ".".join(rest)
 
         term = PATH.sub(one, term)
+        # what a `!` tested, under its own name
+        term = re.sub(r"not-(true|false) _ (c\.[\w-]+)\.(true|false)(?:-raw)?(?![\w-])", r"\2.\3", term)
         # a call bound by a `let`: its clauses
         for name, step in re.findall(r"let (\w+) = c\.([\w-]+) in", term):
             r = next((i for i, p in enumerate(self.info["places"]) if p[2][1] == step), None)
             clauses = (self.info["clauses"][r] or {}).get("fields") if r is not None else None
+            lent = self.lent(self.info["places"][r][3]) if r is not None and self.info["places"][r][3] else []
+            for n, x in enumerate(lent):
+                term = re.sub(r"(?<![\w'.₀-₉-])" + name + r"\.(?:kept|auto)" + r"\.1" * n + r"\.0(?![\w.])", f"{name}.auto.{x}", term)
             if not clauses:
                 continue
 
@@ -213,6 +226,35 @@ class Fn:
 
             term = re.sub(r"(?<![\w'.₀-₉-])" + name + r"\.ensures((?:\.[\w'₀-₉-]+)*)", of_let, term)
         return term
+
+    def step(self, rest, p):
+        """a step's name, and its field's, by the place p where it is"""
+        here = self.place[p]
+        if here["arm"] and len(rest) > 1:
+            for field, of, path in here["arm"][2]:
+                if of == here["of"] and path and rest[1 : 1 + len(path)] == path:
+                    rest[: 1 + len(path)] = [here["arm"][0], field]
+                    return
+        rest[0] = here["nf"]
+        if len(rest) > 1 and rest[1] in here["fields"]:
+            rest[1] = here["fields"][rest[1]]
+        if len(rest) > 2 and rest[1] in ("kept", "auto") and rest[2] in "01":
+            # the lengths that a call keeps, in the order of its `&mut` slices
+            callee = here["callee"]
+            lent = self.lent(callee) if callee else []
+            at, n = 2, 0
+            while at < len(rest) and rest[at] == "1":
+                at, n = at + 1, n + 1
+            if n < len(lent) and at < len(rest) and rest[at] == "0":
+                rest[1 : at + 1] = ["auto", lent[n]]
+
+    def lent(self, callee):
+        crate, *_, name = callee.split("::")
+        for p in glob.glob(f"crates/{crate}/src/**/*.rt", recursive=True):
+            m = re.search(r"\bfn " + name + r"\(([^)]*)\)", read(p))
+            if m:
+                return re.findall(r"(\w+): &mut \[", m.group(1))
+        return []
 
     def clause(self, clauses, rest, at, goal, said):
         """`.1.1.0` of a contract's clauses, from `at` on, under the clause's name"""
@@ -294,7 +336,23 @@ def turn(crate, fn, info, folder):
         new_of[idx[a]] = (wanted[b][1], info["asked_at"][b][0])
         told[wanted[b][1]] = info.get("asked", {}).get(wanted[b][0])
     answers, invs, places = [], [], set()
-    helpers = []
+    helpers, records = [], []
+
+    def made(fields):
+        if tuple(fields) not in records:
+            records.append(tuple(fields))
+            n = len(fields)
+            name, vs = f"by_clause{len(records) if len(records) > 1 else ''}", "ABCDEFGH"[:n]
+            of = ["p" + ".1" * i + (".0" if i < n - 1 else "") for i in range(n)]
+            pair = " × (".join(vs[: n - 1]) + " × " + vs[n - 1] + ")" * (n - 2)
+            helpers.append(
+                f"-- what a lemma proves of the clauses together, under each one's name\n"
+                f"{name} : {{{' '.join(vs)} : Type 0}} → {pair} → record {{ {'; '.join(f'{x} : {v}' for x, v in zip(fields, vs))} }}\n"
+                f"{name} p = record {{ {'; '.join(f'{x} = {o}' for x, o in zip(fields, of))} }}"
+            )
+        i = records.index(tuple(fields))
+        return f"by_clause{i + 1 if i else ''}"
+
     said = ""
     for i, d in enumerate(decls):
         if d[0] == "comment":
@@ -341,7 +399,7 @@ def turn(crate, fn, info, folder):
                 F.bad.append("no place " + m.group(1))
                 helpers.append(note + sig + "\n" + rest)
                 continue
-            new = F.place[p]["new"]
+            new = F.spelled(p)
             places.add(new)
             sig = sig.replace(m.group(0), f"(c : {new})")
             helpers.append(note + F.paths(sig.replace("(c : ", "(\0 : "), p, None).replace("\0", "c") + "\n" + F.paths(rest, p, None))
@@ -375,7 +433,8 @@ def turn(crate, fn, info, folder):
         if told.get(goal):
             r = record(term, told[goal])
             if r is None:
-                F.bad.append(f"{goal}: not written as a record of {told[goal]}")
+                # a term of the clauses' product: a helper makes the record of it
+                term = f" {made(told[goal])} ({term.strip()})"
             else:
                 term = r
         answers.append(f"{note}pub {goal} : goal.{goal}\n{u}{goal} {' '.join(args)} ={term}")
