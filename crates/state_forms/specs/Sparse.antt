@@ -1,5 +1,5 @@
 -- Lists of which only some values are written, each with its place: "only nonzero counters by rising column, rows of zeros omitted".
-use Rattle.std.specs.Prelude.{List, [], ◌∷◌, ◌++◌, Bool, cond, ◌&&◌, ℕ, zero, suc, ◌+◌, ◌-◌, leb, ltb, replicate}
+use Rattle.std.specs.Prelude.{List, [], ◌∷◌, ◌++◌, Bool, cond, ◌&&◌, ℕ, zero, suc, ◌-◌, leb, ltb, replicate}
 use Rattle.state_forms.specs.Formats.{Got, got, bad, then_read, Format}
 
 -- how a value is written with its place, the value that is left out, which values those are, and whether a value stands at the start of a text
