@@ -239,7 +239,7 @@ fn set_word(norms: &mut [u64], i: usize, x: u64) {
 }
 
 // An operation and its words; operation 0 is the end of the input.
-#[derive(Drop)]
+#[derive(Clone, Copy)]
 struct Call {
     op: u64,
     a: u64,

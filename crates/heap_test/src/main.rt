@@ -9,7 +9,7 @@ use std::io;
 use std::io::{Stdin, Stdout};
 
 // A heap of at most 16 places: how many it has, and how many are used.
-#[derive(Drop)]
+#[derive(Clone, Copy)]
 struct Lone {
     size: usize,
     len: usize,
