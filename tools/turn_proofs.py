@@ -376,6 +376,9 @@ def turn(crate, fn, info, folder):
                 continue
             new, vs, ch = F.loops[loop]
             want = [v + "₀" if c else v for v, c in zip(vs, ch)] + [v for v, c in zip(vs, ch) if c]
+            if len(want) != len(params) and all(p in want for p in params):
+                # the code has more variables now
+                want = params
             if len(want) != len(params):
                 F.bad.append(f"{kind}: parameters {params} against {want}")
             for p, w in zip(params, want):

@@ -6,6 +6,9 @@
 ghost use Rattle.std.specs.Prelude.{◌≡◌, true, ◌*◌, ◌≤◌};
 ghost use Rattle.matrix_storage.specs.inner.Shaped.{Shaped};
 
+use std::io;
+use std::io::{Stdin, Stdout};
+
 // The greatest layer that is run: 9 rows of 4,096.
 const CELLS: usize = 36864;
 
@@ -42,23 +45,30 @@ fn clear_norms(norms: &mut [u64]) {
 }
 
 // 4: the estimate of a hash's count, as a float and cut.
-fn estimate(counters: &[i64], rows: usize, cols: usize, high: u64, low: u64) {
+fn estimate(
+    output: Stdout,
+    counters: &[i64],
+    rows: usize,
+    cols: usize,
+    high: u64,
+    low: u64,
+) -> io::Result<()> {
     if !held(rows, cols, counters.len(), NORM_WORDS) {
-        return;
+        return Ok(());
     }
     if !countsketch_l2_norm::cells_in(counters, rows, cols, high, low) {
-        vectors::print_refusal(9);
-        return;
+        return vectors::print_refusal(output, 9);
     }
     let x = countsketch_l2_norm::estimate_with_hash(counters, rows, cols, high, low);
-    vectors::print(float64::to_bits(x));
+    vectors::print(output, float64::to_bits(x))?;
     let n = countsketch_l2_norm::count_with_hash(counters, rows, cols, high, low);
-    vectors::print(vectors::unsigned(n));
+    vectors::print(output, vectors::unsigned(n))
 }
 
 // 2: an update, and the estimate after it. `rows_ready` judges in one pass whether what is read is in range
 // and whether the update fits; only where it says no are the two asked one by one, for the refusal.
 fn add(
+    output: Stdout,
     counters: &mut [i64],
     norms: &mut [u64],
     rows: usize,
@@ -66,32 +76,31 @@ fn add(
     high: u64,
     low: u64,
     weight: u64,
-) {
+) -> io::Result<()> {
     if !held(rows, cols, counters.len(), norms.len()) {
-        return;
+        return Ok(());
     }
     if words::MAX_WEIGHT < weight {
-        vectors::print_refusal(7);
-        return;
+        return vectors::print_refusal(output, 7);
     }
     if countsketch_l2_norm::rows_ready(&*counters, &*norms, rows, cols, high, low, weight) {
         countsketch_l2_norm::update_weighted_with_hash(
             counters, norms, rows, cols, high, low, weight,
         );
-        estimate(&*counters, rows, cols, high, low);
-        return;
+        return estimate(output, &*counters, rows, cols, high, low);
     }
     if !countsketch_l2_norm::rows_read(&*counters, &*norms, rows, cols, high, low) {
-        vectors::print_refusal(9);
-        return;
+        return vectors::print_refusal(output, 9);
     }
     if !countsketch_l2_norm::rows_fit(&*counters, rows, cols, high, low, weight) {
-        vectors::print_refusal(11);
+        return vectors::print_refusal(output, 11);
     }
+    Ok(())
 }
 
 // 3: a delta.
 fn delta(
+    output: Stdout,
     counters: &mut [i64],
     norms: &mut [u64],
     rows: usize,
@@ -99,40 +108,42 @@ fn delta(
     row: usize,
     col: usize,
     count: i64,
-) {
+) -> io::Result<()> {
     if !held(rows, cols, counters.len(), norms.len()) {
-        return;
+        return Ok(());
     }
     if rows <= row {
-        vectors::print_refusal(8);
-        return;
+        return vectors::print_refusal(output, 8);
     }
     if cols <= col {
-        vectors::print_refusal(8);
-        return;
+        return vectors::print_refusal(output, 8);
     }
     if !countsketch_l2_norm::cell_read(&*counters, &*norms, rows, cols, row, col) {
-        vectors::print_refusal(9);
-        return;
+        return vectors::print_refusal(output, 9);
     }
     if !countsketch_l2_norm::cell_fits(&*counters, rows, cols, row, col, count) {
-        vectors::print_refusal(11);
-        return;
+        return vectors::print_refusal(output, 11);
     }
     countsketch_l2_norm::apply_delta(counters, norms, rows, cols, row, col, count);
+    Ok(())
 }
 
 // 5: L2 squared and L2.
-fn l2(norms: &[u64], rows: usize, cols: usize) {
+fn l2(output: Stdout, norms: &[u64], rows: usize, cols: usize) -> io::Result<()> {
     if !held(rows, cols, CELLS, norms.len()) {
-        return;
+        return Ok(());
     }
     if !countsketch_l2_norm::norms_in(norms, rows, cols) {
-        vectors::print_refusal(9);
-        return;
+        return vectors::print_refusal(output, 9);
     }
-    vectors::print(float64::to_bits(countsketch_l2_norm::l2_squared(norms, rows)));
-    vectors::print(float64::to_bits(countsketch_l2_norm::l2(norms, rows)));
+    vectors::print(
+        output,
+        float64::to_bits(countsketch_l2_norm::l2_squared(norms, rows)),
+    )?;
+    vectors::print(
+        output,
+        float64::to_bits(countsketch_l2_norm::l2(norms, rows)),
+    )
 }
 
 // A digest of the first n counters.
@@ -150,17 +161,24 @@ fn digest(counters: &[i64], n: usize) -> u64 {
 }
 
 // 6: the state: a digest of the counters, and each row's norm, low word and high word.
-fn state(counters: &[i64], norms: &[u64], rows: usize, cols: usize) {
+fn state(
+    output: Stdout,
+    counters: &[i64],
+    norms: &[u64],
+    rows: usize,
+    cols: usize,
+) -> io::Result<()> {
     if !held(rows, cols, counters.len(), norms.len()) {
-        return;
+        return Ok(());
     }
     let n = rows * cols;
-    vectors::print(digest(counters, n));
+    vectors::print(output, digest(counters, n))?;
     let mut i = 0;
     while i < 2 * rows {
-        vectors::print(norms[i]);
+        vectors::print(output, norms[i])?;
         i += 1;
     }
+    Ok(())
 }
 
 // 7: the counters are set aside, to be merged later.
@@ -180,26 +198,31 @@ fn keep(op: u64, counters: &[i64], other: &mut [i64]) {
 }
 
 // 8: the counters that were set aside are merged in.
-fn merge(counters: &mut [i64], norms: &mut [u64], other: &[i64], rows: usize, cols: usize) {
+fn merge(
+    output: Stdout,
+    counters: &mut [i64],
+    norms: &mut [u64],
+    other: &[i64],
+    rows: usize,
+    cols: usize,
+) -> io::Result<()> {
     if !held(rows, cols, counters.len(), norms.len()) {
-        return;
+        return Ok(());
     }
     if counters.len() != other.len() {
-        return;
+        return Ok(());
     }
     if !countsketch_l2_norm::all_in(&*counters) {
-        vectors::print_refusal(9);
-        return;
+        return vectors::print_refusal(output, 9);
     }
     if !countsketch_l2_norm::all_in(other) {
-        vectors::print_refusal(9);
-        return;
+        return vectors::print_refusal(output, 9);
     }
     if !countsketch_l2_norm::sums_fit(&*counters, other) {
-        vectors::print_refusal(11);
-        return;
+        return vectors::print_refusal(output, 11);
     }
     countsketch_l2_norm::merge(counters, norms, other, rows, cols);
+    Ok(())
 }
 
 // 9 and 10: a counter or a word of the norms is set, to meet the refusals of what is read.
@@ -216,7 +239,7 @@ fn set_word(norms: &mut [u64], i: usize, x: u64) {
 }
 
 // An operation and its words; operation 0 is the end of the input.
-#[derive(Drop)]
+#[derive(Clone, Copy)]
 struct Call {
     op: u64,
     a: u64,
@@ -224,9 +247,9 @@ struct Call {
     c: u64,
 }
 
-fn next() -> Call {
+fn next(input: Stdin) -> Call {
     let mut text = [0u8; 51];
-    let line = vectors::next(&mut text);
+    let line = vectors::next(input, &mut text);
     Call {
         op: line.op,
         a: vectors::word(&text, 0),
@@ -236,17 +259,25 @@ fn next() -> Call {
 }
 
 // The operations that change nothing.
-fn ask(call: Call, counters: &[i64], norms: &[u64], rows: usize, cols: usize) {
+fn ask(
+    output: Stdout,
+    call: Call,
+    counters: &[i64],
+    norms: &[u64],
+    rows: usize,
+    cols: usize,
+) -> io::Result<()> {
     let op = call.op;
     if op == 4 {
-        estimate(counters, rows, cols, call.a, call.b);
+        return estimate(output, counters, rows, cols, call.a, call.b);
     }
     if op == 5 {
-        l2(norms, rows, cols);
+        return l2(output, norms, rows, cols);
     }
     if op == 6 {
-        state(counters, norms, rows, cols);
+        return state(output, counters, norms, rows, cols);
     }
+    Ok(())
 }
 
 // The operations that set counters and norms by hand.
@@ -268,22 +299,23 @@ fn set(call: Call, counters: &mut [i64], norms: &mut [u64]) {
 
 // The operations that call the library to change the layer.
 fn change(
+    output: Stdout,
     call: Call,
     counters: &mut [i64],
     norms: &mut [u64],
     other: &[i64],
     rows: usize,
     cols: usize,
-) {
+) -> io::Result<()> {
     let op = call.op;
     if op == 2 {
-        add(counters, norms, rows, cols, call.a, call.b, call.c);
-        return;
+        return add(output, counters, norms, rows, cols, call.a, call.b, call.c);
     }
     if op == 3 {
         let row = call.a as usize;
         let col = call.b as usize;
-        delta(
+        return delta(
+            output,
             counters,
             norms,
             rows,
@@ -292,38 +324,51 @@ fn change(
             col,
             vectors::signed(call.c),
         );
-        return;
     }
     if op == 8 {
-        merge(counters, norms, other, rows, cols);
+        return merge(output, counters, norms, other, rows, cols);
     }
+    Ok(())
 }
 
-fn serve(counters: &mut [i64], norms: &mut [u64], other: &mut [i64]) {
+fn serve(
+    input: Stdin,
+    output: Stdout,
+    counters: &mut [i64],
+    norms: &mut [u64],
+    other: &mut [i64],
+) -> io::Result<()> {
     let mut rows = 0;
     let mut cols = 0;
     let mut turns: u64 = 1000000;
     while 0 < turns {
-        let call = next();
+        let call = next(input);
         let op = call.op;
         if op == 0 {
-            return;
+            return Ok(());
         }
         if op == 1 {
             rows = call.a as usize;
             cols = call.b as usize;
         }
         keep(op, &*counters, other);
-        ask(call, &*counters, &*norms, rows, cols);
+        ask(output, call, &*counters, &*norms, rows, cols)?;
         set(call, counters, norms);
-        change(call, counters, norms, &*other, rows, cols);
+        change(output, call, counters, norms, &*other, rows, cols)?;
         turns -= 1;
     }
+    Ok(())
 }
 
-fn main() {
+fn main(rt: HostRuntime) -> io::Result<()> {
     let mut counters = [0i64; CELLS];
     let mut norms = [0u64; NORM_WORDS];
     let mut other = [0i64; CELLS];
-    serve(&mut counters, &mut norms, &mut other);
+    serve(
+        rt.stdin(),
+        rt.stdout(),
+        &mut counters,
+        &mut norms,
+        &mut other,
+    )
 }

@@ -5,6 +5,9 @@
 
 #![tactic(auto)]
 
+use std::io;
+use std::io::{Stdin, Stdout};
+
 // The answer to a case, as a word.
 fn answer(function: u64, a: u64, b: u64, c: u64) -> u64 {
     if function == 1 {
@@ -47,41 +50,44 @@ fn width(function: u64) -> usize {
 }
 
 // One case; false where the input ends.
-fn case(function: u64) -> bool {
+fn case(input: Stdin, output: Stdout, function: u64) -> io::Result<bool> {
     let mut text = [0u8; 51];
-    if !vectors::read(&mut text, width(function)) {
-        return false;
+    if !vectors::read(input, &mut text, width(function)) {
+        return Ok(false);
     }
     let a = vectors::word(&text, 0);
     let b = vectors::word(&text, 1);
     let c = vectors::word(&text, 2);
-    vectors::print(answer(function, a, b, c));
-    true
+    vectors::print(output, answer(function, a, b, c))?;
+    Ok(true)
 }
 
 // One group; false where the input ends.
-fn group() -> bool {
+fn group(input: Stdin, output: Stdout) -> io::Result<bool> {
     let mut text = [0u8; 34];
-    if !vectors::read(&mut text, 2) {
-        return false;
+    if !vectors::read(input, &mut text, 2) {
+        return Ok(false);
     }
     let function = vectors::word(&text, 0);
     let mut left = vectors::word(&text, 1);
     while 0 < left {
         left -= 1;
-        if !case(function) {
-            return false;
+        if !case(input, output, function)? {
+            return Ok(false);
         }
     }
-    true
+    Ok(true)
 }
 
-fn main() {
+fn main(rt: HostRuntime) -> io::Result<()> {
+    let input = rt.stdin();
+    let output = rt.stdout();
     let mut groups = 0u64;
     while groups < 8 {
         groups += 1;
-        if !group() {
-            return;
+        if !group(input, output)? {
+            return Ok(());
         }
     }
+    Ok(())
 }

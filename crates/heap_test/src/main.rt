@@ -5,9 +5,11 @@
 
 use heap::Answer;
 use heap_moves::Item;
+use std::io;
+use std::io::{Stdin, Stdout};
 
 // A heap of at most 16 places: how many it has, and how many are used.
-#[derive(Drop)]
+#[derive(Clone, Copy)]
 struct Lone {
     size: usize,
     len: usize,
@@ -15,18 +17,18 @@ struct Lone {
 }
 
 // Which of four things an offer did, and the displaced key.
-fn print_answer(a: Answer) {
+fn print_answer(output: Stdout, a: Answer) -> io::Result<()> {
     match a {
-        Answer::Rescored => print_two(1, 0),
-        Answer::Seated => print_two(2, 0),
-        Answer::Displaced(k) => print_two(3, k),
-        Answer::TurnedAway => print_two(4, 0),
+        Answer::Rescored => print_two(output, 1, 0),
+        Answer::Seated => print_two(output, 2, 0),
+        Answer::Displaced(k) => print_two(output, 3, k),
+        Answer::TurnedAway => print_two(output, 4, 0),
     }
 }
 
-fn print_two(a: u64, b: u64) {
-    vectors::print(a);
-    vectors::print(b);
+fn print_two(output: Stdout, a: u64, b: u64) -> io::Result<()> {
+    vectors::print(output, a)?;
+    vectors::print(output, b)
 }
 
 // 1: a new heap.
@@ -59,83 +61,100 @@ fn offer_all(entries: &mut [u64], counts: &mut [i64], len: usize, w: Item, v: i6
 }
 
 // 2: an offer.
-fn offer(entries: &mut [u64], counts: &mut [i64], h: Lone, w: Item, v: i64) -> Lone {
+fn offer(
+    output: Stdout,
+    entries: &mut [u64],
+    counts: &mut [i64],
+    h: Lone,
+    w: Item,
+    v: i64,
+) -> io::Result<Lone> {
     let size = h.size;
     let len = h.len;
     if 16 < size {
-        return h;
+        return Ok(h);
     }
     if 16 < len {
-        return h;
+        return Ok(h);
     }
     if entries.len() < 64 {
-        return h;
+        return Ok(h);
     }
     if counts.len() < 16 {
-        return h;
+        return Ok(h);
     }
     let words = 4 * size;
     let a = offer_all(&mut entries[..words], &mut counts[..size], len, w, v);
     let after = heap::len_after(len, a);
-    report(a, after, entries[0], counts[0]);
-    Lone {
+    report(output, a, after, entries[0], counts[0])?;
+    Ok(Lone {
         size,
         len: after,
         more: true,
-    }
+    })
 }
 
 // What an offer answered, the length, and the root.
-fn report(a: Answer, len: usize, key: u64, count: i64) {
-    vectors::print_flag(heap::kept(a));
-    print_answer(a);
-    vectors::print(len as u64);
-    print_two(key, vectors::unsigned(count));
+fn report(output: Stdout, a: Answer, len: usize, key: u64, count: i64) -> io::Result<()> {
+    vectors::print_flag(output, heap::kept(a))?;
+    print_answer(output, a)?;
+    vectors::print(output, len as u64)?;
+    print_two(output, key, vectors::unsigned(count))
 }
 
 // 3: find.
-fn find(entries: &[u64; 64], h: Lone, key: u64) {
+fn find(output: Stdout, entries: &[u64; 64], h: Lone, key: u64) -> io::Result<()> {
     let len = h.len;
     if len <= 16 {
-        vectors::print(heap::find(entries, len, key) as u64);
+        vectors::print(output, heap::find(entries, len, key) as u64)?;
     }
+    Ok(())
 }
 
 // 4: the whole state.
-fn show(entries: &[u64; 64], counts: &[i64; 16], h: Lone) {
+fn show(output: Stdout, entries: &[u64; 64], counts: &[i64; 16], h: Lone) -> io::Result<()> {
     let len = h.len;
-    vectors::print(len as u64);
+    vectors::print(output, len as u64)?;
     if 16 < len {
-        return;
+        return Ok(());
     }
     let mut i = 0;
     while i < len {
         let w = heap_moves::item_at(entries, i);
-        show_entry(w, counts[i]);
+        show_entry(output, w, counts[i])?;
         i += 1;
     }
+    Ok(())
 }
 
-fn show_entry(w: Item, n: i64) {
-    vectors::print(w.key);
-    vectors::print(w.bottom);
-    vectors::print(w.high);
-    vectors::print(w.low);
-    vectors::print(vectors::unsigned(n));
+fn show_entry(output: Stdout, w: Item, n: i64) -> io::Result<()> {
+    vectors::print(output, w.key)?;
+    vectors::print(output, w.bottom)?;
+    vectors::print(output, w.high)?;
+    vectors::print(output, w.low)?;
+    vectors::print(output, vectors::unsigned(n))
 }
 
 // 5: whether every count is in range.
-fn in_range(counts: &[i64; 16], h: Lone) {
+fn in_range(output: Stdout, counts: &[i64; 16], h: Lone) -> io::Result<()> {
     let len = h.len;
     if len <= 16 {
-        vectors::print_flag(heap::counts_in_range(counts, len));
+        vectors::print_flag(output, heap::counts_in_range(counts, len))?;
     }
+    Ok(())
 }
 
-fn run(entries: &mut [u64; 64], counts: &mut [i64; 16], h: Lone, op: u64, text: &[u8]) -> Lone {
+fn run(
+    output: Stdout,
+    entries: &mut [u64; 64],
+    counts: &mut [i64; 16],
+    h: Lone,
+    op: u64,
+    text: &[u8],
+) -> io::Result<Lone> {
     let a = vectors::word(text, 0);
     if op == 1 {
-        return new(entries, counts, a as usize);
+        return Ok(new(entries, counts, a as usize));
     }
     if op == 2 {
         let v = vectors::signed(vectors::word(text, 1));
@@ -143,6 +162,7 @@ fn run(entries: &mut [u64; 64], counts: &mut [i64; 16], h: Lone, op: u64, text: 
         let high = vectors::word(text, 3);
         let low = vectors::word(text, 4);
         return offer(
+            output,
             entries,
             counts,
             h,
@@ -156,33 +176,41 @@ fn run(entries: &mut [u64; 64], counts: &mut [i64; 16], h: Lone, op: u64, text: 
         );
     }
     if op == 3 {
-        find(entries, h, a);
+        find(output, entries, h, a)?;
     }
     if op == 4 {
-        show(entries, counts, h);
+        show(output, entries, counts, h)?;
     }
     if op == 5 {
-        in_range(counts, h);
+        in_range(output, counts, h)?;
     }
-    h
+    Ok(h)
 }
 
 // One line: `more` is false at the end of the input.
-fn step(entries: &mut [u64; 64], counts: &mut [i64; 16], h: Lone) -> Lone {
+fn step(
+    input: Stdin,
+    output: Stdout,
+    entries: &mut [u64; 64],
+    counts: &mut [i64; 16],
+    h: Lone,
+) -> io::Result<Lone> {
     let end = Lone {
         size: h.size,
         len: h.len,
         more: false,
     };
     let mut text = [0u8; 85];
-    let line = vectors::next(&mut text);
+    let line = vectors::next(input, &mut text);
     if line.op == 0 {
-        return end;
+        return Ok(end);
     }
-    run(entries, counts, h, line.op, &text)
+    run(output, entries, counts, h, line.op, &text)
 }
 
-fn main() {
+fn main(rt: HostRuntime) -> io::Result<()> {
+    let input = rt.stdin();
+    let output = rt.stdout();
     let mut entries = [0u64; 64];
     let mut counts = [0i64; 16];
     let mut h = Lone {
@@ -192,10 +220,11 @@ fn main() {
     };
     let mut turns: u64 = 1000000;
     while 0 < turns {
-        h = step(&mut entries, &mut counts, h);
+        h = step(input, output, &mut entries, &mut counts, h)?;
         if !h.more {
-            return;
+            return Ok(());
         }
         turns -= 1;
     }
+    Ok(())
 }

@@ -8,25 +8,34 @@ ghost use Rattle.words.specs.Num.{all_in};
 ghost use Rattle.matrix_storage.specs.Bits.{max_rows};
 
 use matrix_storage::{Cell, MAX_ROWS, MaskBits};
+use std::io;
+use std::io::{Stdin, Stdout};
 
 // 1: the mask bits of a number of columns.
-fn mask_bits(cols: usize) {
+fn mask_bits(output: Stdout, cols: usize) -> io::Result<()> {
     let m = matrix_storage::cols_mask_bits(cols);
     match m {
-        MaskBits::Bits(bits) => vectors::print(bits as u64),
-        MaskBits::Refused(n) => vectors::print_refusal(n),
+        MaskBits::Bits(bits) => vectors::print(output, bits as u64),
+        MaskBits::Refused(n) => vectors::print_refusal(output, n),
     }
 }
 
 // 2: the column and the sign of a row.
-fn cell(high: u64, low: u64, row: usize, rows: usize, cols: usize) {
+fn cell(
+    output: Stdout,
+    high: u64,
+    low: u64,
+    row: usize,
+    rows: usize,
+    cols: usize,
+) -> io::Result<()> {
     let c = matrix_storage::cell_for_row(high, low, row, rows, cols);
     match c {
         Cell::At(column, sign) => {
-            vectors::print(column as u64);
-            vectors::print(vectors::unsigned(sign));
+            vectors::print(output, column as u64)?;
+            vectors::print(output, vectors::unsigned(sign))
         }
-        Cell::Refused(n) => vectors::print_refusal(n),
+        Cell::Refused(n) => vectors::print_refusal(output, n),
     }
 }
 
@@ -48,7 +57,7 @@ fn put(buf: &mut [i64; MAX_ROWS], n: usize, v: i64) -> usize
 }
 
 // 3: the median of some values, as a count and as a float.
-fn median(text: &[u8], many: usize) {
+fn median(output: Stdout, text: &[u8], many: usize) -> io::Result<()> {
     let mut buf = [0i64; MAX_ROWS];
     let mut n = 0;
     let mut k = 0;
@@ -58,61 +67,72 @@ fn median(text: &[u8], many: usize) {
         k += 1;
     }
     if 0 < n {
-        vectors::print(vectors::unsigned(structure_utils::median_cut(&buf, n)));
-        vectors::print(float64::to_bits(structure_utils::median_f64(&buf, n)));
+        vectors::print(
+            output,
+            vectors::unsigned(structure_utils::median_cut(&buf, n)),
+        )?;
+        vectors::print(
+            output,
+            float64::to_bits(structure_utils::median_f64(&buf, n)),
+        )?;
     }
+    Ok(())
 }
 
 // 4: a capped square.
-fn square(x: i64) {
-    vectors::print(words::capped_square(x));
+fn square(output: Stdout, x: i64) -> io::Result<()> {
+    vectors::print(output, words::capped_square(x))
 }
 
 // 5: the refusal of rows and columns.
-fn hash_bits(rows: usize, cols: usize) {
-    vectors::print(matrix_storage::check_hash_bits(rows, cols));
+fn hash_bits(output: Stdout, rows: usize, cols: usize) -> io::Result<()> {
+    vectors::print(output, matrix_storage::check_hash_bits(rows, cols))
 }
 
-fn run(op: u64, many: usize, text: &[u8]) {
+fn run(output: Stdout, op: u64, many: usize, text: &[u8]) -> io::Result<()> {
     let a = vectors::word(text, 0);
     let b = vectors::word(text, 1);
     if op == 1 {
-        mask_bits(a as usize);
+        mask_bits(output, a as usize)?;
     }
     if op == 2 {
         let row = vectors::word(text, 2) as usize;
         let rows = vectors::word(text, 3) as usize;
         let cols = vectors::word(text, 4) as usize;
-        cell(a, b, row, rows, cols);
+        cell(output, a, b, row, rows, cols)?;
     }
     if op == 3 {
-        median(text, many);
+        median(output, text, many)?;
     }
     if op == 4 {
-        square(vectors::signed(a));
+        square(output, vectors::signed(a))?;
     }
     if op == 5 {
-        hash_bits(a as usize, b as usize);
+        hash_bits(output, a as usize, b as usize)?;
     }
+    Ok(())
 }
 
 // One line: false at the end of the input.
-fn step() -> bool {
+fn step(input: Stdin, output: Stdout) -> io::Result<bool> {
     let mut text = [0u8; 340];
-    let line = vectors::next(&mut text);
+    let line = vectors::next(input, &mut text);
     if line.op == 0 {
-        return false;
+        return Ok(false);
     }
-    run(line.op, line.many, &text);
-    true
+    run(output, line.op, line.many, &text)?;
+    Ok(true)
 }
 
-fn main() {
+fn main(rt: HostRuntime) -> io::Result<()> {
+    let input = rt.stdin();
+    let output = rt.stdout();
     let mut turns: u64 = 1000000;
     while 0 < turns {
-        if !step() {
-            return;
+        if !step(input, output)? {
+            return Ok(());
         }
         turns -= 1;
     }
+    Ok(())
 }

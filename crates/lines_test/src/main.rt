@@ -9,6 +9,8 @@ ghost use Rattle.panel_lines.specs.Split.{most_held, chunk_held};
 use panel_lines::answer::{SHOW_BARE, put_ok, put_refused, put_show};
 use panel_lines::line::{LINE_WORDS, Request, read_line};
 use panel_lines::split::{MOST_HELD, take_line};
+use std::io;
+use std::io::{Read, Stdout};
 use text::decimals::put_decimal;
 use text::hex::put_hex;
 use text::signed::put_signed;
@@ -124,83 +126,97 @@ fn say_refused(out: &mut [u8]) -> usize {
     put_newline(out, n)
 }
 
-fn print(s: &[u8], k: usize) {
+fn print(output: Stdout, s: &[u8], k: usize) -> io::Result<()> {
     if k <= s.len() {
-        io::write_all(1, &s[..k]);
+        return output.write_all(&s[..k]);
     }
+    Ok(())
 }
 
 // Says how a line was read.
-fn describe(line: &[u8]) {
+fn describe(output: Stdout, line: &[u8]) -> io::Result<()> {
     let mut out = [0u8; 1100];
     let mut words = [0u64; LINE_WORDS];
     let q = read_line(line, &mut words);
     match q {
         Request::Shape(heap, rows, cols, layers) => {
             let n = say_shape(&mut out, heap, rows, cols, layers);
-            print(&out, n);
+            print(output, &out, n)?;
             let m = say_show(&mut out, heap, rows, cols, layers);
-            print(&out, m);
+            print(output, &out, m)
         }
         Request::Add(weight, n) => {
             let k = say_add(&mut out, weight, &words, n);
-            print(&out, k);
+            print(output, &out, k)
         }
-        Request::Show => {
-            print(b"show\n", 5);
-        }
+        Request::Show => print(output, b"show\n", 5),
         Request::Unreadable => {
             let n = say_refused(&mut out);
-            print(&out, n);
+            print(output, &out, n)
         }
     }
 }
 
 // Describes the line in the first k bytes.
-fn reply(line: &[u8], k: usize) {
+fn reply(output: Stdout, line: &[u8], k: usize) -> io::Result<()> {
     if k <= line.len() {
-        describe(&line[..k]);
+        return describe(output, &line[..k]);
     }
+    Ok(())
+}
+
+// How many bytes of the next line are held, and what the first write that failed answered, after which nothing was written.
+#[derive(Drop)]
+struct Taken {
+    held: usize,
+    written: io::Result<()>,
 }
 
 // Takes the lines out of a chunk, describes those that end in it, and answers how many bytes of the next are held.
-fn take_chunk(chunk: &[u8], line: &mut [u8], held: usize) -> usize
+fn take_chunk(output: Stdout, chunk: &[u8], line: &mut [u8], held: usize) -> Taken
     requires held_le_most_held { held ≤ most_held }
     requires most_held_in_bounds { most_held ≤ length line.old }
-    ensures upper_bound { (result ≤ most_held) × (length line.new ≡ length line.old) }
-    ensures line_after { take result line.new ≡ chunk_held (take held line.old) chunk.now }
+    ensures upper_bound { (result.held ≤ most_held) × (length line.new ≡ length line.old) }
+    ensures line_after { take result.held line.new ≡ chunk_held (take held line.old) chunk.now }
 {
     let mut at = 0;
     let mut n = held;
+    let mut written = Ok(());
     while at < chunk.len() {
         let s = take_line(chunk, at, line, n);
         let k = s.held;
         if s.ended {
-            reply(&*line, k);
+            if written.is_ok() {
+                written = reply(output, &*line, k);
+            }
             n = 0;
         } else {
             n = k;
         }
         at = s.next;
     }
-    n
+    Taken { held: n, written }
 }
 
-fn main() {
+fn main(rt: HostRuntime) -> io::Result<()> {
+    let mut input = rt.stdin();
+    let output = rt.stdout();
     let mut line = [0u8; MOST_HELD];
     let mut chunk = [0u8; 97];
     let mut held = 0;
     let mut turns = u64::MAX;
     while turns > 0 {
-        let got = libc::read(0, &mut chunk);
-        let n = io::count(got, &chunk);
+        let n = input.read(&mut chunk)?;
         if n == 0 {
             break;
         }
-        held = take_chunk(&chunk[..n], &mut line, held);
+        let t = take_chunk(output, &chunk[..n], &mut line, held);
+        t.written?;
+        held = t.held;
         turns -= 1;
     }
     if held > 0 {
-        reply(&line, held);
+        reply(output, &line, held)?;
     }
+    Ok(())
 }

@@ -10,6 +10,8 @@ ghost use Rattle.panel_step.specs.Panel.{longest, answer_line, answers_of, found
 use header::{Header, Shape};
 use panel_lines::split::{MOST_HELD, take_line};
 use panel_step::{LONGEST, LineAnswered, MAX_CANDIDATES, MAX_COUNTERS, answer_line};
+use std::io;
+use std::io::{Read, Stdin, Stdout};
 
 // The bytes that are read at once, and the most that are written at once. Larger ones save no time, and all that the program holds
 // is on the stack: these two, the slices of `main` and the working space of a sum, 167 KB in all.
@@ -27,11 +29,12 @@ struct ChunkAnswered {
     next: usize,
 }
 
-// What goes on from one chunk to the next.
+// What goes on from one chunk to the next, and what the first write that failed answered, after which nothing was written.
 #[derive(Drop)]
 struct Going {
     header: Header,
     held: usize,
+    written: io::Result<()>,
 }
 
 // Answers the line in the first k bytes of `line`, from place `at` of `out` on, behind earlier answers.
@@ -119,14 +122,15 @@ fn take_chunk(
     }
 }
 
-fn print(s: &[u8], k: usize)
+fn print(output: Stdout, s: &[u8], k: usize) -> io::Result<()>
     requires { k ≤ length s.now }
 {
-    io::write_all(1, &s[..k]);
+    output.write_all(&s[..k])
 }
 
 // Answers the lines that end in a chunk, part by part, and writes each part's answers before it goes on.
 fn take_all(
+    output: Stdout,
     chunk: &[u8],
     line: &mut [u8],
     held: usize,
@@ -148,6 +152,7 @@ fn take_all(
     let mut from = 0;
     let mut n = held;
     let mut head = header;
+    let mut written = Ok(());
     while from < chunk.len() {
         let t = take_chunk(
             &chunk[from..],
@@ -160,7 +165,9 @@ fn take_all(
             counts,
             out,
         );
-        print(&*out, t.len);
+        if written.is_ok() {
+            written = print(output, &*out, t.len);
+        }
         head = t.header;
         n = t.held;
         from += t.next;
@@ -168,11 +175,14 @@ fn take_all(
     Going {
         header: head,
         held: n,
+        written,
     }
 }
 
 // Reads the input, chunk by chunk, and answers each chunk's lines before it reads the next.
 fn run(
+    mut input: Stdin,
+    output: Stdout,
     chunk: &mut [u8],
     line: &mut [u8],
     counters: &mut [i64],
@@ -180,7 +190,7 @@ fn run(
     entries: &mut [u64],
     counts: &mut [i64],
     out: &mut [u8],
-)
+) -> io::Result<()>
     requires most_held_in_bounds { most_held ≤ length line.old }
     requires longest_in_bounds { longest ≤ length out.old }
 {
@@ -188,12 +198,12 @@ fn run(
     let mut held = 0;
     let mut turns = u64::MAX;
     while turns > 0 {
-        let got = libc::read(0, chunk);
-        let n = io::count(got, &*chunk);
+        let n = input.read(chunk)?;
         if n == 0 {
             break;
         }
         let t = take_all(
+            output,
             &chunk[..n],
             line,
             held,
@@ -204,6 +214,7 @@ fn run(
             counts,
             out,
         );
+        t.written?;
         header = t.header;
         held = t.held;
         turns -= 1;
@@ -212,13 +223,14 @@ fn run(
         let t = reply(
             &*line, held, header, counters, norms, entries, counts, out, 0,
         );
-        print(&*out, t.len);
+        print(output, &*out, t.len)?;
     }
+    Ok(())
 }
 
 // The slices have room for every shape that is accepted: counters and candidates as many as the panel takes, norms of every row of
 // every layer.
-fn main() {
+fn main(rt: HostRuntime) -> io::Result<()> {
     let mut chunk = [0u8; CHUNK];
     let mut line = [0u8; MOST_HELD];
     let mut counters = [0i64; MAX_COUNTERS];
@@ -227,6 +239,8 @@ fn main() {
     let mut counts = [0i64; MAX_CANDIDATES];
     let mut out = [0u8; ANSWERS];
     run(
+        rt.stdin(),
+        rt.stdout(),
         &mut chunk,
         &mut line,
         &mut counters,
@@ -234,5 +248,5 @@ fn main() {
         &mut entries,
         &mut counts,
         &mut out,
-    );
+    )
 }

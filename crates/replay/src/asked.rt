@@ -9,11 +9,13 @@ use crate::shelf::{
 };
 use estimates::Answer;
 use header::{BottomLayer, CheckedShape, Header, Shape};
+use std::io;
+use std::io::Stdout;
 use sums::G;
 
-fn print_answer(a: Answer) {
-    vectors::print(a.refusal);
-    vectors::print(float64::to_bits(a.value));
+fn print_answer(output: Stdout, a: Answer) -> io::Result<()> {
+    vectors::print(output, a.refusal)?;
+    vectors::print(output, float64::to_bits(a.value))
 }
 
 // The g of the k-th sum: each is summed twice, without and with every key.
@@ -28,14 +30,14 @@ fn g_of(k: u64) -> G {
 }
 
 // 11: L1, L2, cardinality, the six sums, and the panel's answer.
-fn answers(h: Header, counters: &[i64], norms: &[u64], entries: &[u64], counts: &[i64]) {
-    print_answer(estimates::estimate_l1(h));
-    print_answer(estimates::estimate_l2(h, norms));
-    print_answer(estimates::estimate_cardinality(h, counters, norms, entries, counts));
+fn answers(output: Stdout, h: Header, counters: &[i64], norms: &[u64], entries: &[u64], counts: &[i64]) -> io::Result<()> {
+    print_answer(output, estimates::estimate_l1(h))?;
+    print_answer(output, estimates::estimate_l2(h, norms))?;
+    print_answer(output, estimates::estimate_cardinality(h, counters, norms, entries, counts))?;
     let mut k = 0;
     while k < 6 {
         let every = k % 2 == 1;
-        print_answer(estimates::estimate_g_sum(
+        print_answer(output, estimates::estimate_g_sum(
             h,
             counters,
             norms,
@@ -43,18 +45,18 @@ fn answers(h: Header, counters: &[i64], norms: &[u64], entries: &[u64], counts: 
             counts,
             g_of(k),
             every,
-        ));
+        ))?;
         k += 1;
     }
     let p = estimates::panel_answer(h, counters, norms, entries, counts);
-    vectors::print(p.refusal);
-    vectors::print(float64::to_bits(p.l1));
-    vectors::print(float64::to_bits(p.l2));
-    vectors::print(float64::to_bits(p.cardinality));
+    vectors::print(output, p.refusal)?;
+    vectors::print(output, float64::to_bits(p.l1))?;
+    vectors::print(output, float64::to_bits(p.l2))?;
+    vectors::print(output, float64::to_bits(p.cardinality))
 }
 
 // 11 prints the answers of the relay at work. Any other operation asks whether it passes the state check.
-pub fn ask(op: u64, shelf: &[u64]) -> bool {
+pub fn ask(output: Stdout, op: u64, shelf: &[u64]) -> io::Result<bool> {
     let c = lent(shelf, 0, LENT_COUNTERS, CELLS);
     let w = lent(shelf, 0, LENT_NORMS, NORM_WORDS);
     let e = lent(shelf, 0, LENT_ENTRIES, ENTRY_WORDS);
@@ -73,10 +75,10 @@ pub fn ask(op: u64, shelf: &[u64]) -> bool {
     let es = &entries[..e];
     let ks = &counts[..k];
     if op == 11 {
-        answers(h, cs, ws, es, ks);
-        return false;
+        answers(output, h, cs, ws, es, ks)?;
+        return Ok(false);
     }
-    state_check::check_state(h, cs, ws, es, ks)
+    Ok(state_check::check_state(h, cs, ws, es, ks))
 }
 
 // Whether the n words from place `a` on are those from place `b` on.
@@ -116,18 +118,18 @@ pub fn same(shelf: &[u64]) -> bool {
 }
 
 // 16: the refusal of a shape.
-pub fn shape(call: Call) {
+pub fn shape(output: Stdout, call: Call) -> io::Result<()> {
     let n = header::check_shape(
         call.a as usize,
         call.b as usize,
         call.c as usize,
         call.d as usize,
     );
-    say(n, false, 0);
+    say(output, n, false, 0)
 }
 
 // 20: the refusal of a shape of two tiers.
-pub fn two_tier_shape(call: Call) {
+pub fn two_tier_shape(output: Stdout, call: Call) -> io::Result<()> {
     let checked = Shape::new(
         call.a as usize,
         call.b as usize,
@@ -138,16 +140,16 @@ pub fn two_tier_shape(call: Call) {
         call.g as usize,
     );
     match checked {
-        CheckedShape::Good(_) => say(0, false, 0),
-        CheckedShape::Refused(n) => say(n, false, 0),
+        CheckedShape::Good(_) => say(output, 0, false, 0),
+        CheckedShape::Refused(n) => say(output, n, false, 0),
     }
 }
 
 // 17: a bottom layer, or its refusal.
-pub fn bottom(call: Call) {
+pub fn bottom(output: Stdout, call: Call) -> io::Result<()> {
     let b = header::bottom_layer_for_hash(call.a, call.b as usize);
     match b {
-        BottomLayer::At(l) => say(0, false, l as u64),
-        BottomLayer::Refused(n) => say(n, false, 0),
+        BottomLayer::At(l) => say(output, 0, false, l as u64),
+        BottomLayer::Refused(n) => say(output, n, false, 0),
     }
 }

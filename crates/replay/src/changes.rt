@@ -11,6 +11,8 @@ use crate::shelf::{
     put_signed, take_signed,
 };
 use header::{Answered, Header};
+use std::io;
+use std::io::Stdout;
 use univmon_delta::Fidelity;
 
 // A call's record may have more words than any shape asks for.
@@ -177,7 +179,7 @@ fn on_lent(
 }
 
 // Runs a call on the relay at work: its slices are taken off the shelf, lent, and put back.
-pub fn run(call: Call, shelf: &mut [u64]) {
+pub fn run(output: Stdout, call: Call, shelf: &mut [u64]) -> io::Result<()> {
     let c = lent(&*shelf, 0, LENT_COUNTERS, CELLS);
     let w = lent(&*shelf, 0, LENT_NORMS, NORM_WORDS);
     let e = lent(&*shelf, 0, LENT_ENTRIES, ENTRY_WORDS);
@@ -204,5 +206,5 @@ pub fn run(call: Call, shelf: &mut [u64]) {
     let words = words_of(out.header);
     copy(&words, 0, shelf, 0, HEAD_WORDS);
     let digest = of_words(whole(&*shelf), &list, 0, n);
-    say(out.refusal, ask(call.op, &*shelf), digest);
+    say(output, out.refusal, ask(output, call.op, &*shelf)?, digest)
 }

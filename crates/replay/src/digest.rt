@@ -3,6 +3,8 @@ use crate::heads::{HEAD_WORDS, bit_of};
 use crate::shelf::{
     COUNTERS, COUNTS, ENTRIES, LENT_COUNTERS, LENT_COUNTS, LENT_ENTRIES, LENT_NORMS, NORMS, get,
 };
+use std::io;
+use std::io::Stdout;
 
 // The digest of n words from place `at` on, behind those that have the digest `start`.
 pub fn of_words(start: u64, words: &[u64], at: usize, n: usize) -> u64 {
@@ -25,13 +27,14 @@ pub fn whole(shelf: &[u64]) -> u64 {
 }
 
 // A refusal's number in the top byte, 1 below it where the state passes the check, and a digest.
-pub fn say(refusal: u64, sound: bool, digest: u64) {
+pub fn say(output: Stdout, refusal: u64, sound: bool, digest: u64) -> io::Result<()> {
     if 255 < refusal {
-        return;
+        return Ok(());
     }
     vectors::print(
+        output,
         refusal * 0x100_0000_0000_0000
             + bit_of(sound) * 0x1_0000_0000_0000
             + digest % vectors::PRIME,
-    );
+    )
 }

@@ -15,9 +15,11 @@ use crate::shelf::{
     ALL, CALL_WORDS, COUNTERS, COUNTS, ENTRIES, NORMS, PLACE, PLACES, SECOND, WORDS, get, set,
     shift,
 };
+use std::io;
+use std::io::{Stdin, Stdout};
 
 // An operation and its first seven words; operation 0 is the end of the input.
-#[derive(Drop)]
+#[derive(Clone, Copy)]
 pub struct Call {
     pub op: u64,
     pub a: u64,
@@ -30,9 +32,9 @@ pub struct Call {
 }
 
 // Reads a line, puts its words on the shelf, and answers its operation.
-fn read(shelf: &mut [u64]) -> u64 {
+fn read(input: Stdin, shelf: &mut [u64]) -> u64 {
     let mut text = [0u8; 17 * CALL_WORDS];
-    let line = vectors::next(&mut text);
+    let line = vectors::next(input, &mut text);
     let mut k = 0;
     while k < CALL_WORDS {
         set(shelf, WORDS, k, vectors::word(&text, k));
@@ -74,38 +76,40 @@ fn place_at(n: u64) -> usize {
 // One operation. 10: a word of the relay at work is set by hand. 12: whether it holds what the second one holds.
 // 13: the relay in place a is copied to place b. 14: b words of the call are kept as record number a. 15: the
 // relay in place a is copied to be the second one. 18: the state check.
-fn turn(call: Call, shelf: &mut [u64]) {
+fn turn(output: Stdout, call: Call, shelf: &mut [u64]) -> io::Result<()> {
     let op = call.op;
     match op {
         10 => set(shelf, slice_at(call.a), call.b as usize, call.c),
         11 => {
-            asked::ask(op, &*shelf);
+            asked::ask(output, op, &*shelf)?;
         }
-        12 => vectors::print_flag(asked::same(&*shelf)),
+        12 => vectors::print_flag(output, asked::same(&*shelf))?,
         13 => shift(shelf, place_at(call.a), place_at(call.b), PLACE),
         14 => shift(shelf, WORDS + 2, record_at(call.a), call.b as usize),
         15 => shift(shelf, place_at(call.a), SECOND, PLACE),
-        16 => asked::shape(call),
-        17 => asked::bottom(call),
-        18 => vectors::print_flag(asked::ask(op, &*shelf)),
-        20 => asked::two_tier_shape(call),
-        _ => changes::run(call, shelf),
+        16 => asked::shape(output, call)?,
+        17 => asked::bottom(output, call)?,
+        18 => vectors::print_flag(output, asked::ask(output, op, &*shelf)?)?,
+        20 => asked::two_tier_shape(output, call)?,
+        _ => changes::run(output, call, shelf)?,
     }
+    Ok(())
 }
 
-fn serve(shelf: &mut [u64]) {
+fn serve(input: Stdin, output: Stdout, shelf: &mut [u64]) -> io::Result<()> {
     let mut turns: u64 = 1000000;
     while 0 < turns {
-        let op = read(shelf);
+        let op = read(input, shelf);
         if op == 0 {
-            return;
+            return Ok(());
         }
-        turn(call_of(op, &*shelf), shelf);
+        turn(output, call_of(op, &*shelf), shelf)?;
         turns -= 1;
     }
+    Ok(())
 }
 
-fn main() {
+fn main(rt: HostRuntime) -> io::Result<()> {
     let mut shelf = [0u64; ALL];
-    serve(&mut shelf);
+    serve(rt.stdin(), rt.stdout(), &mut shelf)
 }

@@ -3,6 +3,8 @@
 ghost use Rattle.std.specs.Prelude.{◌<◌, length};
 
 use crate::trials::{LONGEST, try_text};
+use std::io;
+use std::io::Stdout;
 
 // How often each came out.
 #[derive(Drop)]
@@ -36,7 +38,7 @@ impl Sums {
 }
 
 // The ways to break a text at place k: another byte there, all from there on cut off, its byte left out, its byte doubled.
-#[derive(Drop)]
+#[derive(Clone, Copy)]
 enum Way {
     Changed(u8),
     Cut,
@@ -79,12 +81,12 @@ fn bytes_of(text: &[u8], way: Way, k: usize) -> usize
 }
 
 // Breaks a text into a space of its own, and tries it.
-fn try_broken(lens: u64, text: &[u8], way: Way, k: usize) -> u64
+fn try_broken(output: Stdout, lens: u64, text: &[u8], way: Way, k: usize) -> io::Result<u64>
     requires { k < length text.now }
 {
     let n = bytes_of(text, way, k);
     if LONGEST < n {
-        return 2;
+        return Ok(2);
     }
     let mut broken = [0u8; LONGEST];
     let mut i = 0;
@@ -92,43 +94,43 @@ fn try_broken(lens: u64, text: &[u8], way: Way, k: usize) -> u64
         broken[i] = byte_of(text, way, k, i);
         i += 1;
     }
-    try_text(lens, &broken[..n], false)
+    try_text(output, lens, &broken[..n], false)
 }
 
 // At every place, with what came out before.
-fn break_places(lens: u64, text: &[u8], way: Way, before: Sums) -> Sums {
+fn break_places(output: Stdout, lens: u64, text: &[u8], way: Way, before: Sums) -> io::Result<Sums> {
     let mut all = before;
     let mut k = 0;
     while k < text.len() {
-        all = all.with(try_broken(lens, text, way, k));
+        all = all.with(try_broken(output, lens, text, way, k)?);
         k += 1;
     }
-    all
+    Ok(all)
 }
 
 // Every byte at every place.
-fn change_places(lens: u64, text: &[u8]) -> Sums {
+fn change_places(output: Stdout, lens: u64, text: &[u8]) -> io::Result<Sums> {
     let mut all = Sums::none();
     let mut b: u64 = 0;
     while b < 256 {
-        all = break_places(lens, text, Way::Changed(b as u8), all);
+        all = break_places(output, lens, text, Way::Changed(b as u8), all)?;
         b += 1;
     }
-    all
+    Ok(all)
 }
 
-fn print_sums(s: Sums) {
-    io::print_decimal(1, s.refused);
-    io::write_all(1, b" refused, ");
-    io::print_decimal(1, s.same);
-    io::write_all(1, b" written to the same bytes, ");
-    io::print_decimal(1, s.other);
-    io::write_all(1, b" to others\n");
+fn print_sums(output: Stdout, s: Sums) -> io::Result<()> {
+    let Sums {
+        refused,
+        same,
+        other,
+    } = s;
+    println!(output; "{refused} refused, {same} written to the same bytes, {other} to others")
 }
 
-pub fn break_text(lens: u64, text: &[u8]) {
-    print_sums(change_places(lens, text));
-    print_sums(break_places(lens, text, Way::Cut, Sums::none()));
-    print_sums(break_places(lens, text, Way::LeftOut, Sums::none()));
-    print_sums(break_places(lens, text, Way::Doubled, Sums::none()));
+pub fn break_text(output: Stdout, lens: u64, text: &[u8]) -> io::Result<()> {
+    print_sums(output, change_places(output, lens, text)?)?;
+    print_sums(output, break_places(output, lens, text, Way::Cut, Sums::none())?)?;
+    print_sums(output, break_places(output, lens, text, Way::LeftOut, Sums::none())?)?;
+    print_sums(output, break_places(output, lens, text, Way::Doubled, Sums::none())?)
 }

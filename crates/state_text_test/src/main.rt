@@ -10,6 +10,8 @@ mod trials;
 
 use crate::breaks::break_text;
 use crate::trials::{LONGEST, least, try_text};
+use std::io;
+use std::io::{Read, Stdin, Stdout};
 
 const HEAD_BYTES: usize = 2 * 17;
 
@@ -21,45 +23,46 @@ enum Case {
 }
 
 // Reads a case, its text to the front of `text`.
-fn next(text: &mut [u8]) -> Case {
+fn next(mut input: Stdin, text: &mut [u8]) -> Case {
     let mut head = [0u8; HEAD_BYTES];
-    if !vectors::read(&mut head, 2) {
+    if !vectors::read(input, &mut head, 2) {
         return Case::End;
     }
     let n = least(vectors::word(&head, 1), text.len());
-    let got = io::read_full(0, &mut text[..n]);
-    if got != n {
+    if input.read_exact(&mut text[..n]).is_err() {
         return Case::End;
     }
     Case::Text(vectors::word(&head, 0), n)
 }
 
 // Tries the first n bytes, aloud, and breaks them if they are the first text.
-fn turn(lens: u64, text: &[u8], n: usize, first: bool) {
+fn turn(output: Stdout, lens: u64, text: &[u8], n: usize, first: bool) -> io::Result<()> {
     if text.len() < n {
-        return;
+        return Ok(());
     }
-    try_text(lens, &text[..n], true);
+    try_text(output, lens, &text[..n], true)?;
     if first {
-        break_text(lens, &text[..n]);
+        break_text(output, lens, &text[..n])?;
     }
+    Ok(())
 }
 
-fn run(text: &mut [u8]) {
+fn run(input: Stdin, output: Stdout, text: &mut [u8]) -> io::Result<()> {
     let mut first = true;
     let mut turns: u64 = 1000000;
     while 0 < turns {
-        let x = next(text);
+        let x = next(input, text);
         let Case::Text(lens, n) = x else {
-            return;
+            return Ok(());
         };
-        turn(lens, &*text, n, first);
+        turn(output, lens, &*text, n, first)?;
         first = false;
         turns -= 1;
     }
+    Ok(())
 }
 
-fn main() {
+fn main(rt: HostRuntime) -> io::Result<()> {
     let mut text = [0u8; LONGEST];
-    run(&mut text);
+    run(rt.stdin(), rt.stdout(), &mut text)
 }

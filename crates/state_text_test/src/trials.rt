@@ -5,6 +5,8 @@ use crate::digest::{bit_of, repeated, whole};
 use header::{Answered, Header, Shape, Totals};
 use state_reader::read_state;
 use state_text::write_state;
+use std::io;
+use std::io::Stdout;
 
 // The greatest state and the longest text that are tried.
 const CELLS: usize = 4096;
@@ -85,18 +87,17 @@ fn write_in(
     }
 }
 
-fn say(a: Answer) {
-    io::write_all(1, b" ");
-    io::print_decimal(1, a.refusal);
-    io::write_all(1, b" ");
-    io::print_decimal(1, a.bytes as u64);
-    io::write_all(1, b" ");
-    io::print_decimal(1, bit_of(a.held));
+fn say(output: Stdout, a: Answer) -> io::Result<()> {
+    let refusal = a.refusal;
+    let bytes = a.bytes;
+    let held = bit_of(a.held);
+    print!(output; " {refusal} {bytes} {held}")
 }
 
 // Says a digest of the state, and what the writer answers for one byte less than the text has, for just as many and for
 // all that there is; then, with a weight that no state has, for one less again, where two refusals apply.
 fn say_accepted(
+    output: Stdout,
     digest: u64,
     h: Header,
     counters: &[i64],
@@ -104,20 +105,19 @@ fn say_accepted(
     entries: &[u64],
     counts: &[i64],
     text: &[u8],
-) {
-    io::write_all(1, b"0 ");
-    io::print_decimal(1, digest);
+) -> io::Result<()> {
+    print!(output; "0 {digest}")?;
     let n = text.len();
     let less = least(std::num::wrapping_sub_u64(n as u64, 1), n);
-    say(write_in(h, counters, norms, entries, counts, text, less));
-    say(write_in(h, counters, norms, entries, counts, text, n));
-    say(write_in(h, counters, norms, entries, counts, text, usize::MAX));
+    say(output, write_in(h, counters, norms, entries, counts, text, less))?;
+    say(output, write_in(h, counters, norms, entries, counts, text, n))?;
+    say(output, write_in(h, counters, norms, entries, counts, text, usize::MAX))?;
     let bad = h.with_totals(Totals {
         weight: u64::MAX,
         updates: 0,
     });
-    say(write_in(bad, counters, norms, entries, counts, text, less));
-    io::write_all(1, b"\n");
+    say(output, write_in(bad, counters, norms, entries, counts, text, less))?;
+    output.write_all(b"\n")
 }
 
 // An accepted text: 1 where the state is written to the same bytes, else 2.
@@ -141,21 +141,20 @@ fn accepted(
 }
 
 // A refused text: 0 where the header is zero and the slices are as they were, else 2.
-fn refused(n: u64, kept: bool, aloud: bool) -> u64 {
+fn refused(output: Stdout, n: u64, kept: bool, aloud: bool) -> io::Result<u64> {
     if aloud {
-        io::print_decimal(1, n);
-        io::write_all(1, b" ");
-        io::print_decimal(1, bit_of(kept));
-        io::write_all(1, b"\n");
+        let bit = bit_of(kept);
+        println!(output; "{n} {bit}")?;
     }
     if kept {
-        return 0;
+        return Ok(0);
     }
-    2
+    Ok(2)
 }
 
 // What was read, with the slices that it was read into; before, their digest with a header of zeros was `was`.
 fn judge(
+    output: Stdout,
     r: Answered,
     counters: &[i64],
     norms: &[u64],
@@ -164,19 +163,20 @@ fn judge(
     text: &[u8],
     was: u64,
     aloud: bool,
-) -> u64 {
+) -> io::Result<u64> {
     let h = r.header;
     let is = whole(h, counters, norms, entries, counts);
     if r.refusal != 0 {
-        return refused(r.refusal, is == was, aloud);
+        return refused(output, r.refusal, is == was, aloud);
     }
     if aloud {
-        say_accepted(is, h, counters, norms, entries, counts, text);
+        say_accepted(output, is, h, counters, norms, entries, counts, text)?;
     }
-    accepted(h, counters, norms, entries, counts, text)
+    Ok(accepted(h, counters, norms, entries, counts, text))
 }
 
 fn try_lent(
+    output: Stdout,
     text: &[u8],
     counters: &mut [i64],
     norms: &mut [u64],
@@ -184,9 +184,10 @@ fn try_lent(
     counts: &mut [i64],
     was: u64,
     aloud: bool,
-) -> u64 {
+) -> io::Result<u64> {
     let r = read_state(text, counters, norms, entries, counts);
     judge(
+        output,
         r, &*counters, &*norms, &*entries, &*counts, text, was, aloud,
     )
 }
@@ -194,7 +195,7 @@ fn try_lent(
 // Reads a text into slices whose lengths are the word's four parts. 0 for one that is refused, 1 for one that is written
 // to the same bytes, 2 for any other. Aloud: a line that says the refusal and whether everything is as it was, or 0, a
 // digest of the state, and for each writing the refusal, the number of bytes and whether they are the text's.
-pub fn try_text(lens: u64, text: &[u8], aloud: bool) -> u64 {
+pub fn try_text(output: Stdout, lens: u64, text: &[u8], aloud: bool) -> io::Result<u64> {
     let c = least(lens / 0x1_0000_0000_0000, CELLS);
     let w = least(lens / 0x1_0000_0000 % 0x1_0000, NORM_WORDS);
     let e = least(lens / 0x1_0000 % 0x1_0000, ENTRY_WORDS);
@@ -204,6 +205,7 @@ pub fn try_text(lens: u64, text: &[u8], aloud: bool) -> u64 {
     let mut entries = [WAS as u64; ENTRY_WORDS];
     let mut counts = [WAS; SEATS];
     try_lent(
+        output,
         text,
         &mut counters[..c],
         &mut norms[..w],
