@@ -28,6 +28,9 @@ def put(p, t):
         f.write(t)
 
 
+SOURCE = set()
+
+
 def norm(s):
     return s.replace("-", "_").replace("μ", "decreases")
 
@@ -124,6 +127,8 @@ class Fn:
         self.byname = {norm(k): k for k in self.place}
         self.loops = {l[0][0]: (l[0][1], l[1], info["changed"][i]) for i, l in enumerate(info["loops"])}
         self.used_places = set()
+        self.domain = {}
+        self.steps = {p[2][1] for p in info["places"]}
 
     def spelled(self, p):
         arm = self.place[p]["arm"]
@@ -155,7 +160,7 @@ class Fn:
                 k += 1
             q = self.up(place, k)
             rest = parts[k:]
-            if q is None and rest:
+            if q is None:
                 # there were more places once: the start
                 q = "Start"
             if q is None:
@@ -164,6 +169,9 @@ class Fn:
             if not rest:
                 if goal is None:
                     return m.group(0)
+                h = re.search(r"([\w'-]+)\s+\(*$", m.string[: m.start()])
+                if h and h.group(1) in self.domain:
+                    q = self.domain[h.group(1)]
                 new = self.spelled(q)
                 self.used_places.add(new)
                 return f"(goal.at.{goal} c).{new}"
@@ -209,6 +217,7 @@ class Fn:
         term = PATH.sub(one, term)
         # what a `!` tested, under its own name
         term = re.sub(r"not-(true|false) _ (c\.[\w-]+)\.(true|false)(?:-raw)?(?![\w-])", r"\2.\3", term)
+        term = re.sub(r"(?<=\.)([a-z]\w*(?:-\w+)+)", lambda x: x.group(1).replace("-", "_") if x.group(1).replace("-", "_") in SOURCE and not x.group(1) in self.steps else x.group(1), term)
         # a call bound by a `let`: its clauses
         for name, step in re.findall(r"let (\w+) = c\.([\w-]+) in", term):
             r = next((i for i, p in enumerate(self.info["places"]) if p[2][1] == step), None)
@@ -353,6 +362,11 @@ def turn(crate, fn, info, folder):
         i = records.index(tuple(fields))
         return f"by_clause{i + 1 if i else ''}"
 
+    for d in decls:
+        if d[0] == "helper":
+            m = re.search(r"(?:: |\(\w+ : )tie\.([A-Z]\S*?)(?:\)| |$)", "\n".join(d[2]))
+            if m and F.byname.get(norm(m.group(1))):
+                F.domain[d[1]] = F.byname[norm(m.group(1))]
     said = ""
     for i, d in enumerate(decls):
         if d[0] == "comment":
@@ -381,18 +395,36 @@ def turn(crate, fn, info, folder):
                 want = params
             if len(want) != len(params):
                 F.bad.append(f"{kind}: parameters {params} against {want}")
+            to = {}
             for p, w in zip(params, want):
                 base = w[:-1] if w.endswith("₀") else w
-                to = f"l.initial.{base}" if w.endswith("₀") else f"l.{base}"
-                if p == "_":
-                    continue
-                term = re.sub(r"(?<![\w'.₀-₉«-])" + re.escape(p) + r"(?![\w'₀-₉-])", to, term)
+                if p != "_":
+                    to[p] = f"l.initial.{base}" if w.endswith("₀") else f"l.{base}"
+            any_of = "|".join(sorted(map(re.escape, to), key=len, reverse=True))
+            if to:
+                term = re.sub(r"(?<![\w'.₀-₉«-])(" + any_of + r")(?![\w'₀-₉-])", lambda x: to[x.group(1)], term)
             invs.append((f"{what}-{new}", unf, " l", term, note))
             continue
         if d[0] == "helper":
             sig, rest = "\n".join(d[2]), "\n".join(d[3])
             m = re.search(r"\(c : tie\.(\S+?)((?: invariant-\S+| decreases-\S+)*)\)", sig)
             if not m:
+
+                def place_of(x):
+                    q = F.byname.get(norm(x.group(1)))
+                    if q is None:
+                        return x.group(0)
+                    places.add(F.place[q]["new"])
+                    return F.place[q]["new"]
+
+                sig = re.sub(r"tie\.([A-Z][\w'-]*)", place_of, sig)
+                if d[1] in F.domain:
+                    rest = re.sub(r"^(" + re.escape(d[1]) + r") (\w+) =", r"\1 \2 =", rest)
+                    v = re.match(re.escape(d[1]) + r" (\w+)", rest.split("unfolding")[0] or rest)
+                    if v:
+                        body = re.sub(r"(?<![\w'.-])" + v.group(1) + r"(?=\.)", "c", rest)
+                        body = F.paths(body, F.domain[d[1]], None)
+                        rest = re.sub(r"(?<![\w'.-])c(?=\.)", v.group(1), body)
                 if "tie." in sig + rest:
                     F.bad.append("helper with tie: " + sig.split("\n")[0])
                 helpers.append(note + sig + "\n" + rest)
@@ -430,6 +462,9 @@ def turn(crate, fn, info, folder):
         used = re.search(r"\bκs\b", term)
         if used:
             F.bad.append(f"{name}: uses κs")
+        if re.search(r"\.enum[_-](told|known)", term) and not re.search(r"[\w]{3,} .*enum[_-]told.*\w{4,} ", term):
+            print(f"{crate} {fn}: {goal}: left to the check: {term.strip()[:100]}")
+            continue
         term = F.paths(term, place, goal)
         if "tie." in term:
             F.bad.append(f"{name}: cites tie")
@@ -468,6 +503,8 @@ def turn(crate, fn, info, folder):
 
 def main():
     crate, only = sys.argv[1], sys.argv[2:]
+    for p in glob.glob("crates/*/src/**/*.rt", recursive=True):
+        SOURCE.update(re.findall(r"[a-z]\w*_\w+", read(p)))
     gen = f"/tmp/names-{os.getpid()}"
     subprocess.run(["rm", "-rf", gen])
     r = subprocess.run(["rt", "check", "--generated", gen, "--old-names"], cwd=f"crates/{crate}", capture_output=True, text=True)
