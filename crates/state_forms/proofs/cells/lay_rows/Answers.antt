@@ -40,7 +40,7 @@ slice_bounds-lay_row-end c = let b : c.loop-r.r * c.args.cols + c.args.cols ≤ 
 pub lay_row-p-requires : goal.lay_row-p-requires
 lay_row-p-requires c =
     going_room (one_text (row_listing c.args.l c.args.cols) c.loop-r.r (take (c.loop-r.r * c.args.cols + c.args.cols - c.loop-r.r * c.args.cols) (drop (c.loop-r.r * c.args.cols) c.args.cells.now)))
-    (sparse_text (row_listing c.args.l c.args.cols) (c.loop-r.r + 1) (rows_of c.args.cols (c.args.rows - (c.loop-r.r + 1)) (drop ((c.loop-r.r + 1) * c.args.cols) c.args.cells.now))) c.loop-r.invariant.1 ((rows_step c.args.l c.args.cols c.args.rows c.loop-r.r c.args.cells.now c.loop-r-test.true)) c.requires.text_room
+    (sparse_text (row_listing c.args.l c.args.cols) (c.loop-r.r + 1) (rows_of c.args.cols (c.args.rows - (c.loop-r.r + 1)) (drop ((c.loop-r.r + 1) * c.args.cols) c.args.cells.now))) c.loop-r.invariant.1 (rows_step c.args.l c.args.cols c.args.rows c.loop-r.r c.args.cells.now c.loop-r-test.true) c.requires.text_room
 
 pub overflow_add-r : goal.overflow_add-r
 overflow_add-r c = omega arith
@@ -49,7 +49,7 @@ pub loop-r-smaller : goal.loop-r-smaller
 loop-r-smaller c = omega arith
 
 pub loop-r-preserved : goal.loop-r-preserved
-loop-r-preserved c = (omega arith, going_on c.loop-r.invariant.1 ((rows_step c.args.l c.args.cols c.args.rows c.loop-r.r c.args.cells.now c.loop-r-test.true)) c.lay_row-p.ensures)
+loop-r-preserved c = (omega arith, going_on c.loop-r.invariant.1 (rows_step c.args.l c.args.cols c.args.rows c.loop-r.r c.args.cells.now c.loop-r-test.true) c.lay_row-p.ensures)
 
 pub shape_of-out : goal.shape_of-out
 shape_of-out c = c.loop-r.invariant.1.long

@@ -24,7 +24,7 @@ pub lay_key-p-requires : goal.lay_key-p-requires
 lay_key-p-requires c =
     rw (c.item_at-item.ensures, to_z-of_z (sfits_of c.lay_key-arg-in-loop-i-1.given))
     (going_room ((key_format c.args.l).write (cand_of (item_of c.args.entries.now c.loop-i.i) (get_or c.args.counts.now c.loop-i.i (pos 0))))
-    (keys_text c.args.l (drop (c.loop-i.i + 1) (take c.args.len (cands_of c.args.entries.now c.args.counts.now)))) c.loop-i.invariant.1 ((keys_step c.args.l c.args.len c.loop-i.i c.args.entries.now c.args.counts.now c.loop-i-test.true c.requires.len_in_bounds.0)) c.requires.text_room)
+    (keys_text c.args.l (drop (c.loop-i.i + 1) (take c.args.len (cands_of c.args.entries.now c.args.counts.now)))) c.loop-i.invariant.1 (keys_step c.args.l c.args.len c.loop-i.i c.args.entries.now c.args.counts.now c.loop-i-test.true c.requires.len_in_bounds.0) c.requires.text_room)
 
 pub overflow_add-i : goal.overflow_add-i
 overflow_add-i c = omega arith
@@ -33,7 +33,7 @@ pub loop-i-smaller : goal.loop-i-smaller
 loop-i-smaller c = omega arith
 
 pub loop-i-preserved : goal.loop-i-preserved
-loop-i-preserved c = (omega arith, going_on c.loop-i.invariant.1 ((keys_step c.args.l c.args.len c.loop-i.i c.args.entries.now c.args.counts.now c.loop-i-test.true c.requires.len_in_bounds.0)) (rw (c.item_at-item.ensures, to_z-of_z (sfits_of c.lay_key-arg-in-loop-i-1.given)) at c.lay_key-p.ensures))
+loop-i-preserved c = (omega arith, going_on c.loop-i.invariant.1 (keys_step c.args.l c.args.len c.loop-i.i c.args.entries.now c.args.counts.now c.loop-i-test.true c.requires.len_in_bounds.0) (rw (c.item_at-item.ensures, to_z-of_z (sfits_of c.lay_key-arg-in-loop-i-1.given)) at c.lay_key-p.ensures))
 
 pub shape_of-out : goal.shape_of-out
 shape_of-out c = c.loop-i.invariant.1.long
