@@ -10,7 +10,6 @@ use lib.IntN.{ℤ, pos}
 use lib.Seq.{length-take-le}
 use lib.Dec.{eqb}
 use borrow.Author.Tests.{eqb-true}
-use Rattle.words.specs.inner.Copies.{Front}
 use Rattle.heap_moves.specs.declared.Item.{Item}
 use Rattle.heap_moves.specs.Cands.{Cand}
 use Rattle.heap_moves.specs.Flat.{item_of, cands_of}
@@ -18,7 +17,7 @@ use Rattle.heap_moves.proofs.Views.{item-drop, item_path, length-cands}
 use Rattle.heap.specs.Offer.{find}
 use Rattle.heap.specs.inner.Slices.{table_of}
 use Rattle.layer.specs.Merge.{has_key, firsts, items}
-use Rattle.layer.specs.inner.Gather.{item_keys, items_from, items_of, keys_of}
+use Rattle.layer.specs.inner.Gather.{item_keys, items_from, items_of, keys_of, Front}
 
 -- ---- or
 
@@ -139,7 +138,7 @@ pub items-table : (es : List ℕ) (ns : List ℤ) (n : ℕ) → n ≤ length ns 
 unfolding items
 items-table es ns n h = sym (items-of es ns n h)
 
-pub front_items : (es fs : List ℕ) (k n i : ℕ) → Front 0 k es fs → 4 * (i + n) ≤ k → items_from fs n i ≡ items_from es n i
+pub front_items : (es fs : List ℕ) (k n i : ℕ) → Front k es fs → 4 * (i + n) ≤ k → items_from fs n i ≡ items_from es n i
 unfolding items_from
 front_items es fs k zero i f h = refl
 front_items es fs k (suc n) i f h =

@@ -7,7 +7,6 @@ use mathlib.Core.Bool.{Bool, true, false, cond}
 use mathlib.Core.List.{List, [], ◌∷◌, ◌++◌}
 use lib.ListN.{length, get_or, replicate, length-append}
 use lib.IntN.{ℤ, pos}
-use Rattle.words.specs.inner.Copies.{Front}
 use Rattle.countsketch_l2_norm.specs.Estimate.{estimate_of}
 use Rattle.heap_moves.specs.declared.Item.{Item}
 use Rattle.heap_moves.specs.Cands.{Cand, no_cand}
@@ -23,7 +22,7 @@ use Rattle.layer.specs.declared.Dims.{Dims}
 use Rattle.layer.specs.declared.Merged.{Merged}
 use Rattle.layer.specs.Layer.{hash_by, count_of, offer_to}
 use Rattle.layer.specs.Merge.{has_key, firsts, offer_all, offer_answers}
-use Rattle.layer.specs.inner.Gather.{Gathered, merge_table, offer_one, gather, items_from, items_of, keys_of, first_at, gathered_of}
+use Rattle.layer.specs.inner.Gather.{Front, Gathered, merge_table, offer_one, gather, items_from, items_of, keys_of, first_at, gathered_of}
 use Rattle.layer.proofs.Steps.{offer-few}
 use Rattle.layer.proofs.Firsts.{firsts-append, firsts-few, front_items, items-many, Finds, find-has, find_hasnt, Seen, seen_none, seen_known, seen_new}
 
@@ -206,7 +205,7 @@ merge-list d cells xs ys t list z h k =
     four = omega arith
 
 pub merge-two : (d : Dims) (cells : List ℤ) (es cp ot : List ℕ) (len len₂ : ℕ) (es₁ es₂ es₃ : List ℕ) (ns₁ ns₂ ns₃ : List ℤ) (list₁ list₂ list₃ : List ℕ) (g₂ g₃ : Merged)
-    → Front 0 (4 * len) es cp → es₁ ≡ replicate (4 * d.size) 0 → ns₁ ≡ replicate d.size (pos 0) → list₁ ≡ replicate (4 * d.size) 0 → len ≤ d.size → len₂ ≤ d.size
+    → Front (4 * len) es cp → es₁ ≡ replicate (4 * d.size) 0 → ns₁ ≡ replicate d.size (pos 0) → list₁ ≡ replicate (4 * d.size) 0 → len ≤ d.size → len₂ ≤ d.size
     → gathered_of es₂ ns₂ list₂ g₂ ≡ gather d cells (keys_of cp 0) (items_of cp len) (gathered_of es₁ ns₁ list₁ (record { len = 0; keys = 0 }))
     → gathered_of es₃ ns₃ list₃ g₃ ≡ gather d cells (keys_of cp len) (items_of ot len₂) (gathered_of es₂ ns₂ list₂ g₂)
     → gathered_of es₃ ns₃ list₃ g₃ ≡ merge_table d cells (items_of es len ++ items_of ot len₂)

@@ -4,9 +4,9 @@ ghost use Rattle.std.specs.Prelude.{◌≡◌, ◌++◌, ℕ, ◌+◌, ◌*◌, 
 ghost use Rattle.heap_moves.specs.Cands.{most_cands};
 ghost use Rattle.layer.specs.inner.Gather.{gathered_in, gathered_out, merge_table, offer_one, gather, items_of, keys_of, first_at, CountersRead, Seats, Entries, Sofar};
 
+use crate::filling::{copy_words, zero_counts, zero_words};
 use crate::{Dims, Merged};
 use heap_moves::Item;
-use words::{copy_words, zero_counts, zero_words};
 
 // Offers one more key, with its count, and tells what the offer did in the next place of the list.
 fn offer_one(

@@ -8,5 +8,5 @@ pub fn zero_places(list: &mut [u64], layers: usize)
     ensures { list.new ≡ replicate (2 * layers) 0 ++ drop (2 * layers) list.old }
 {
     let n = 2 * layers;
-    words::zero_words(&mut list[..n]);
+    layer::zero_words(&mut list[..n]);
 }

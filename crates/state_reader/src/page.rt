@@ -46,8 +46,8 @@ pub fn read_page(
     let Next::At(q) = b else {
         return PageLines::Bad;
     };
-    words::zero_words(entries);
-    words::zero_counts(counts);
+    layer::zero_words(entries);
+    layer::zero_counts(counts);
     let d = read_keys(s, q, l, dims.size, entries, counts);
     let KeyLines::At(len, u) = d else {
         return PageLines::Bad;
