@@ -95,7 +95,7 @@ def record(term, fields):
     for i in range(len(s)):
         if s[i] == "(" and shut(s, i) == len(s):
             before = s[:i].rstrip()
-            if before and not re.search(r"(\bin|\brw .*\))$", before):
+            if before and not re.search(r"(\bin|\brw (?:\(.*\)|c\.[\w.-]+))$", before):
                 continue
             ps = parts(s[i + 1 : -1])
             while len(ps) < len(fields) and len(ps) > 1 and ps[-1].startswith("(") and shut(ps[-1], 0) == len(ps[-1]):
@@ -106,7 +106,7 @@ def record(term, fields):
             if len(ps) != len(fields):
                 return None
             r = "record {\n" + "".join(f"      {f} = {p};\n" for f, p in zip(fields, ps)) + "    }"
-            return s[:i] + (f"({r})" if before.endswith(")") else r)
+            return s[:i] + (f"({r})" if before and not before.endswith("in") else r)
     # the call of a lemma that gives a tuple: its parts one by one
     i = 0
     while m := re.match(r"\s*let \w+ [^\n]* in[ \n]", s[i:]):
@@ -117,6 +117,25 @@ def record(term, fields):
     n = len(fields)
     at = ["t" + ".1" * k + (".0" if k < n - 1 else "") for k in range(n)]
     return s[:i] + f"\n    let t = {last} in\n    record {{\n" + "".join(f"      {f} = {a};\n" for f, a in zip(fields, at)) + "    }"
+
+
+def untuple(term):
+    """a `let` of a tuple of paths whose parts are named after it: the paths in their place"""
+    for m in re.finditer(r"let (\w+) = (\([\w.,() -]+\)) in\s*", term):
+        name, tup = m.group(1), m.group(2)
+        if shut(tup, 0) != len(tup) or not re.fullmatch(r"[(), ]*(?:c\.[\w.-]+[(), ]*)+", tup):
+            continue
+        rest = term[m.end() :]
+
+        def part(k):
+            t, way = tup, re.findall(r"\.([01])", k.group(1))
+            while way and t.startswith("(") and shut(t, 0) == len(t):
+                ps = parts(t[1:-1])
+                t, way = ps[int(way[0])], way[1:]
+            return t + "".join("." + w for w in way)
+
+        return untuple(term[: m.start()] + re.sub(r"(?<![\w'.-])" + name + r"((?:\.[01])+)(?![\w'-])", part, rest))
+    return term
 
 
 def tupled(path, clauses):
@@ -221,6 +240,15 @@ class Fn:
             elif len(rest) > 1 and rest[1] == "ensures":
                 r = next((i for i, p in enumerate(self.info["places"]) if p[2][1] == rest[0]), None)
                 clauses, at = (self.info["clauses"][r] or {}).get("fields") if r is not None else None, 2
+            callee = next((p[3] for p in self.info["places"] if p[2][1] == rest[0]), None)
+            if len(rest) > 2 and rest[1] in ("new", "auto", "last", "kept") and callee in self.info.get("params", {}):
+                # a reference among the callee's parameters, by its position
+                n = 0
+                while 2 + n < len(rest) and rest[2 + n] == "1":
+                    n += 1
+                of = self.info["params"][callee]
+                if n < len(of) and n + 2 < len(rest) and rest[n + 2] == "0":
+                    rest[2 : n + 3] = [of[n]]
             whole = None
             if clauses:
                 whole = self.clause(clauses, rest, at, goal, m.group(0))
@@ -253,6 +281,7 @@ class Fn:
         # what a `!` tested, under its own name
         term = re.sub(r"not-(true|false) _ (c\.[\w-]+)\.(true|false)(?:-raw)?(?![\w-])", r"\2.\3", term)
         term = re.sub(r"(?<=\.)([a-z]\w*(?:-\w+)+)", lambda x: x.group(1).replace("-", "_") if x.group(1).replace("-", "_") in SOURCE and not x.group(1) in self.steps else x.group(1), term)
+        term = untuple(term)
         # a call bound by a `let`: its clauses
         for name, step in re.findall(r"let (\w+) = c\.([\w-]+) in", term):
             r = next((i for i, p in enumerate(self.info["places"]) if p[2][1] == step), None)
