@@ -95,7 +95,7 @@ def record(term, fields):
     for i in range(len(s)):
         if s[i] == "(" and shut(s, i) == len(s):
             before = s[:i].rstrip()
-            if before and not re.search(r"(\bin|\brw .*\))$", before):
+            if before and not re.search(r"(\bin|\brw (?:\(.*\)|c\.[\w.-]+))$", before):
                 continue
             ps = parts(s[i + 1 : -1])
             while len(ps) < len(fields) and len(ps) > 1 and ps[-1].startswith("(") and shut(ps[-1], 0) == len(ps[-1]):
@@ -106,13 +106,48 @@ def record(term, fields):
             if len(ps) != len(fields):
                 return None
             r = "record {\n" + "".join(f"      {f} = {p};\n" for f, p in zip(fields, ps)) + "    }"
-            return s[:i] + (f"({r})" if before.endswith(")") else r)
-    return None
+            return s[:i] + (f"({r})" if before and not before.endswith("in") else r)
+    # the call of a lemma that gives a tuple: its parts one by one
+    i = 0
+    while m := re.match(r"\s*let \w+ [^\n]* in[ \n]", s[i:]):
+        i += m.end()
+    last = s[i:].strip()
+    if not re.match(r"[a-z][\w']*(?:[-_][\w']+)* ", last) or re.match(r"(rw|simp|omega|search|let|record|subst|elim|absurd|cc|grind)\b", last):
+        return None
+    n = len(fields)
+    at = ["t" + ".1" * k + (".0" if k < n - 1 else "") for k in range(n)]
+    return s[:i] + f"\n    let t = {last} in\n    record {{\n" + "".join(f"      {f} = {a};\n" for f, a in zip(fields, at)) + "    }"
+
+
+def untuple(term):
+    """a `let` of a tuple of paths whose parts are named after it: the paths in their place"""
+    for m in re.finditer(r"let (\w+) = (\([\w.,() -]+\)) in\s*", term):
+        name, tup = m.group(1), m.group(2)
+        if shut(tup, 0) != len(tup) or not re.fullmatch(r"[(), ]*(?:c\.[\w.-]+[(), ]*)+", tup):
+            continue
+        rest = term[m.end() :]
+
+        def part(k):
+            t, way = tup, re.findall(r"\.([01])", k.group(1))
+            while way and t.startswith("(") and shut(t, 0) == len(t):
+                ps = parts(t[1:-1])
+                t, way = ps[int(way[0])], way[1:]
+            return t + "".join("." + w for w in way)
+
+        return untuple(term[: m.start()] + re.sub(r"(?<![\w'.-])" + name + r"((?:\.[01])+)(?![\w'-])", part, rest))
+    return term
+
+
+def tupled(path, clauses):
+    """a path, or the tuple of its clauses"""
+    if not clauses:
+        return path
+    return f"({path}.{clauses[0]}, " + (tupled(path, clauses[1:]) if len(clauses) > 2 else f"{path}.{clauses[1]}") + ")"
 
 
 class Fn:
     def __init__(self, crate, fn, info):
-        self.crate, self.fn, self.info, self.bad = crate, fn, info, []
+        self.crate, self.fn, self.info, self.bad, self.of_helper = crate, fn, info, [], {}
         self.place = {}
         for i, (old, parent, (of, nf), callee, fields) in enumerate(info["places"]):
             self.place[old] = dict(parent=parent, of=of, nf=nf, callee=callee, fields=dict(fields), new=info["places_by_name"][i], typed=info["typed"][i] if i < len(info.get("typed", [])) else [])
@@ -205,19 +240,48 @@ class Fn:
             elif len(rest) > 1 and rest[1] == "ensures":
                 r = next((i for i, p in enumerate(self.info["places"]) if p[2][1] == rest[0]), None)
                 clauses, at = (self.info["clauses"][r] or {}).get("fields") if r is not None else None, 2
+            callee = next((p[3] for p in self.info["places"] if p[2][1] == rest[0]), None)
+            if len(rest) > 2 and rest[1] in ("new", "auto", "last", "kept") and callee in self.info.get("params", {}):
+                # a reference among the callee's parameters, by its position
+                n = 0
+                while 2 + n < len(rest) and rest[2 + n] == "1":
+                    n += 1
+                of = self.info["params"][callee]
+                if n < len(of) and n + 2 < len(rest) and rest[n + 2] == "0":
+                    rest[2 : n + 3] = [of[n]]
+            whole = None
             if clauses:
-                self.clause(clauses, rest, at, goal, m.group(0))
+                whole = self.clause(clauses, rest, at, goal, m.group(0))
             for i in range(1, len(rest)):
                 before = rest[i - 1]
                 if before in ("args", "ranges", "new", "last", "kept", "result", "initial") or (i == 1 and f.startswith("loop") and "test" not in f):
                     if rest[i] not in ("invariant",):
                         rest[i] = rest[i].replace("-", "_")
-            return "c." + ".".join(rest)
+            return tupled("c." + ".".join(rest), whole)
 
+        # a helper takes the place that its signature names
+        def given(m):
+            want = self.of_helper.get(m.group(1))
+            if want is None:
+                return m.group(0)
+            if goal is not None:
+                new = self.place[want]["new"]
+                self.used_places.add(new)
+                return f"{m.group(1)} (goal.at.{goal} \1).{new}"
+            k, q = 0, place
+            while q is not None and q != want:
+                k, q = k + 1, self.place[q]["parent"]
+            if q is None:
+                self.bad.append(f"a helper at {place} asks {m.group(1)} at {want}")
+                return m.group(0)
+            return m.group(1) + " \1" + ".before" * k
+
+        term = re.sub(r"(?<![\w'.-])([\w']+(?:-[\w']+)*) c(?:\.before)*(?![\w'.-])", given, term)
         term = PATH.sub(one, term)
         # what a `!` tested, under its own name
         term = re.sub(r"not-(true|false) _ (c\.[\w-]+)\.(true|false)(?:-raw)?(?![\w-])", r"\2.\3", term)
         term = re.sub(r"(?<=\.)([a-z]\w*(?:-\w+)+)", lambda x: x.group(1).replace("-", "_") if x.group(1).replace("-", "_") in SOURCE and not x.group(1) in self.steps else x.group(1), term)
+        term = untuple(term)
         # a call bound by a `let`: its clauses
         for name, step in re.findall(r"let (\w+) = c\.([\w-]+) in", term):
             r = next((i for i, p in enumerate(self.info["places"]) if p[2][1] == step), None)
@@ -230,11 +294,14 @@ class Fn:
 
             def of_let(m):
                 rest = ["ensures"] + re.findall(r"\.([\w'₀-₉-]+)", m.group(1))
-                self.clause(clauses, rest, 1, goal, m.group(0))
-                return name + "." + ".".join(rest)
+                whole = self.clause(clauses, rest, 1, goal, m.group(0))
+                return tupled(name + "." + ".".join(rest), whole)
 
             term = re.sub(r"(?<![\w'.₀-₉-])" + name + r"\.ensures((?:\.[\w'₀-₉-]+)*)", of_let, term)
-        return term
+        # a negated test says of the value what its old form said of the test
+        old = r"not-(?:true|false) _ (c\.if-[\w-]+\.(?:true|false))-raw(?![\w'-])"
+        term = re.sub(old, r"\1", re.sub(r"\(" + old + r"\)", r"\1", term))
+        return term.replace("\1", "c")
 
     def step(self, rest, p):
         """a step's name, and its field's, by the place p where it is"""
@@ -266,7 +333,7 @@ class Fn:
         return []
 
     def clause(self, clauses, rest, at, goal, said):
-        """`.1.1.0` of a contract's clauses, from `at` on, under the clause's name"""
+        """`.1.1.0` of a contract's clauses, from `at` on, under the clause's name; several clauses as a whole are answered back"""
         at0, n = at, 0
         while n < len(clauses) - 1 and at < len(rest) and rest[at] == "1":
             n, at = n + 1, at + 1
@@ -276,12 +343,15 @@ class Fn:
             rest[at0:at] = [clauses[n]]
         elif at < len(rest) and rest[at] == "0":
             rest[at0 : at + 1] = [clauses[n]]
+        elif at == len(rest):
+            rest[at0:] = []
+            return clauses[n:]
         else:
             self.bad.append(f"{goal}: clauses {clauses} as a whole: {said}")
 
 
 def turn(crate, fn, info, folder):
-    text = read(folder + "/Proof.antt")
+    text = re.sub(r"\.type-inv(?![\w'-])", ".type_inv", read(folder + "/Proof.antt"))
     F = Fn(crate, fn, info)
     head = []
     for line in text.split("\n"):
@@ -326,6 +396,13 @@ def turn(crate, fn, info, folder):
             decls.append(("inv", name, rest, kind))
         else:
             decls.append(("helper", name, sig, rest))
+    AT = r"tie\.(\S+?)((?: invariant-\S+| decreases-\S+)*)"
+    for d in decls:
+        if d[0] == "helper":
+            m = re.search(r"\(c : " + AT + r"\)", "\n".join(d[2])) or re.search(r": " + AT + r" →", "\n".join(d[2]))
+            p = F.byname.get(norm(m.group(1))) if m else None
+            if p:
+                F.of_helper[d[1]] = p
     wanted = info["needs"]
     olds = [d[3] for d in decls if d[0] == "need"]
     new_of, told = {}, {}
@@ -407,7 +484,7 @@ def turn(crate, fn, info, folder):
             continue
         if d[0] == "helper":
             sig, rest = "\n".join(d[2]), "\n".join(d[3])
-            m = re.search(r"\(c : tie\.(\S+?)((?: invariant-\S+| decreases-\S+)*)\)", sig)
+            m = re.search(r"\(c : " + AT + r"\)", sig) or re.search(r"(?<=: )" + AT + r"(?= →)", sig)
             if not m:
 
                 def place_of(x):
@@ -436,7 +513,7 @@ def turn(crate, fn, info, folder):
                 continue
             new = F.spelled(p)
             places.add(new)
-            sig = sig.replace(m.group(0), f"(c : {new})")
+            sig = sig.replace(m.group(0), f"(c : {new})" if m.group(0).startswith("(") else new)
             helpers.append(note + F.paths(sig.replace("(c : ", "(\0 : "), p, None).replace("\0", "c") + "\n" + F.paths(rest, p, None))
             if "tie." in helpers[-1]:
                 F.bad.append("helper with tie: " + helpers[-1].split("\n")[0])

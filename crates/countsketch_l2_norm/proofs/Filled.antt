@@ -1,6 +1,6 @@
 -- An update with the rows' estimates beside it, row by row: what a row stores leaves the estimates of the rows before it. Assumes nothing.
 use mathlib.Core.Path.{◌≡◌, refl, sym, ap, ap₂, subst, ◌∙◌}
-use Prim.Native.Nat.{ℕ, zero, suc, ◌+◌, ◌-◌, ◌*◌, ◌^◌, ◌≤◌, ◌<◌}
+use Prim.Native.Nat.{ℕ, zero, suc, ◌+◌, ◌*◌, ◌^◌, ◌≤◌, ◌<◌}
 use native.Mathlib.Omega.{arith}
 use native.Mathlib.Nat.{le_refl}
 use native.Mathlib.Numerals.{add-one}
@@ -84,7 +84,7 @@ pub count_more : {rows cols at h w : ℕ} {xs₀ : List ℤ} {ws₀ : List ℕ} 
     → Ready rows cols h w xs₀ ws₀ → at ≡ cell_of cols h r → Counted rows cols h w xs₀ ws₀ es xs ws r → r < rows → mag v < 2 ^ 63 → RowAdded at h w r xs ws ys vs v
     → Counted rows cols h w xs₀ ws₀ (es ++ (to_z w64 (of_z w64 v) ∷ [])) ys vs (r + 1)
 count_more {rows} {cols} {at} {h} {w} {xs₀} {ws₀} {es} {xs} {ws} {r} {ys} {vs} {v} d e f l k a =
-    count_on rows cols h w xs₀ ws₀ es xs ws r ys vs (to_z w64 (of_z w64 v)) d f l (added_bits cols e (to_z-of_z (sfits_of k)) a)
+    count_on rows cols h w xs₀ ws₀ es xs ws r ys vs (to_z w64 (of_z w64 v)) d f l (added_bits cols e (to_z-of_z {w = w64} (sfits_of k)) a)
 
 pub count_done : {rows cols h w : ℕ} {xs₀ : List ℤ} {ws₀ : List ℕ} {es xs : List ℤ} {ws : List ℕ} {m : ℤ} → Counted rows cols h w xs₀ ws₀ es xs ws rows → m ≡ middle (sort_z es)
     → (sketch_of xs ws rows ≡ add_rows cols h w rows 0 (sketch_of xs₀ ws₀ rows)) × (m ≡ estimate_of rows cols h xs)
