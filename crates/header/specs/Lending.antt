@@ -8,9 +8,9 @@ use Rattle.header.specs.Header.{head_of}
 abbrev pub head_now : Scalars → SliceNow ℕ → SliceNow Bool → Header
 head_now s lens flags = head_of s lens.now flags.now
 
--- at entry, and at exit
+-- of slices that are lent to be changed: at entry, and at exit
 abbrev pub head_in : Scalars → SliceBoth ℕ → SliceBoth Bool → Header
-head_in s lens flags = head_now s lens.entry flags.entry
+head_in s lens flags = head_of s lens.entry.now flags.entry.now
 
 abbrev pub head_out : Scalars → SliceBoth ℕ → SliceBoth Bool → Header
-head_out s lens flags = head_now s lens.exit flags.exit
+head_out s lens flags = head_of s lens.exit.now flags.exit.now

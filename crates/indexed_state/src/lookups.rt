@@ -2,7 +2,7 @@
 ghost use Rattle.std.specs.Prelude.{◌≡◌, false, length};
 ghost use Rattle.heap.specs.inner.Slices.{table_of};
 ghost use Rattle.heap_index.specs.inner.Needs.{Cover};
-ghost use Rattle.layout.specs.Lending.{lent_in};
+ghost use Rattle.layout.specs.Lending.{lent_now};
 ghost use Rattle.indexed_state.specs.Lookups.{looked_up, look_in, lookup_call};
 
 use crate::LookedUp;
@@ -58,7 +58,7 @@ pub fn lookup(
     layer: usize,
     key: u64,
 ) -> LookedUp
-    ensures { result ≡ lookup_call (lent_in header counters norms entries counts) index.now layer key }
+    ensures { result ≡ lookup_call (lent_now header counters norms entries counts) index.now layer key }
 {
     let unfit = indexed_refusal(header, counters, norms, entries, counts, index);
     if unfit != 0 {

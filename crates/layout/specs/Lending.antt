@@ -7,9 +7,9 @@ use Rattle.layout.specs.Slices.{Lent, lent}
 abbrev pub lent_now : Header → SliceNow ℤ → SliceNow ℕ → SliceNow ℕ → SliceNow ℤ → Lent
 lent_now h xs ws es ns = lent h xs.now ws.now es.now ns.now
 
--- at entry, and at exit
+-- of slices that are lent to be changed: at entry, and at exit
 abbrev pub lent_in : Header → SliceBoth ℤ → SliceBoth ℕ → SliceBoth ℕ → SliceBoth ℤ → Lent
-lent_in h xs ws es ns = lent_now h xs.entry ws.entry es.entry ns.entry
+lent_in h xs ws es ns = lent h xs.entry.now ws.entry.now es.entry.now ns.entry.now
 
 abbrev pub lent_out : Header → SliceBoth ℤ → SliceBoth ℕ → SliceBoth ℕ → SliceBoth ℤ → Lent
-lent_out h xs ws es ns = lent_now h xs.exit ws.exit es.exit ns.exit
+lent_out h xs ws es ns = lent h xs.exit.now ws.exit.now es.exit.now ns.exit.now

@@ -15,7 +15,7 @@ ghost use Rattle.layout.specs.Slices.{lengths_ok, extent_of};
 ghost use Rattle.layout.specs.Outcomes.{lent_tests};
 ghost use Rattle.layout.specs.inner.Spans.{span_of, elephants_before};
 ghost use Rattle.layout.specs.Records.{item_at};
-ghost use Rattle.layout.specs.Lending.{lent_in};
+ghost use Rattle.layout.specs.Lending.{lent_now};
 
 use header::{Header, Shape};
 use heap_moves::Item;
@@ -110,7 +110,7 @@ pub fn lent_refusal(
     entries: &[u64],
     counts: &[i64],
 ) -> u64
-    ensures { result ≡ number (lent_tests (lent_in h counters norms entries counts)) }
+    ensures { result ≡ number (lent_tests (lent_now h counters norms entries counts)) }
 {
     if !h.in_range() {
         return 9;

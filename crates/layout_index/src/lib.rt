@@ -6,7 +6,7 @@
 ghost use Rattle.std.specs.Prelude.{◌≡◌, ℕ, ◌+◌, ◌*◌, ◌<◌, length};
 ghost use Rattle.words.specs.Tests.{number};
 ghost use Rattle.header.specs.inner.Accepted.{Accepted};
-ghost use Rattle.layout.specs.Lending.{lent_in};
+ghost use Rattle.layout.specs.Lending.{lent_now};
 ghost use Rattle.layout_index.specs.Tables.{table_length, tables_in, table_at, indexed_tests};
 
 use header::{Header, Shape};
@@ -61,7 +61,7 @@ pub fn indexed_refusal(
     counts: &[i64],
     index: &[u64],
 ) -> u64
-    ensures { result ≡ number (indexed_tests (lent_in h counters norms entries counts) index.now) }
+    ensures { result ≡ number (indexed_tests (lent_now h counters norms entries counts) index.now) }
 {
     let unfit = layout::lent_refusal(h, counters, norms, entries, counts);
     if unfit != 0 {

@@ -2,9 +2,9 @@
 ghost use Rattle.std.specs.Prelude.{◌≡◌, List, ℕ, ◌<◌, drop, get_or};
 ghost use Rattle.header.specs.OneTier.{OneTiered};
 ghost use Rattle.layout.specs.State.{put_layer, over_layers};
-ghost use Rattle.layout.specs.Slices.{view};
+ghost use Rattle.layout.specs.Slices.{view, lent};
 ghost use Rattle.layout.specs.inner.Needs.{Standing};
-ghost use Rattle.layout.specs.Lending.{lent_now, lent_in, lent_out};
+ghost use Rattle.layout.specs.Lending.{lent_in, lent_out};
 ghost use Rattle.state_forms.specs.Formats.{got};
 ghost use Rattle.state_forms.specs.Grammar.{Page, page_format, pages_r};
 ghost use Rattle.state_text.specs.Pages.{dims_of, frame_of, layer_from, no_page};
@@ -33,7 +33,7 @@ fn keep_layer(
     l: usize,
 ) -> Kept
     requires one_tiered { OneTiered h.shape }
-    requires standing { Standing (lent_now h counters norms entries counts) }
+    requires standing { Standing (lent h counters.old norms.old entries.old counts.old) }
     requires l_lt_layers { l < h.shape.layers }
     requires legible { Legible ((page_format (frame_of (dims_of h.shape)) l).read (drop at s.now)) }
     ensures counts_value { (p : Page) (t : List ℕ) → (page_format (frame_of (dims_of h.shape)) l).read (drop at s.now) ≡ got p t
@@ -83,7 +83,7 @@ pub fn keep_layers(
     counts: &mut [i64],
 ) -> Header
     requires one_tiered { OneTiered h.shape }
-    requires standing { Standing (lent_now h counters norms entries counts) }
+    requires standing { Standing (lent h counters.old norms.old entries.old counts.old) }
     requires legible { Legible (pages_r (frame_of (dims_of h.shape)) 0 h.shape.layers (drop at s.now)) }
     ensures counts_value { (ps : List Page) (t : List ℕ) → pages_r (frame_of (dims_of h.shape)) 0 h.shape.layers (drop at s.now) ≡ got ps t
         → view (lent_out result counters norms entries counts)

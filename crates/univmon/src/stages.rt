@@ -5,14 +5,15 @@ ghost use Rattle.words.specs.Num.{top};
 ghost use Rattle.words.specs.Tests.{number};
 ghost use Rattle.header.specs.Lending.{head_in, head_now, head_out};
 ghost use Rattle.layout.specs.State.{all_layers};
-ghost use Rattle.layout.specs.Slices.{view};
+ghost use Rattle.layout.specs.Slices.{view, lent};
 ghost use Rattle.layout.specs.Outcomes.{left, size_tests};
 ghost use Rattle.layout.specs.Records.{bottom_word};
 ghost use Rattle.layout.specs.Answers.{list_left};
-ghost use Rattle.layout.specs.Lending.{lent_in, lent_now, lent_out};
+ghost use Rattle.layout.specs.Lending.{lent_in, lent_out};
 ghost use Rattle.univmon.specs.Updates.{mode_of, first_sent, update_answers};
 ghost use Rattle.univmon.specs.Calls.{place_tests};
 ghost use Rattle.univmon.specs.inner.Needs.{JudgeReady, KeyReady, ready_at, SentAll, zeroed_for, sound_tests, sent_by, told_by, key_sent, key_told, sent_after};
+ghost use Rattle.header.specs.Header.{head_of};
 
 use crate::Kind;
 use crate::judge::{all_ready, judge_layers};
@@ -50,7 +51,7 @@ pub fn sized_refusal(
     entries: usize,
     counts: usize,
 ) -> u64
-    ensures { result ≡ number (place_tests (head_in scalars lens flags) ++ size_tests (head_in scalars lens flags) counters norms entries counts) }
+    ensures { result ≡ number (place_tests (head_now scalars lens flags) ++ size_tests (head_now scalars lens flags) counters norms entries counts) }
 {
     if lens.len() != Shape::MAX_LAYERS {
         return 9;
@@ -79,7 +80,7 @@ fn sound_refusal(
     counts: usize,
     record: usize,
 ) -> u64
-    ensures { result ≡ number (sound_tests (head_in scalars lens flags) counters norms entries counts «record») }
+    ensures { result ≡ number (sound_tests (head_now scalars lens flags) counters norms entries counts «record») }
 {
     let unfit = sized_refusal(scalars, lens, flags, counters, norms, entries, counts);
     if unfit != 0 {
@@ -108,7 +109,7 @@ fn send_if_ready(
     many: usize,
     list: &mut [u64],
 ) -> bool
-    requires judge_ready { JudgeReady (lent_now (head_now h lens flags) counters norms entries counts) «record».now weight many first }
+    requires judge_ready { JudgeReady (lent (head_of h lens.old flags.old) counters.old norms.old entries.old counts.old) «record».now weight many first }
     requires le_many { 1 ≤ many }
     ensures value { result ≡ leb (2 * h.shape.layers) (length list.old)
         && all_layers (ready_at h.shape «record».now weight) many first (view (lent_in (head_in h lens flags) counters norms entries counts)) }
@@ -153,7 +154,7 @@ fn send_judged(
     many: usize,
     list: &mut [u64],
 ) -> u64
-    requires judge_ready { JudgeReady (lent_now (head_now h lens flags) counters norms entries counts) «record».now weight many first }
+    requires judge_ready { JudgeReady (lent (head_of h lens.old flags.old) counters.old norms.old entries.old counts.old) «record».now weight many first }
     requires le_many { 1 ≤ many }
     ensures counts_value { left result (lent_out (head_out h lens flags) counters norms entries counts)
         ≡ sent_by «record».now weight many first (length list.old) (lent_in (head_in h lens flags) counters norms entries counts) }
@@ -190,7 +191,7 @@ fn send_key(
     list: &mut [u64],
     bottom_hash: u64,
 ) -> u64
-    requires key_ready { KeyReady (lent_now (head_now h lens flags) counters norms entries counts) «record».now weight }
+    requires key_ready { KeyReady (lent (head_of h lens.old flags.old) counters.old norms.old entries.old counts.old) «record».now weight }
     requires bottom_hash_value { bottom_hash ≡ bottom_word «record».now }
     ensures counts_value { left result (lent_out (head_out h lens flags) counters norms entries counts)
         ≡ key_sent kind «record».now weight (length list.old) (lent_in (head_in h lens flags) counters norms entries counts) }

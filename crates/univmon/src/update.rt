@@ -4,11 +4,12 @@ ghost use Rattle.std.specs.Prelude.{◌≡◌, Bool, true, false, ◌&&◌, ℕ,
 ghost use Rattle.heap_moves.specs.Cands.{most_cands};
 ghost use Rattle.heap.specs.Offer.{kept_by, len_by};
 ghost use Rattle.heap.specs.inner.Telling.{tell_at};
-ghost use Rattle.header.specs.Lending.{head_in, head_now, head_out};
+ghost use Rattle.header.specs.Lending.{head_in, head_out};
 ghost use Rattle.layout.specs.State.{layer_at};
-ghost use Rattle.layout.specs.Slices.{view};
-ghost use Rattle.layout.specs.Lending.{lent_in, lent_now, lent_out};
+ghost use Rattle.layout.specs.Slices.{view, lent};
+ghost use Rattle.layout.specs.Lending.{lent_in, lent_out};
 ghost use Rattle.univmon.specs.inner.Needs.{SendReady, SendsReady, JudgeReady, ready_at, SentOne, SentAll, zeroed_for};
+ghost use Rattle.header.specs.Header.{head_of};
 
 use header::Scalars;
 use heap::Answer;
@@ -52,7 +53,7 @@ fn send_one(
     l: usize,
     list: &mut [u64],
 )
-    requires send_ready { SendReady (lent_now (head_now h lens flags) counters norms entries counts) «record».now weight l }
+    requires send_ready { SendReady (lent (head_of h lens.old flags.old) counters.old norms.old entries.old counts.old) «record».now weight l }
     requires l_in_bounds { 2 * l + 2 ≤ length list.old }
     ensures { SentOne «record».now weight l (lent_in (head_in h lens flags) counters norms entries counts) (lent_out (head_out h lens flags) counters norms entries counts)
         list.old list.new }
@@ -98,7 +99,7 @@ pub fn send_first(
     l: usize,
     list: &mut [u64],
 ) -> bool
-    requires judge_ready { JudgeReady (lent_now (head_now h lens flags) counters norms entries counts) «record».now weight 1 l }
+    requires judge_ready { JudgeReady (lent (head_of h lens.old flags.old) counters.old norms.old entries.old counts.old) «record».now weight 1 l }
     requires layers_in_bounds { 2 * h.shape.layers ≤ length list.old }
     ensures value { result ≡ ready_at h.shape «record».now weight l (layer_at (view (lent_in (head_in h lens flags) counters norms entries counts)) l) }
     ensures sent_one { result ≡ true → SentOne «record».now weight l (lent_in (head_in h lens flags) counters norms entries counts) (lent_out (head_out h lens flags) counters norms entries counts)
@@ -153,7 +154,7 @@ pub fn send(
     many: usize,
     list: &mut [u64],
 )
-    requires sends_ready { SendsReady (lent_now (head_now h lens flags) counters norms entries counts) «record».now weight many first }
+    requires sends_ready { SendsReady (lent (head_of h lens.old flags.old) counters.old norms.old entries.old counts.old) «record».now weight many first }
     requires layers_in_bounds { 2 * h.shape.layers ≤ length list.old }
     ensures { SentAll «record».now weight many first (lent_in (head_in h lens flags) counters norms entries counts) (lent_out (head_out h lens flags) counters norms entries counts)
         list.old list.new }

@@ -11,7 +11,7 @@ ghost use Rattle.header.specs.Header.{with_mode, settled};
 ghost use Rattle.layer.specs.Delta.{delta_layer, delta_answer};
 ghost use Rattle.layer.specs.inner.Needs.{delta};
 ghost use Rattle.layout.specs.State.{dims_at, layer_at, put_layer};
-ghost use Rattle.layout.specs.Slices.{view};
+ghost use Rattle.layout.specs.Slices.{view, lent};
 ghost use Rattle.layout.specs.Records.{item_at};
 ghost use Rattle.layout.specs.Outcomes.{left, left_after};
 ghost use Rattle.layout.specs.Answers.{list_left};
@@ -69,7 +69,7 @@ fn judge_delta(
 ) -> u64
     requires { Placed (lent_now h counters norms entries counts) «record».now l row col }
     ensures { (every : Bool) → result ≡ number (delta_tests_at (dims_at h.shape l) (delta row col count (item_at «record».now l) every)
-        (layer_at (view (lent_in h counters norms entries counts)) l)) }
+        (layer_at (view (lent_now h counters norms entries counts)) l)) }
 {
     let shape = h.shape;
     let d = dims(shape, l);
@@ -111,7 +111,7 @@ fn deliver(
     every: bool,
     list: &mut [u64],
 ) -> Header
-    requires arrives { Arrives (lent_now h counters norms entries counts) «record».now l row col count }
+    requires arrives { Arrives (lent h counters.old norms.old entries.old counts.old) «record».now l row col count }
     requires l_in_bounds { 2 * l + 2 ≤ length list.old }
     ensures counts_value { view (lent_out result counters norms entries counts)
         ≡ put_layer (view (lent_in h counters norms entries counts)) l
@@ -167,7 +167,7 @@ fn delta_refusal(
     count: i64,
     list: usize,
 ) -> u64
-    ensures { (f : Fidelity) → result ≡ number (delta_tests (lent_in h counters norms entries counts) «record».now (arrival l row col count f) ++ list_tests (2 * h.shape.layers) list) }
+    ensures { (f : Fidelity) → result ≡ number (delta_tests (lent_now h counters norms entries counts) «record».now (arrival l row col count f) ++ list_tests (2 * h.shape.layers) list) }
 {
     let unfit = lent_refusal(h, counters, norms, entries, counts);
     if unfit != 0 {

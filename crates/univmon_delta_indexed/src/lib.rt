@@ -9,13 +9,13 @@ ghost use Rattle.heap.specs.inner.Telling.{tell_at};
 ghost use Rattle.layer.specs.inner.Needs.{delta};
 ghost use Rattle.layer_indexed.specs.Adding.{delta_layer_in, delta_index_in, delta_answer_in};
 ghost use Rattle.layout.specs.State.{dims_at, layer_at, put_layer};
-ghost use Rattle.layout.specs.Slices.{view};
+ghost use Rattle.layout.specs.Slices.{view, lent};
 ghost use Rattle.layout.specs.Records.{item_at};
 ghost use Rattle.layout.specs.Outcomes.{left, left_after};
 ghost use Rattle.layout.specs.Answers.{list_left};
 ghost use Rattle.layout.specs.inner.Needs.{Standing};
 ghost use Rattle.layout.specs.inner.Telling.{list_tests};
-ghost use Rattle.layout.specs.Lending.{lent_in, lent_now, lent_out};
+ghost use Rattle.layout.specs.Lending.{lent_in, lent_out};
 ghost use Rattle.layout_index.specs.Tables.{table_at, put_table, index_left};
 ghost use Rattle.univmon_delta.specs.declared.Fidelity.{Fidelity};
 ghost use Rattle.univmon_delta.specs.Deltas.{arrival};
@@ -55,9 +55,9 @@ fn judge_delta(
     col: usize,
     count: i64,
 ) -> u64
-    requires { PlacedIn (lent_now h counters norms entries counts) index.old «record».now l row col }
+    requires { PlacedIn (lent h counters.old norms.now entries.old counts.old) index.old «record».now l row col }
     ensures value { (every : Bool) → result ≡ number (delta_tests_in (dims_at h.shape l) (delta row col count (item_at «record».now l) every) (table_at h.shape index.old l)
-        (layer_at (view (lent_in h counters norms entries counts)) l)) }
+        (layer_at (view (lent h counters.old norms.now entries.old counts.old)) l)) }
     ensures counters_unchanged { (counters.new ≡ counters.old) × ((entries.new ≡ entries.old) × ((counts.new ≡ counts.old) × (index.new ≡ index.old))) }
 {
     let shape = h.shape;
@@ -108,7 +108,7 @@ fn deliver(
     every: bool,
     list: &mut [u64],
 ) -> Header
-    requires arrives_in { ArrivesIn (lent_now h counters norms entries counts) index.old «record».now l row col count }
+    requires arrives_in { ArrivesIn (lent h counters.old norms.old entries.old counts.old) index.old «record».now l row col count }
     requires l_in_bounds { 2 * l + 2 ≤ length list.old }
     ensures counts_value { view (lent_out result counters norms entries counts)
         ≡ put_layer (view (lent_in h counters norms entries counts)) l
@@ -172,7 +172,7 @@ fn delta_refusal(
     count: i64,
     list: usize,
 ) -> u64
-    ensures value { (f : Fidelity) → result ≡ number (indexed_delta_tests (lent_in h counters norms entries counts) index.old «record».now (arrival l row col count f) ++ list_tests (2 * h.shape.layers) list) }
+    ensures value { (f : Fidelity) → result ≡ number (indexed_delta_tests (lent h counters.old norms.now entries.old counts.old) index.old «record».now (arrival l row col count f) ++ list_tests (2 * h.shape.layers) list) }
     ensures counters_unchanged { (counters.new ≡ counters.old) × ((entries.new ≡ entries.old) × ((counts.new ≡ counts.old) × (index.new ≡ index.old))) }
 {
     let unfit = indexed_refusal(h, &*counters, norms, &*entries, &*counts, &*index);

@@ -2,10 +2,10 @@
 // so that everything is left as it was lent.
 ghost use Rattle.std.specs.Prelude.{◌≡◌, ℕ};
 ghost use Rattle.words.specs.Tests.{number};
-ghost use Rattle.header.specs.Lending.{head_in, head_now};
+ghost use Rattle.header.specs.Lending.{head_now};
 ghost use Rattle.layout.specs.State.{layer_at, all_layers};
-ghost use Rattle.layout.specs.Slices.{view};
-ghost use Rattle.layout.specs.Lending.{lent_in, lent_now};
+ghost use Rattle.layout.specs.Slices.{view, lent};
+
 ghost use Rattle.univmon_indexed.specs.Updates.{layers_tests_in};
 ghost use Rattle.univmon_indexed.specs.inner.Needs.{JudgeReadyIn, grade_in, reaches_at};
 
@@ -27,8 +27,8 @@ fn grade_at(
     weight: u64,
     l: usize,
 ) -> u64
-    requires { JudgeReadyIn (lent_now (head_now h lens flags) counters norms entries counts) index.old «record».now weight 1 l }
-    ensures value { result ≡ grade_in h.shape «record».now weight index.old l (layer_at (view (lent_in (head_in h lens flags) counters norms entries counts)) l) }
+    requires { JudgeReadyIn (lent (head_now h lens flags) counters.now norms.now entries.old counts.old) index.old «record».now weight 1 l }
+    ensures value { result ≡ grade_in h.shape «record».now weight index.old l (layer_at (view (lent (head_now h lens flags) counters.now norms.now entries.old counts.old)) l) }
     ensures entries_unchanged { (entries.new ≡ entries.old) × ((counts.new ≡ counts.old) × (index.new ≡ index.old)) }
 {
     let shape = h.shape;
@@ -72,8 +72,8 @@ pub fn all_reach(
     many: usize,
     grade: u64,
 ) -> bool
-    requires { JudgeReadyIn (lent_now (head_now h lens flags) counters norms entries counts) index.old «record».now weight many first }
-    ensures value { result ≡ all_layers (reaches_at grade h.shape «record».now weight index.old) many first (view (lent_in (head_in h lens flags) counters norms entries counts)) }
+    requires { JudgeReadyIn (lent (head_now h lens flags) counters.now norms.now entries.old counts.old) index.old «record».now weight many first }
+    ensures value { result ≡ all_layers (reaches_at grade h.shape «record».now weight index.old) many first (view (lent (head_now h lens flags) counters.now norms.now entries.old counts.old)) }
     ensures entries_unchanged { (entries.new ≡ entries.old) × ((counts.new ≡ counts.old) × (index.new ≡ index.old)) }
 {
     let end = first + many;
@@ -107,8 +107,8 @@ pub fn judge_layers(
     first: usize,
     many: usize,
 ) -> u64
-    requires { JudgeReadyIn (lent_now (head_now h lens flags) counters norms entries counts) index.old «record».now weight many first }
-    ensures value { result ≡ number (layers_tests_in h.shape «record».now weight index.old many first (view (lent_in (head_in h lens flags) counters norms entries counts))) }
+    requires { JudgeReadyIn (lent (head_now h lens flags) counters.now norms.now entries.old counts.old) index.old «record».now weight many first }
+    ensures value { result ≡ number (layers_tests_in h.shape «record».now weight index.old many first (view (lent (head_now h lens flags) counters.now norms.now entries.old counts.old))) }
     ensures entries_unchanged { (entries.new ≡ entries.old) × ((counts.new ≡ counts.old) × (index.new ≡ index.old)) }
 {
     if !all_reach(

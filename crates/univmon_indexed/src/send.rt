@@ -1,11 +1,12 @@
 // What both updates write, once everything is judged.
 ghost use Rattle.std.specs.Prelude.{◌≡◌, true, false, ℕ, ◌+◌, ◌*◌, ◌≤◌, length};
-ghost use Rattle.header.specs.Lending.{head_in, head_now, head_out};
+ghost use Rattle.header.specs.Lending.{head_in, head_out};
 ghost use Rattle.layout.specs.State.{layer_at};
-ghost use Rattle.layout.specs.Slices.{view};
-ghost use Rattle.layout.specs.Lending.{lent_in, lent_now, lent_out};
+ghost use Rattle.layout.specs.Slices.{view, lent};
+ghost use Rattle.layout.specs.Lending.{lent_in, lent_out};
 ghost use Rattle.univmon.specs.inner.Needs.{zeroed_for};
 ghost use Rattle.univmon_indexed.specs.inner.Needs.{JudgeReadyIn, fine_at, SendReadyIn, SendsReadyIn, SentOneIn, SentAllIn, KeptIn};
+ghost use Rattle.header.specs.Header.{head_of};
 
 use header::Scalars;
 use layout::{dims, item_in, span_of, zero_places};
@@ -27,7 +28,7 @@ fn send_one(
     l: usize,
     list: &mut [u64],
 )
-    requires send_ready_in { SendReadyIn (lent_now (head_now h lens flags) counters norms entries counts) index.old «record».now weight l }
+    requires send_ready_in { SendReadyIn (lent (head_of h lens.old flags.old) counters.old norms.old entries.old counts.old) index.old «record».now weight l }
     requires l_in_bounds { 2 * l + 2 ≤ length list.old }
     ensures { SentOneIn «record».now weight l (lent_in (head_in h lens flags) counters norms entries counts) (lent_out (head_out h lens flags) counters norms entries counts)
         index.old index.new list.old list.new }
@@ -78,7 +79,7 @@ pub fn send_first(
     l: usize,
     list: &mut [u64],
 ) -> bool
-    requires judge_ready_in { JudgeReadyIn (lent_now (head_now h lens flags) counters norms entries counts) index.old «record».now weight 1 l }
+    requires judge_ready_in { JudgeReadyIn (lent (head_of h lens.old flags.old) counters.old norms.old entries.old counts.old) index.old «record».now weight 1 l }
     requires layers_in_bounds { 2 * h.shape.layers ≤ length list.old }
     ensures value { result ≡ fine_at h.shape «record».now weight index.old l (layer_at (view (lent_in (head_in h lens flags) counters norms entries counts)) l) }
     ensures sent_one_in { result ≡ true → SentOneIn «record».now weight l (lent_in (head_in h lens flags) counters norms entries counts) (lent_out (head_out h lens flags) counters norms entries counts)
@@ -138,7 +139,7 @@ pub fn send(
     many: usize,
     list: &mut [u64],
 )
-    requires sends_ready_in { SendsReadyIn (lent_now (head_now h lens flags) counters norms entries counts) index.old «record».now weight many first }
+    requires sends_ready_in { SendsReadyIn (lent (head_of h lens.old flags.old) counters.old norms.old entries.old counts.old) index.old «record».now weight many first }
     requires layers_in_bounds { 2 * h.shape.layers ≤ length list.old }
     ensures { SentAllIn «record».now weight many first (lent_in (head_in h lens flags) counters norms entries counts) (lent_out (head_out h lens flags) counters norms entries counts)
         index.old index.new list.old list.new }

@@ -5,13 +5,14 @@ ghost use Rattle.words.specs.Num.{top};
 ghost use Rattle.words.specs.Tests.{number};
 ghost use Rattle.header.specs.Lending.{head_in, head_now, head_out};
 ghost use Rattle.layout.specs.State.{all_layers};
-ghost use Rattle.layout.specs.Slices.{view};
+ghost use Rattle.layout.specs.Slices.{view, lent};
 ghost use Rattle.layout.specs.Records.{bottom_word};
 ghost use Rattle.layout.specs.Lending.{lent_in, lent_now, lent_out};
 ghost use Rattle.layout.specs.inner.Telling.{list_tests};
 ghost use Rattle.univmon.specs.inner.Needs.{zeroed_for};
 ghost use Rattle.univmon_indexed.specs.Updates.{layers_tests_in};
 ghost use Rattle.univmon_indexed.specs.inner.Needs.{JudgeReadyIn, fine_at, KeyReadyIn, SentAllIn, KeptIn, SentOrKept, KeySentOrKept, key_tests_in, sound_tests_in, staged_tests};
+ghost use Rattle.header.specs.Header.{head_of};
 
 use crate::judge::{all_reach, judge_layers};
 use crate::send::{send, send_first};
@@ -37,7 +38,7 @@ fn send_if_fine(
     many: usize,
     list: &mut [u64],
 ) -> bool
-    requires judge_ready_in { JudgeReadyIn (lent_now (head_now h lens flags) counters norms entries counts) index.old «record».now weight many first }
+    requires judge_ready_in { JudgeReadyIn (lent (head_of h lens.old flags.old) counters.old norms.old entries.old counts.old) index.old «record».now weight many first }
     requires le_many { 1 ≤ many }
     ensures value { result ≡ leb (2 * h.shape.layers) (length list.old)
         && all_layers (fine_at h.shape «record».now weight index.old) many first (view (lent_in (head_in h lens flags) counters norms entries counts)) }
@@ -84,7 +85,7 @@ fn send_judged(
     many: usize,
     list: &mut [u64],
 ) -> u64
-    requires judge_ready_in { JudgeReadyIn (lent_now (head_now h lens flags) counters norms entries counts) index.old «record».now weight many first }
+    requires judge_ready_in { JudgeReadyIn (lent (head_of h lens.old flags.old) counters.old norms.old entries.old counts.old) index.old «record».now weight many first }
     requires le_many { 1 ≤ many }
     ensures value { result ≡ number (layers_tests_in h.shape «record».now weight index.old many first (view (lent_in (head_in h lens flags) counters norms entries counts))
         ++ list_tests (2 * h.shape.layers) (length list.old)) }
@@ -123,7 +124,7 @@ fn send_key(
     list: &mut [u64],
     bottom_hash: u64,
 ) -> u64
-    requires key_ready_in { KeyReadyIn (lent_now (head_now h lens flags) counters norms entries counts) index.old «record».now weight }
+    requires key_ready_in { KeyReadyIn (lent (head_of h lens.old flags.old) counters.old norms.old entries.old counts.old) index.old «record».now weight }
     requires bottom_hash_value { bottom_hash ≡ bottom_word «record».now }
     ensures value { result ≡ number (key_tests_in kind «record».now weight (lent_in (head_in h lens flags) counters norms entries counts) index.old (length list.old)) }
     ensures key_sent_or_kept { KeySentOrKept kind «record».now weight (lent_in (head_in h lens flags) counters norms entries counts) (lent_out (head_out h lens flags) counters norms entries counts)
@@ -150,7 +151,7 @@ fn sound_refusal(
     index: usize,
     record: usize,
 ) -> u64
-    ensures { result ≡ number (sound_tests_in (lent_in (head_in scalars lens flags) counters norms entries counts) index «record») }
+    ensures { result ≡ number (sound_tests_in (lent_now (head_now scalars lens flags) counters norms entries counts) index «record») }
 {
     let unfit = sized_refusal(
         scalars,

@@ -4,7 +4,7 @@ ghost use Rattle.std.specs.Prelude.{◌≡◌, ◌++◌, ◌*◌};
 ghost use Rattle.words.specs.Tests.{number};
 ghost use Rattle.layout.specs.State.{layer_at, all_layers};
 ghost use Rattle.layout.specs.Slices.{view};
-ghost use Rattle.layout.specs.Lending.{lent_in, lent_now};
+ghost use Rattle.layout.specs.Lending.{lent_now};
 ghost use Rattle.layout.specs.inner.Telling.{list_tests};
 ghost use Rattle.univmon_merge.specs.Merges.{heads_tests, pair_tests, merge_tests};
 ghost use Rattle.univmon_merge.specs.inner.Pairs.{Paired, PairRead, PairsRead, reads_with, fits_with};
@@ -27,8 +27,8 @@ fn reads_at(
     l: usize,
 ) -> bool
     requires { Paired (lent_now h counters norms entries counts) (lent_now other other_counters other_norms other_entries other_counts) 1 l }
-    ensures { result ≡ reads_with (view (lent_in other other_counters other_norms other_entries other_counts)) l
-        (layer_at (view (lent_in h counters norms entries counts)) l) }
+    ensures { result ≡ reads_with (view (lent_now other other_counters other_norms other_entries other_counts)) l
+        (layer_at (view (lent_now h counters norms entries counts)) l) }
 {
     let shape = h.shape;
     let lens = h.lens;
@@ -60,8 +60,8 @@ fn fits_at(
     l: usize,
 ) -> bool
     requires { PairRead (lent_now h counters norms entries counts) (lent_now other other_counters other_norms other_entries other_counts) l }
-    ensures { result ≡ fits_with (view (lent_in other other_counters other_norms other_entries other_counts)) l
-        (layer_at (view (lent_in h counters norms entries counts)) l) }
+    ensures { result ≡ fits_with (view (lent_now other other_counters other_norms other_entries other_counts)) l
+        (layer_at (view (lent_now h counters norms entries counts)) l) }
 {
     let shape = h.shape;
     layer::merge_fits(
@@ -85,8 +85,8 @@ fn all_read(
     many: usize,
 ) -> bool
     requires { Paired (lent_now h counters norms entries counts) (lent_now other other_counters other_norms other_entries other_counts) many 0 }
-    ensures { result ≡ all_layers (reads_with (view (lent_in other other_counters other_norms other_entries other_counts))) many 0
-        (view (lent_in h counters norms entries counts)) }
+    ensures { result ≡ all_layers (reads_with (view (lent_now other other_counters other_norms other_entries other_counts))) many 0
+        (view (lent_now h counters norms entries counts)) }
 {
     let mut l = 0;
     while l < many {
@@ -125,8 +125,8 @@ fn all_fit(
     many: usize,
 ) -> bool
     requires { PairsRead (lent_now h counters norms entries counts) (lent_now other other_counters other_norms other_entries other_counts) many }
-    ensures { result ≡ all_layers (fits_with (view (lent_in other other_counters other_norms other_entries other_counts))) many 0
-        (view (lent_in h counters norms entries counts)) }
+    ensures { result ≡ all_layers (fits_with (view (lent_now other other_counters other_norms other_entries other_counts))) many 0
+        (view (lent_now h counters norms entries counts)) }
 {
     let mut l = 0;
     while l < many {
@@ -183,7 +183,7 @@ fn layers_refusal(
     layers: usize,
 ) -> u64
     requires { Paired (lent_now h counters norms entries counts) (lent_now other other_counters other_norms other_entries other_counts) layers 0 }
-    ensures { result ≡ number (pair_tests layers (view (lent_in h counters norms entries counts)) (view (lent_in other other_counters other_norms other_entries other_counts))) }
+    ensures { result ≡ number (pair_tests layers (view (lent_now h counters norms entries counts)) (view (lent_now other other_counters other_norms other_entries other_counts))) }
 {
     if !all_read(
         h,
@@ -232,7 +232,7 @@ pub fn merge_refusal(
     other_counts: &[i64],
     list: usize,
 ) -> u64
-    ensures { result ≡ number (merge_tests (lent_in h counters norms entries counts) (lent_in other other_counters other_norms other_entries other_counts)
+    ensures { result ≡ number (merge_tests (lent_now h counters norms entries counts) (lent_now other other_counters other_norms other_entries other_counts)
         ++ list_tests (4 * h.shape.heap_size * h.shape.layers) list) }
 {
     let own = lent_refusal(h, counters, norms, entries, counts);

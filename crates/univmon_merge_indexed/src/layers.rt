@@ -2,7 +2,7 @@
 ghost use Rattle.std.specs.Prelude.{◌≡◌, ◌*◌, ◌≤◌, length};
 ghost use Rattle.layer_indexed.specs.Merging.{merge_index_in};
 ghost use Rattle.layout.specs.State.{dims_at, layer_at, put_layer, over_layers};
-ghost use Rattle.layout.specs.Slices.{view};
+ghost use Rattle.layout.specs.Slices.{view, lent};
 ghost use Rattle.layout.specs.inner.Needs.{Standing};
 ghost use Rattle.layout.specs.inner.Telling.{put_places, tell_layers};
 ghost use Rattle.layout.specs.Lending.{lent_in, lent_now, lent_out};
@@ -30,20 +30,20 @@ fn merge_one(
     l: usize,
     list: &mut [u64],
 ) -> Header
-    requires merge_ready { MergeReady (lent_now h counters norms entries counts) (lent_now other other_counters other_norms other_entries other_counts) l }
+    requires merge_ready { MergeReady (lent h counters.old norms.old entries.old counts.old) (lent_now other other_counters other_norms other_entries other_counts) l }
     requires layers_in_bounds { 4 * h.shape.heap_size * h.shape.layers ≤ length list.old }
     requires index_len { length index.old ≡ tables_in h.shape }
     ensures counts_value { view (lent_out result counters norms entries counts)
         ≡ put_layer (view (lent_in h counters norms entries counts)) l
-        (merges_with h.shape (view (lent_in other other_counters other_norms other_entries other_counts)) l
+        (merges_with h.shape (view (lent_now other other_counters other_norms other_entries other_counts)) l
         (layer_at (view (lent_in h counters norms entries counts)) l)) }
     ensures standing { Standing (lent_out result counters norms entries counts) }
     ensures index_after { index.new
         ≡ put_table h.shape index.old l (merge_index_in (dims_at h.shape l) (layer_at (view (lent_in h counters norms entries counts)) l)
-        (layer_at (view (lent_in other other_counters other_norms other_entries other_counts)) l)) }
+        (layer_at (view (lent_now other other_counters other_norms other_entries other_counts)) l)) }
     ensures list_after { list.new
         ≡ put_places (2 * h.shape.heap_size) list.old l
-        (answers_with (view (lent_in h counters norms entries counts)) (view (lent_in other other_counters other_norms other_entries other_counts)) l) }
+        (answers_with (view (lent_in h counters norms entries counts)) (view (lent_now other other_counters other_norms other_entries other_counts)) l) }
 {
     let shape = h.shape;
     let s = span_of(shape, l);
@@ -100,19 +100,19 @@ pub fn merge_layers(
     many: usize,
     list: &mut [u64],
 ) -> Header
-    requires merges_ready { MergesReady (lent_now h counters norms entries counts) (lent_now other other_counters other_norms other_entries other_counts) many }
+    requires merges_ready { MergesReady (lent h counters.old norms.old entries.old counts.old) (lent_now other other_counters other_norms other_entries other_counts) many }
     requires layers_in_bounds { 4 * h.shape.heap_size * h.shape.layers ≤ length list.old }
     requires index_len { length index.old ≡ tables_in h.shape }
     ensures counts_value { view (lent_out result counters norms entries counts)
-        ≡ over_layers (merges_with h.shape (view (lent_in other other_counters other_norms other_entries other_counts))) many 0
+        ≡ over_layers (merges_with h.shape (view (lent_now other other_counters other_norms other_entries other_counts))) many 0
         (view (lent_in h counters norms entries counts)) }
     ensures standing { Standing (lent_out result counters norms entries counts) }
     ensures index_after { index.new
         ≡ over_tables h.shape (λ l. merge_index_in (dims_at h.shape l) (layer_at (view (lent_in h counters norms entries counts)) l)
-        (layer_at (view (lent_in other other_counters other_norms other_entries other_counts)) l)) many 0 index.old }
+        (layer_at (view (lent_now other other_counters other_norms other_entries other_counts)) l)) many 0 index.old }
     ensures list_after { list.new
         ≡ tell_layers (2 * h.shape.heap_size)
-        (answers_with (view (lent_in h counters norms entries counts)) (view (lent_in other other_counters other_norms other_entries other_counts))) many 0 list.old }
+        (answers_with (view (lent_in h counters norms entries counts)) (view (lent_now other other_counters other_norms other_entries other_counts))) many 0 list.old }
 {
     let mut header = h;
     let mut l = 0;

@@ -1,0 +1,22 @@
+-- `layer::candidates::offer_first` meets its contract.
+use Rattle.layer.proofs.Gathers.{first_there, first_here, first_new}
+use Rattle.layer.proofs.candidates.offer_first.Goals as goal
+
+pub returns-then-there-m : goal.returns-then-there-m
+returns-then-there-m c = first_there _ _ _ _ _ _ _ c.item_at-w.ensures _ c.find-there.ensures.0 _ c.if-there-m.true
+
+pub returns-then-here-i : goal.returns-then-here-i
+returns-then-here-i c = first_here _ _ _ _ _ _ _ c.item_at-w.ensures _ c.find-there.ensures.0 _ c.if-there-m.false _ c.find-here.ensures.0 c.if-here-i.true
+
+pub offer_one-requires : goal.offer_one-requires
+offer_one-requires c = record {
+  seats = c.requires.seats;
+  sofar = c.requires.sofar;
+  counters_read = c.requires.counters_read;
+  keys_in_bounds = c.requires.keys_in_bounds;
+}
+
+pub returns : goal.returns
+returns c =
+    first_new _ _ _ _ _ _ _ c.item_at-w.ensures _ c.find-there.ensures.0 _ c.if-there-m.false _ c.find-here.ensures.0 c.if-here-i.false _
+    c.offer_one.ensures
