@@ -45,7 +45,7 @@ pub ahead_before : (cols h w : ℕ) (xs : List ℤ) (k r : ℕ) {at : ℕ} {es :
     → to_z w64 (of_z w64 v) ∷ es ≡ estimates_ahead cols h w xs (suc k) r
 ahead_before cols h w xs k r {at} {es} {v} p b e a =
     ap (λ (l : List ℤ). to_z w64 (of_z w64 v) ∷ l) a
-    ∙ sym (ahead_more cols h w xs k r (to_z w64 (of_z w64 v)) (to_z-of_z (sfits_of b) ∙ e ∙ ap (λ (i : ℕ). ahead_at h w xs i r) p))
+    ∙ sym (ahead_more cols h w xs k r (to_z w64 (of_z w64 v)) (to_z-of_z {w = w64} (sfits_of b) ∙ e ∙ ap (λ (i : ℕ). ahead_at h w xs i r) p))
 
 -- a row says no
 pub told-not : {rows cols h w : ℕ} {xs : List ℤ} {ws : List ℕ} {m : TriedUpdate} → m ≡ not_made → false ≡ rows_ready cols h w (sketch_of xs ws rows) rows 0 → CountedIfReady rows cols h w xs ws m
