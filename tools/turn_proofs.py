@@ -539,10 +539,10 @@ def turn(crate, fn, info, folder):
         used = re.search(r"\bκs\b", term)
         if used:
             F.bad.append(f"{name}: uses κs")
-        if re.search(r"\.enum[_-](told|known)", term) and not re.search(r"[\w]{3,} .*enum[_-]told.*\w{4,} ", term):
+        term = F.paths(term, place, goal)
+        if re.search(r"\.enum[_-](told|known)", term):
             print(f"{crate} {fn}: {goal}: left to the check: {term.strip()[:100]}")
             continue
-        term = F.paths(term, place, goal)
         if "tie." in term:
             F.bad.append(f"{name}: cites tie")
         if told.get(goal):
