@@ -1,7 +1,7 @@
 // The public calls. Each judges lengths and header, then what it reads, before it answers.
 ghost use Rattle.std.specs.Prelude.{◌≡◌, Bool, true, not, ◌&&◌, ℕ, ◌*◌, eqb};
 ghost use Rattle.header.specs.inner.Accepted.{Accepted};
-ghost use Rattle.layout.specs.Slices.{norms_in, view};
+ghost use Rattle.layout.specs.Slices.{norms_in, view, lent};
 ghost use Rattle.layout.specs.inner.Needs.{Standing};
 ghost use Rattle.layout.specs.Lending.{lent_now};
 ghost use Rattle.estimates.specs.Norms.{is_terminal};
@@ -108,7 +108,7 @@ fn sum_by_mode(
     every: bool,
 ) -> Answer
     requires { Standing (lent_now header counters norms entries counts) }
-    ensures { result ≡ sum_answer g every (view (lent_now header counters norms entries counts)) }
+    ensures { result ≡ sum_answer g every (view (lent header counters.now norms.now entries.now counts.now)) }
 {
     let mode = header.mode;
     let terminal = is_terminal(mode);
@@ -136,7 +136,7 @@ pub fn estimate_g_sum(
     g: G,
     count_every_key: bool,
 ) -> Answer
-    ensures { result ≡ sum_call g count_every_key (lent_now header counters norms entries counts) }
+    ensures { result ≡ sum_call g count_every_key (lent header counters.now norms.now entries.now counts.now) }
 {
     let refusal = layout::lent_refusal(header, counters, norms, entries, counts);
     if refusal != 0 {
@@ -162,7 +162,7 @@ pub fn estimate_cardinality(
     entries: &[u64],
     counts: &[i64],
 ) -> Answer
-    ensures { result ≡ cardinality_call (lent_now header counters norms entries counts) }
+    ensures { result ≡ cardinality_call (lent header counters.now norms.now entries.now counts.now) }
 {
     estimate_g_sum(header, counters, norms, entries, counts, G::One, true)
 }
@@ -188,7 +188,7 @@ pub fn panel_answer(
     entries: &[u64],
     counts: &[i64],
 ) -> PanelAnswer
-    ensures { result ≡ panel_call (lent_now header counters norms entries counts) }
+    ensures { result ≡ panel_call (lent header counters.now norms.now entries.now counts.now) }
 {
     let a = estimate_l1(header);
     if a.refusal != 0 {

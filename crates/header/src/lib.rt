@@ -13,8 +13,7 @@ ghost use Rattle.header.specs.declared.Mode.{Mode};
 ghost use Rattle.header.specs.Totals.{no_totals, update_totals, add_totals, set_weight, totals_ok, totals_tests};
 ghost use Rattle.header.specs.Shape.{max_layers, two_tier, empty_tier, bits_above, tier_above, same_tier, shape_refusal, checked_shape, same_shape, bottom_of, bottom_layer};
 ghost use Rattle.header.specs.OneTier.{one_tier, is_one_tier};
-ghost use Rattle.header.specs.Header.{zero_header, fresh_header, with_totals, with_mode, with_flags, with_lens, with_layer, with_layers, scalars_of, clash, joined, mode_number, mode_by, begun, begun_scalars, begin_tests, begin_of, begin_header, fresh_flags, lens_from, header_ok};
-ghost use Rattle.header.specs.Lending.{head_now};
+ghost use Rattle.header.specs.Header.{zero_header, fresh_header, with_totals, with_mode, with_flags, with_lens, with_layer, with_layers, scalars_of, clash, joined, mode_number, mode_by, begun, begun_scalars, begin_tests, begin_of, begin_header, fresh_flags, lens_from, header_ok, head_of};
 
 // The dimensions of a state: heap size, layers, and rows and columns of two tiers. Layers below
 // `elephant_layers` are of the first, the others of the second. `UnivMon`'s four dimensions are a shape
@@ -744,7 +743,7 @@ fn rest_in_range(
 // update, its one caller, into which the compiler takes it.
 pub fn fields_in_range(shape: Shape, totals: Totals, lens: &[usize], flags: &[bool]) -> bool
     requires { (length lens.now ≡ max_layers) × (length flags.now ≡ max_layers) }
-    ensures { (m : Mode) → result ≡ header_ok (head_now (record { shape = shape; totals = totals; mode = m }) lens flags) }
+    ensures { (m : Mode) → result ≡ header_ok (head_of (record { shape = shape; totals = totals; mode = m }) lens.now flags.now) }
 {
     if !shape.accepted() {
         return false;

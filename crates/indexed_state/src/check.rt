@@ -1,7 +1,7 @@
 // The check of a state with its index: that of the state, then the index's length, then table by table.
 ghost use Rattle.std.specs.Prelude.{◌≡◌, ℕ, ◌<◌};
 ghost use Rattle.layout.specs.State.{layer_at};
-ghost use Rattle.layout.specs.Slices.{view};
+ghost use Rattle.layout.specs.Slices.{view, lent};
 ghost use Rattle.layout.specs.Lending.{lent_now};
 ghost use Rattle.layout_index.specs.Tables.{table_at};
 ghost use Rattle.layout_index.specs.inner.Needs.{StandingIn};
@@ -23,7 +23,7 @@ fn table_ok(
 ) -> bool
     requires standing_in { StandingIn (lent_now header counters norms entries counts) index.now }
     requires l_lt_layers { l < header.shape.layers }
-    ensures { result ≡ table_ok (table_at header.shape index.now l) (layer_at (view (lent_now header counters norms entries counts)) l) }
+    ensures { result ≡ table_ok (table_at header.shape index.now l) (layer_at (view (lent header counters.now norms.now entries.now counts.now)) l) }
 {
     let shape = header.shape;
     let lens = header.lens;
@@ -45,7 +45,7 @@ fn tables_ok(
     index: &[u64],
 ) -> bool
     requires { StandingIn (lent_now header counters norms entries counts) index.now }
-    ensures { result ≡ tables_ok (view (lent_now header counters norms entries counts)) index.now }
+    ensures { result ≡ tables_ok (view (lent header counters.now norms.now entries.now counts.now)) index.now }
 {
     let layers = header.shape.layers;
     let mut l = 0;
@@ -68,7 +68,7 @@ pub fn check_indexed_state(
     counts: &[i64],
     index: &[u64],
 ) -> bool
-    ensures { result ≡ indexed_ok (lent_now header counters norms entries counts) index.now }
+    ensures { result ≡ indexed_ok (lent header counters.now norms.now entries.now counts.now) index.now }
 {
     if !state_check::check_state(header, counters, norms, entries, counts) {
         return false;

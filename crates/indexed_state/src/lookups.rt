@@ -2,8 +2,9 @@
 ghost use Rattle.std.specs.Prelude.{◌≡◌, false, length};
 ghost use Rattle.heap.specs.inner.Slices.{table_of};
 ghost use Rattle.heap_index.specs.inner.Needs.{Cover};
-ghost use Rattle.layout.specs.Lending.{lent_now};
+
 ghost use Rattle.indexed_state.specs.Lookups.{looked_up, look_in, lookup_call};
+ghost use Rattle.layout.specs.Slices.{lent};
 
 use crate::LookedUp;
 use header::Header;
@@ -58,7 +59,7 @@ pub fn lookup(
     layer: usize,
     key: u64,
 ) -> LookedUp
-    ensures { result ≡ lookup_call (lent_now header counters norms entries counts) index.now layer key }
+    ensures { result ≡ lookup_call (lent header counters.now norms.now entries.now counts.now) index.now layer key }
 {
     let unfit = indexed_refusal(header, counters, norms, entries, counts, index);
     if unfit != 0 {

@@ -3,7 +3,7 @@ ghost use Rattle.std.specs.Prelude.{◌≡◌, Bool, true, false, ◌&&◌, ℕ,
 ghost use Rattle.words.specs.Num.{top};
 ghost use Rattle.heap.specs.Offer.{len_by, kept_by};
 ghost use Rattle.layer.specs.Layer.{layer_update};
-ghost use Rattle.layer.specs.inner.Needs.{Untouched, layer_in, layer_now, layer_out, layer_of};
+ghost use Rattle.layer.specs.inner.Needs.{Untouched, layer_of, layer_in, layer_out};
 ghost use Rattle.layer_indexed.specs.Adding.{add_layer_in, add_index_in, add_answer_in};
 ghost use Rattle.layer_indexed.specs.inner.Needs.{Seated, AddReadyIn, read_grade, add_grade};
 
@@ -24,7 +24,7 @@ fn unready_grade(
     item: Item,
 ) -> u64
     requires { Seated d (length counters.now) (length norms.now) (length entries.now) (length counts.now) (length index.now) len }
-    ensures { (flag : Bool) (w : ℕ) → result ≡ read_grade d (layer_update item w) index.now (layer_now d counters norms entries counts len flag) }
+    ensures { (flag : Bool) (w : ℕ) → result ≡ read_grade d (layer_update item w) index.now (layer_of d counters.now norms.now entries.now counts.now len flag) }
 {
     if !countsketch_l2_norm::rows_read(counters, norms, d.rows, d.cols, item.high, item.low) {
         return 1;

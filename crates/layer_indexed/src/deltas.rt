@@ -3,7 +3,7 @@ ghost use Rattle.std.specs.Prelude.{◌≡◌, Bool, ◌&&◌, ℕ, ◌+◌, ◌
 ghost use Rattle.countsketch_l2_norm.specs.Sketch.{cell_at};
 ghost use Rattle.heap.specs.Offer.{len_by, kept_by};
 ghost use Rattle.layer.specs.Layer.{count_of};
-ghost use Rattle.layer.specs.inner.Needs.{delta, layer_in, layer_now, layer_out, layer_of};
+ghost use Rattle.layer.specs.inner.Needs.{delta, layer_of, layer_in, layer_out};
 ghost use Rattle.layer_indexed.specs.Adding.{delta_layer_in, delta_index_in, delta_answer_in, delta_reads_in};
 ghost use Rattle.layer_indexed.specs.inner.Needs.{Seated, CountableBehind, DeltaReadyIn, delta_grade};
 
@@ -49,7 +49,7 @@ fn delta_reads(
 ) -> bool
     requires seated { Seated d (length counters.now) (length norms.now) (length entries.now) (length counts.now) (length index.now) len }
     requires row_lt_rows { (row < d.rows) × (col < d.cols) }
-    ensures { (flag every : Bool) (n : ℤ) → result ≡ delta_reads_in d (delta row col n item every) index.now (layer_now d counters norms entries counts len flag) }
+    ensures { (flag every : Bool) (n : ℤ) → result ≡ delta_reads_in d (delta row col n item every) index.now (layer_of d counters.now norms.now entries.now counts.now len flag) }
 {
     if !countsketch_l2_norm::cell_read(counters, norms, d.rows, d.cols, row, col) {
         return false;

@@ -11,11 +11,10 @@ ghost use Rattle.words.specs.Tests.{number};
 ghost use Rattle.header.specs.Shape.{max_layers};
 ghost use Rattle.header.specs.inner.Accepted.{Accepted};
 ghost use Rattle.layout.specs.State.{dims_at, cell_off, norm_off};
-ghost use Rattle.layout.specs.Slices.{lengths_ok, extent_of};
+ghost use Rattle.layout.specs.Slices.{lengths_ok, extent_of, lent};
 ghost use Rattle.layout.specs.Outcomes.{lent_tests};
 ghost use Rattle.layout.specs.inner.Spans.{span_of, elephants_before};
 ghost use Rattle.layout.specs.Records.{item_at};
-ghost use Rattle.layout.specs.Lending.{lent_now};
 
 use header::{Header, Shape};
 use heap_moves::Item;
@@ -110,7 +109,7 @@ pub fn lent_refusal(
     entries: &[u64],
     counts: &[i64],
 ) -> u64
-    ensures { result ≡ number (lent_tests (lent_now h counters norms entries counts)) }
+    ensures { result ≡ number (lent_tests (lent h counters.now norms.now entries.now counts.now)) }
 {
     if !h.in_range() {
         return 9;

@@ -6,8 +6,9 @@
 ghost use Rattle.std.specs.Prelude.{◌≡◌, ℕ, ◌+◌, ◌*◌, ◌<◌, length};
 ghost use Rattle.words.specs.Tests.{number};
 ghost use Rattle.header.specs.inner.Accepted.{Accepted};
-ghost use Rattle.layout.specs.Lending.{lent_now};
+
 ghost use Rattle.layout_index.specs.Tables.{table_length, tables_in, table_at, indexed_tests};
+ghost use Rattle.layout.specs.Slices.{lent};
 
 use header::{Header, Shape};
 
@@ -61,7 +62,7 @@ pub fn indexed_refusal(
     counts: &[i64],
     index: &[u64],
 ) -> u64
-    ensures { result ≡ number (indexed_tests (lent_now h counters norms entries counts) index.now) }
+    ensures { result ≡ number (indexed_tests (lent h counters.now norms.now entries.now counts.now) index.now) }
 {
     let unfit = layout::lent_refusal(h, counters, norms, entries, counts);
     if unfit != 0 {

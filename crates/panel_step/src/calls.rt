@@ -3,11 +3,12 @@ ghost use Rattle.std.specs.Prelude.{◌≡◌, ℕ, ◌≤◌, length};
 ghost use Rattle.std.proofs.lemmas.List.Edits.{sets};
 ghost use Rattle.header.specs.Shape.{max_layers};
 ghost use Rattle.layout.specs.Outcomes.{left};
-ghost use Rattle.layout.specs.Lending.{lent_in, lent_now, lent_out};
+ghost use Rattle.layout.specs.Lending.{lent_in, lent_out};
 ghost use Rattle.univmon.specs.Calls.{answered};
 ghost use Rattle.estimates.specs.Calls.{panel_call};
 ghost use Rattle.panel_lines.specs.Answers.{show_bytes};
 ghost use Rattle.panel_step.specs.Panel.{shape_call, add_call, show_line, panel_text, updates_digits};
+ghost use Rattle.layout.specs.Slices.{lent};
 
 use crate::extent::panel_refusal;
 use header::{Answered, Header, Shape};
@@ -119,9 +120,9 @@ fn show_parts(
 ) -> usize
     requires layers_le_max_layers { header.shape.layers ≤ max_layers }
     requires updates_digits_in_bounds { show_bytes max_layers updates_digits ≤ length out.old }
-    ensures value { result ≡ length (panel_text header (panel_call (lent_now header counters norms entries counts))) }
+    ensures value { result ≡ length (panel_text header (panel_call (lent header counters.now norms.now entries.now counts.now))) }
     ensures out_after { out.new
-        ≡ sets out.old 0 (panel_text header (panel_call (lent_now header counters norms entries counts))) }
+        ≡ sets out.old 0 (panel_text header (panel_call (lent header counters.now norms.now entries.now counts.now))) }
     ensures upper_bound { result ≤ show_bytes max_layers updates_digits }
 {
     let a = estimates::panel_answer(header, counters, norms, entries, counts);
@@ -146,8 +147,8 @@ pub fn show(
     out: &mut [u8],
 ) -> usize
     requires { show_bytes max_layers updates_digits ≤ length out.old }
-    ensures value { result ≡ length (show_line (lent_now header counters norms entries counts)) }
-    ensures out_after { out.new ≡ sets out.old 0 (show_line (lent_now header counters norms entries counts)) }
+    ensures value { result ≡ length (show_line (lent header counters.now norms.now entries.now counts.now)) }
+    ensures out_after { out.new ≡ sets out.old 0 (show_line (lent header counters.now norms.now entries.now counts.now)) }
     ensures upper_bound { result ≤ show_bytes max_layers updates_digits }
 {
     let shape = header.shape;

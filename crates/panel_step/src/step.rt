@@ -1,8 +1,9 @@
 // A line, answered.
 ghost use Rattle.std.specs.Prelude.{◌≡◌, [], ◌∷◌, ◌++◌, ℕ, ◌≤◌, length};
 ghost use Rattle.std.proofs.lemmas.List.Edits.{sets};
-ghost use Rattle.layout.specs.Lending.{lent_in, lent_now, lent_out};
+ghost use Rattle.layout.specs.Lending.{lent_in, lent_out};
 ghost use Rattle.panel_step.specs.Panel.{shape_call, add_call, show_line, reply_text, replied, reply, found, put, longest, answer_within};
+ghost use Rattle.layout.specs.Slices.{lent};
 
 use crate::LineAnswered;
 use crate::calls::{add, show, start};
@@ -84,8 +85,8 @@ fn answer_show(
     out: &mut [u8],
 ) -> LineAnswered
     requires { longest ≤ length out.old }
-    ensures out_after { found (lent_now result.header counters norms entries counts) result.len out.new
-        ≡ put (reply (lent_now header counters norms entries counts) (show_line (lent_now header counters norms entries counts))) out.old }
+    ensures out_after { found (lent result.header counters.now norms.now entries.now counts.now) result.len out.new
+        ≡ put (reply (lent header counters.now norms.now entries.now counts.now) (show_line (lent header counters.now norms.now entries.now counts.now))) out.old }
     ensures len_le_longest { result.len ≤ longest }
 {
     let k = show(header, counters, norms, entries, counts, out);

@@ -1,8 +1,8 @@
 // The check of a state: header and lengths, then layer by layer.
 ghost use Rattle.std.specs.Prelude.{◌≡◌, Bool, false, ℕ, ◌*◌, ◌<◌, length};
-ghost use Rattle.layer.specs.inner.Needs.{Housed, layer_now};
+ghost use Rattle.layer.specs.inner.Needs.{Housed, layer_of};
 ghost use Rattle.layout.specs.State.{dims_at, layer_at};
-ghost use Rattle.layout.specs.Slices.{view};
+ghost use Rattle.layout.specs.Slices.{view, lent};
 ghost use Rattle.layout.specs.inner.Needs.{Standing};
 ghost use Rattle.layout.specs.Lending.{lent_now};
 ghost use Rattle.state_check.specs.Check.{layer_ok, layers_ok, state_ok};
@@ -24,7 +24,7 @@ fn layer_ok(
     requires housed { Housed dims (length cells.now) (length norms.now) (length counts.now) len }
     requires entries_len { length entries.now ≡ 4 * dims.size }
     ensures { (flag : Bool) → result ≡ layer_ok dims
-        (layer_now dims cells norms entries counts len flag) }
+        (layer_of dims cells.now norms.now entries.now counts.now len flag) }
 {
     if !rows_ok(cells, norms, dims.rows, dims.cols) {
         return false;
@@ -44,7 +44,7 @@ fn layer_at(
     requires standing { Standing (lent_now header counters norms entries counts) }
     requires l_lt_layers { l < header.shape.layers }
     ensures { result ≡ layer_ok (dims_at header.shape l)
-        (layer_at (view (lent_now header counters norms entries counts)) l) }
+        (layer_at (view (lent header counters.now norms.now entries.now counts.now)) l) }
 {
     let shape = header.shape;
     let lens = header.lens;
@@ -69,7 +69,7 @@ fn layers_ok(
 ) -> bool
     requires { Standing (lent_now header counters norms entries counts) }
     ensures { result ≡ layers_ok
-        (view (lent_now header counters norms entries counts)) }
+        (view (lent header counters.now norms.now entries.now counts.now)) }
 {
     let layers = header.shape.layers;
     let mut l = 0;
@@ -91,7 +91,7 @@ pub fn check_state(
     entries: &[u64],
     counts: &[i64],
 ) -> bool
-    ensures { result ≡ state_ok (lent_now header counters norms entries counts) }
+    ensures { result ≡ state_ok (lent header counters.now norms.now entries.now counts.now) }
 {
     if !header.in_range() {
         return false;

@@ -2,7 +2,7 @@
 ghost use Rattle.std.specs.Prelude.{◌≡◌, ℕ, ◌+◌, ◌<◌};
 ghost use Rattle.header.specs.OneTier.{OneTiered};
 ghost use Rattle.layout.specs.State.{layer_at};
-ghost use Rattle.layout.specs.Slices.{view};
+ghost use Rattle.layout.specs.Slices.{view, lent};
 ghost use Rattle.layout.specs.inner.Needs.{Standing};
 ghost use Rattle.layout.specs.Lending.{lent_now};
 ghost use Rattle.state_forms.specs.Grammar.{first_format, num_line, head_format, page_format, pages_text};
@@ -63,7 +63,7 @@ fn lay_layer(
     requires l_lt_layers { l < header.shape.layers }
     requires text_room { TextRoom at ((page_format (frame_of (dims_of header.shape)) l).write (page_of (dims_of header.shape) (layer_at (view (lent_now header counters norms entries counts)) l))) }
     ensures { LaidText out.old at
-        ((page_format (frame_of (dims_of header.shape)) l).write (page_of (dims_of header.shape) (layer_at (view (lent_now header counters norms entries counts)) l)))
+        ((page_format (frame_of (dims_of header.shape)) l).write (page_of (dims_of header.shape) (layer_at (view (lent header counters.now norms.now entries.now counts.now)) l)))
         out.new result }
 {
     let shape = header.shape;
@@ -97,7 +97,7 @@ fn lay_layers(
     requires standing { Standing (lent_now header counters norms entries counts) }
     requires text_room { TextRoom at (pages_text (frame_of (dims_of header.shape)) 0 (pages_of (view (lent_now header counters norms entries counts)) header.shape.layers 0)) }
     ensures { LaidText out.old at
-        (pages_text (frame_of (dims_of header.shape)) 0 (pages_of (view (lent_now header counters norms entries counts)) header.shape.layers 0))
+        (pages_text (frame_of (dims_of header.shape)) 0 (pages_of (view (lent header counters.now norms.now entries.now counts.now)) header.shape.layers 0))
         out.new result }
 {
     let layers = header.shape.layers;
@@ -122,7 +122,7 @@ fn lay_state(
     requires one_tiered { OneTiered header.shape }
     requires standing { Standing (lent_now header counters norms entries counts) }
     requires text_room { TextRoom 0 (text_of (view (lent_now header counters norms entries counts))) }
-    ensures { LaidText out.old 0 (text_of (view (lent_now header counters norms entries counts))) out.new result }
+    ensures { LaidText out.old 0 (text_of (view (lent header counters.now norms.now entries.now counts.now))) out.new result }
 {
     let shape = header.shape;
     let mode = header.mode;
@@ -149,7 +149,7 @@ pub fn write_state(
     counts: &[i64],
     out: &mut [u8],
 ) -> Written
-    ensures { copied result out.new ≡ write_call (lent_now header counters norms entries counts) out.old }
+    ensures { copied result out.new ≡ write_call (lent header counters.now norms.now entries.now counts.now) out.old }
 {
     if !state_check::check_state(header, counters, norms, entries, counts) {
         return Written {

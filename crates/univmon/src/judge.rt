@@ -4,10 +4,11 @@ ghost use Rattle.std.specs.Prelude.{◌≡◌, Bool, true, ℕ, ◌+◌, ◌<◌
 ghost use Rattle.words.specs.Tests.{number};
 ghost use Rattle.header.specs.Lending.{head_now};
 ghost use Rattle.layout.specs.State.{layer_at, all_layers};
-ghost use Rattle.layout.specs.Slices.{view};
+ghost use Rattle.layout.specs.Slices.{view, lent};
 ghost use Rattle.layout.specs.Lending.{lent_now};
 ghost use Rattle.univmon.specs.inner.Needs.{JudgeReady, ready_at};
 ghost use Rattle.univmon.specs.Updates.{reads_at, layers_tests};
+ghost use Rattle.header.specs.Header.{head_of};
 
 use header::Scalars;
 use layout::{cells_at, dims, item_in, norms_at, seats_at};
@@ -26,7 +27,7 @@ fn ready_at(
     l: usize,
 ) -> bool
     requires { JudgeReady (lent_now (head_now h lens flags) counters norms entries counts) «record».now weight 1 l }
-    ensures { result ≡ ready_at h.shape «record».now weight l (layer_at (view (lent_now (head_now h lens flags) counters norms entries counts)) l) }
+    ensures { result ≡ ready_at h.shape «record».now weight l (layer_at (view (lent (head_of h lens.now flags.now) counters.now norms.now entries.now counts.now)) l) }
 {
     let shape = h.shape;
     let d = dims(shape, l);
@@ -56,7 +57,7 @@ fn reads_at(
     l: usize,
 ) -> bool
     requires { JudgeReady (lent_now (head_now h lens flags) counters norms entries counts) «record».now 0 1 l }
-    ensures { (w : ℕ) → result ≡ reads_at h.shape «record».now w l (layer_at (view (lent_now (head_now h lens flags) counters norms entries counts)) l) }
+    ensures { (w : ℕ) → result ≡ reads_at h.shape «record».now w l (layer_at (view (lent (head_of h lens.now flags.now) counters.now norms.now entries.now counts.now)) l) }
 {
     let shape = h.shape;
     let d = dims(shape, l);
@@ -87,7 +88,7 @@ pub fn all_ready(
     many: usize,
 ) -> bool
     requires { JudgeReady (lent_now (head_now h lens flags) counters norms entries counts) «record».now weight many first }
-    ensures { result ≡ all_layers (ready_at h.shape «record».now weight) many first (view (lent_now (head_now h lens flags) counters norms entries counts)) }
+    ensures { result ≡ all_layers (ready_at h.shape «record».now weight) many first (view (lent (head_of h lens.now flags.now) counters.now norms.now entries.now counts.now)) }
 {
     let end = first + many;
     let mut l = first;
@@ -116,7 +117,7 @@ fn all_read(
     many: usize,
 ) -> bool
     requires { JudgeReady (lent_now (head_now h lens flags) counters norms entries counts) «record».now 0 many first }
-    ensures { (w : ℕ) → result ≡ all_layers (reads_at h.shape «record».now w) many first (view (lent_now (head_now h lens flags) counters norms entries counts)) }
+    ensures { (w : ℕ) → result ≡ all_layers (reads_at h.shape «record».now w) many first (view (lent (head_of h lens.now flags.now) counters.now norms.now entries.now counts.now)) }
 {
     let end = first + many;
     let mut l = first;
@@ -146,7 +147,7 @@ pub fn judge_layers(
     many: usize,
 ) -> u64
     requires { JudgeReady (lent_now (head_now h lens flags) counters norms entries counts) «record».now weight many first }
-    ensures { result ≡ number (layers_tests h.shape «record».now weight many first (view (lent_now (head_now h lens flags) counters norms entries counts))) }
+    ensures { result ≡ number (layers_tests h.shape «record».now weight many first (view (lent (head_of h lens.now flags.now) counters.now norms.now entries.now counts.now))) }
 {
     if all_ready(
         h, lens, flags, counters, norms, entries, counts, record, weight, first, many,

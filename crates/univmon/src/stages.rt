@@ -3,7 +3,7 @@
 ghost use Rattle.std.specs.Prelude.{◌≡◌, Bool, true, false, ◌&&◌, ◌++◌, ℕ, ◌*◌, ◌≤◌, length, nat_abs, leb};
 ghost use Rattle.words.specs.Num.{top};
 ghost use Rattle.words.specs.Tests.{number};
-ghost use Rattle.header.specs.Lending.{head_in, head_now, head_out};
+ghost use Rattle.header.specs.Lending.{head_in, head_out};
 ghost use Rattle.layout.specs.State.{all_layers};
 ghost use Rattle.layout.specs.Slices.{view, lent};
 ghost use Rattle.layout.specs.Outcomes.{left, size_tests};
@@ -51,7 +51,7 @@ pub fn sized_refusal(
     entries: usize,
     counts: usize,
 ) -> u64
-    ensures { result ≡ number (place_tests (head_now scalars lens flags) ++ size_tests (head_now scalars lens flags) counters norms entries counts) }
+    ensures { result ≡ number (place_tests (head_of scalars lens.now flags.now) ++ size_tests (head_of scalars lens.now flags.now) counters norms entries counts) }
 {
     if lens.len() != Shape::MAX_LAYERS {
         return 9;
@@ -80,7 +80,7 @@ fn sound_refusal(
     counts: usize,
     record: usize,
 ) -> u64
-    ensures { result ≡ number (sound_tests (head_now scalars lens flags) counters norms entries counts «record») }
+    ensures { result ≡ number (sound_tests (head_of scalars lens.now flags.now) counters norms entries counts «record») }
 {
     let unfit = sized_refusal(scalars, lens, flags, counters, norms, entries, counts);
     if unfit != 0 {

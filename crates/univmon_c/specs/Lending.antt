@@ -1,14 +1,10 @@
 -- A state as C lends it, as a contract names it.
 use Rattle.std.specs.Prelude.{ℕ, Bool, ℤ}
-use Rattle.words.specs.Lending.{SliceNow, SliceBoth}
+use Rattle.words.specs.Lending.{SliceBoth}
 use Rattle.univmon_c.specs.declared.CShape.{CShape}
 use Rattle.univmon_c.specs.declared.CHeader.{CHeader}
 use Rattle.univmon_c.specs.Crossing.{c_head}
 use Rattle.univmon_c.specs.Calls.{CLent, c_lent}
-
--- of slices that are lent to be read
-abbrev pub c_lent_now : {H : Type 0} → H → SliceNow ℤ → SliceNow ℕ → SliceNow ℕ → SliceNow ℤ → CLent H
-c_lent_now h xs ws es ns = c_lent h xs.now ws.now es.now ns.now
 
 -- of slices that are lent to be changed: at entry, and at exit
 abbrev pub c_lent_in : {H : Type 0} → H → SliceBoth ℤ → SliceBoth ℕ → SliceBoth ℕ → SliceBoth ℤ → CLent H

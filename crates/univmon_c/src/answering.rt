@@ -3,8 +3,8 @@ ghost use Rattle.std.specs.Prelude.{◌≡◌, Bool, true, ℕ};
 ghost use Rattle.estimates.specs.Calls.{l1_call, l2_call, sum_call, cardinality_call, panel_call};
 ghost use Rattle.state_check.specs.Check.{state_ok};
 ghost use Rattle.univmon_c.specs.Crossing.{is_g, g_by, header_of};
-ghost use Rattle.univmon_c.specs.Calls.{one_tier_face, lent_of, answer_by, panel_by, check_by};
-ghost use Rattle.univmon_c.specs.Lending.{c_lent_now};
+ghost use Rattle.univmon_c.specs.Calls.{one_tier_face, lent_of, answer_by, panel_by, check_by, c_lent};
+
 
 use crate::crossing::{LAST_MODE, c_answer, c_panel, g_of, header_of, no_answer, no_panel};
 use crate::{CAnswer, CHeader, CPanel};
@@ -44,7 +44,7 @@ pub fn univmon_estimate_g_sum(
     g: u64,
     count_every_key: bool,
 ) -> CAnswer
-    ensures { result ≡ answer_by (is_g g) header.mode (sum_call (g_by g) count_every_key (lent_of one_tier_face (c_lent_now header counters norms entries counts))) }
+    ensures { result ≡ answer_by (is_g g) header.mode (sum_call (g_by g) count_every_key (lent_of one_tier_face (c_lent header counters.now norms.now entries.now counts.now))) }
 {
     if LAST_MODE < header.mode {
         return no_answer();
@@ -73,7 +73,7 @@ pub fn univmon_estimate_cardinality(
     entries: &[u64],
     counts: &[i64],
 ) -> CAnswer
-    ensures { result ≡ answer_by true header.mode (cardinality_call (lent_of one_tier_face (c_lent_now header counters norms entries counts))) }
+    ensures { result ≡ answer_by true header.mode (cardinality_call (lent_of one_tier_face (c_lent header counters.now norms.now entries.now counts.now))) }
 {
     if LAST_MODE < header.mode {
         return no_answer();
@@ -90,7 +90,7 @@ pub fn univmon_panel_answer(
     entries: &[u64],
     counts: &[i64],
 ) -> CPanel
-    ensures { result ≡ panel_by header (panel_call (lent_of one_tier_face (c_lent_now header counters norms entries counts))) }
+    ensures { result ≡ panel_by header (panel_call (lent_of one_tier_face (c_lent header counters.now norms.now entries.now counts.now))) }
 {
     if LAST_MODE < header.mode {
         return no_panel();
@@ -108,7 +108,7 @@ pub fn univmon_check_state(
     entries: &[u64],
     counts: &[i64],
 ) -> bool
-    ensures { result ≡ check_by state_ok (c_lent_now header counters norms entries counts) }
+    ensures { result ≡ check_by state_ok (c_lent header counters.now norms.now entries.now counts.now) }
 {
     if LAST_MODE < header.mode {
         return false;

@@ -10,8 +10,8 @@ ghost use Rattle.univmon.specs.Calls.{new_call, update_list_call, clear_call, we
 ghost use Rattle.univmon_delta.specs.Deltas.{arrival, delta_answers, delta_list_call};
 ghost use Rattle.univmon_merge.specs.Merges.{merge_answers, merge_list_call};
 ghost use Rattle.univmon_c.specs.Crossing.{is_fidelity, fidelity_of, c_bottom};
-ghost use Rattle.univmon_c.specs.Calls.{one_tier_face, lent_of, c_left, crossed, change_by, merge_by, head_by};
-ghost use Rattle.univmon_c.specs.Lending.{c_lent_in, c_lent_now, c_lent_out};
+ghost use Rattle.univmon_c.specs.Calls.{one_tier_face, lent_of, c_left, crossed, change_by, merge_by, head_by, c_lent};
+ghost use Rattle.univmon_c.specs.Lending.{c_lent_in, c_lent_out};
 
 use crate::crossing::{LAST_MODE, c_answered, c_bottom, fidelity_of, header_of};
 use crate::{CAnswered, CBottom, CHeader};
@@ -177,10 +177,10 @@ pub fn univmon_merge(
 ) -> CAnswered
     ensures counts_value { c_left result.refusal (c_lent_out result.header counters norms entries counts)
         ≡ merge_by one_tier_face (λ s t. merge_list_call s t (length list.old)) (c_lent_in header counters norms entries counts)
-        (c_lent_now other other_counters other_norms other_entries other_counts) }
+        (c_lent other other_counters.now other_norms.now other_entries.now other_counts.now) }
     ensures list_after { list.new
         ≡ list_left result.refusal (merge_answers (view (lent_of one_tier_face (c_lent_in header counters norms entries counts)))
-        (view (lent_of one_tier_face (c_lent_now other other_counters other_norms other_entries other_counts)))) list.old }
+        (view (lent_of one_tier_face (c_lent other other_counters.now other_norms.now other_entries.now other_counts.now)))) list.old }
 {
     if LAST_MODE < header.mode {
         return CAnswered { refusal: 9, header };

@@ -69,7 +69,7 @@ fn judge_delta(
 ) -> u64
     requires { Placed (lent_now h counters norms entries counts) «record».now l row col }
     ensures { (every : Bool) → result ≡ number (delta_tests_at (dims_at h.shape l) (delta row col count (item_at «record».now l) every)
-        (layer_at (view (lent_now h counters norms entries counts)) l)) }
+        (layer_at (view (lent h counters.now norms.now entries.now counts.now)) l)) }
 {
     let shape = h.shape;
     let d = dims(shape, l);
@@ -167,7 +167,7 @@ fn delta_refusal(
     count: i64,
     list: usize,
 ) -> u64
-    ensures { (f : Fidelity) → result ≡ number (delta_tests (lent_now h counters norms entries counts) «record».now (arrival l row col count f) ++ list_tests (2 * h.shape.layers) list) }
+    ensures { (f : Fidelity) → result ≡ number (delta_tests (lent h counters.now norms.now entries.now counts.now) «record».now (arrival l row col count f) ++ list_tests (2 * h.shape.layers) list) }
 {
     let unfit = lent_refusal(h, counters, norms, entries, counts);
     if unfit != 0 {

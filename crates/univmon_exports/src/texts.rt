@@ -3,8 +3,8 @@ ghost use Rattle.std.specs.Prelude.{◌≡◌};
 ghost use Rattle.header.specs.Header.{zero_header};
 ghost use Rattle.layout.specs.Lending.{lent_in};
 ghost use Rattle.state_text.specs.Calls.{write_call, read_call};
-ghost use Rattle.univmon_c.specs.Calls.{one_tier_face, c_left, crossed, c_copied, write_by};
-ghost use Rattle.univmon_c.specs.Lending.{c_lent_now, c_lent_out};
+ghost use Rattle.univmon_c.specs.Calls.{one_tier_face, c_left, crossed, c_copied, write_by, c_lent};
+ghost use Rattle.univmon_c.specs.Lending.{c_lent_out};
 
 use univmon_c::{CAnswered, CHeader, CWritten};
 
@@ -19,7 +19,7 @@ pub extern "C" fn univmon_write_state(
     counts: &[i64],
     out: &mut [u8],
 ) -> CWritten
-    ensures { c_copied result out.new ≡ write_by write_call (c_lent_now header counters norms entries counts) out.old }
+    ensures { c_copied result out.new ≡ write_by write_call (c_lent header counters.now norms.now entries.now counts.now) out.old }
 {
     univmon_c::texts::univmon_write_state(header, counters, norms, entries, counts, out)
 }

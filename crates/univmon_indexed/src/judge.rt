@@ -8,6 +8,7 @@ ghost use Rattle.layout.specs.Slices.{view, lent};
 
 ghost use Rattle.univmon_indexed.specs.Updates.{layers_tests_in};
 ghost use Rattle.univmon_indexed.specs.inner.Needs.{JudgeReadyIn, grade_in, reaches_at};
+ghost use Rattle.header.specs.Header.{head_of};
 
 use header::Scalars;
 use layout::{cells_at, dims, item_in, norms_at, span_of};
@@ -28,7 +29,7 @@ fn grade_at(
     l: usize,
 ) -> u64
     requires { JudgeReadyIn (lent (head_now h lens flags) counters.now norms.now entries.old counts.old) index.old «record».now weight 1 l }
-    ensures value { result ≡ grade_in h.shape «record».now weight index.old l (layer_at (view (lent (head_now h lens flags) counters.now norms.now entries.old counts.old)) l) }
+    ensures value { result ≡ grade_in h.shape «record».now weight index.old l (layer_at (view (lent (head_of h lens.now flags.now) counters.now norms.now entries.old counts.old)) l) }
     ensures entries_unchanged { (entries.new ≡ entries.old) × ((counts.new ≡ counts.old) × (index.new ≡ index.old)) }
 {
     let shape = h.shape;
@@ -73,7 +74,7 @@ pub fn all_reach(
     grade: u64,
 ) -> bool
     requires { JudgeReadyIn (lent (head_now h lens flags) counters.now norms.now entries.old counts.old) index.old «record».now weight many first }
-    ensures value { result ≡ all_layers (reaches_at grade h.shape «record».now weight index.old) many first (view (lent (head_now h lens flags) counters.now norms.now entries.old counts.old)) }
+    ensures value { result ≡ all_layers (reaches_at grade h.shape «record».now weight index.old) many first (view (lent (head_of h lens.now flags.now) counters.now norms.now entries.old counts.old)) }
     ensures entries_unchanged { (entries.new ≡ entries.old) × ((counts.new ≡ counts.old) × (index.new ≡ index.old)) }
 {
     let end = first + many;
@@ -108,7 +109,7 @@ pub fn judge_layers(
     many: usize,
 ) -> u64
     requires { JudgeReadyIn (lent (head_now h lens flags) counters.now norms.now entries.old counts.old) index.old «record».now weight many first }
-    ensures value { result ≡ number (layers_tests_in h.shape «record».now weight index.old many first (view (lent (head_now h lens flags) counters.now norms.now entries.old counts.old))) }
+    ensures value { result ≡ number (layers_tests_in h.shape «record».now weight index.old many first (view (lent (head_of h lens.now flags.now) counters.now norms.now entries.old counts.old))) }
     ensures entries_unchanged { (entries.new ≡ entries.old) × ((counts.new ≡ counts.old) × (index.new ≡ index.old)) }
 {
     if !all_reach(

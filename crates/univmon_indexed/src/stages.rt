@@ -3,11 +3,11 @@
 ghost use Rattle.std.specs.Prelude.{◌≡◌, Bool, true, false, ◌&&◌, ◌++◌, ℕ, ◌*◌, ◌≤◌, length, nat_abs, leb};
 ghost use Rattle.words.specs.Num.{top};
 ghost use Rattle.words.specs.Tests.{number};
-ghost use Rattle.header.specs.Lending.{head_in, head_now, head_out};
+ghost use Rattle.header.specs.Lending.{head_in, head_out};
 ghost use Rattle.layout.specs.State.{all_layers};
 ghost use Rattle.layout.specs.Slices.{view, lent};
 ghost use Rattle.layout.specs.Records.{bottom_word};
-ghost use Rattle.layout.specs.Lending.{lent_in, lent_now, lent_out};
+ghost use Rattle.layout.specs.Lending.{lent_in, lent_out};
 ghost use Rattle.layout.specs.inner.Telling.{list_tests};
 ghost use Rattle.univmon.specs.inner.Needs.{zeroed_for};
 ghost use Rattle.univmon_indexed.specs.Updates.{layers_tests_in};
@@ -151,7 +151,7 @@ fn sound_refusal(
     index: usize,
     record: usize,
 ) -> u64
-    ensures { result ≡ number (sound_tests_in (lent_now (head_now scalars lens flags) counters norms entries counts) index «record») }
+    ensures { result ≡ number (sound_tests_in (lent (head_of scalars lens.now flags.now) counters.now norms.now entries.now counts.now) index «record») }
 {
     let unfit = sized_refusal(
         scalars,

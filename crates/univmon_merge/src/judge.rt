@@ -3,7 +3,7 @@
 ghost use Rattle.std.specs.Prelude.{◌≡◌, ◌++◌, ◌*◌};
 ghost use Rattle.words.specs.Tests.{number};
 ghost use Rattle.layout.specs.State.{layer_at, all_layers};
-ghost use Rattle.layout.specs.Slices.{view};
+ghost use Rattle.layout.specs.Slices.{view, lent};
 ghost use Rattle.layout.specs.Lending.{lent_now};
 ghost use Rattle.layout.specs.inner.Telling.{list_tests};
 ghost use Rattle.univmon_merge.specs.Merges.{heads_tests, pair_tests, merge_tests};
@@ -27,8 +27,8 @@ fn reads_at(
     l: usize,
 ) -> bool
     requires { Paired (lent_now h counters norms entries counts) (lent_now other other_counters other_norms other_entries other_counts) 1 l }
-    ensures { result ≡ reads_with (view (lent_now other other_counters other_norms other_entries other_counts)) l
-        (layer_at (view (lent_now h counters norms entries counts)) l) }
+    ensures { result ≡ reads_with (view (lent other other_counters.now other_norms.now other_entries.now other_counts.now)) l
+        (layer_at (view (lent h counters.now norms.now entries.now counts.now)) l) }
 {
     let shape = h.shape;
     let lens = h.lens;
@@ -60,8 +60,8 @@ fn fits_at(
     l: usize,
 ) -> bool
     requires { PairRead (lent_now h counters norms entries counts) (lent_now other other_counters other_norms other_entries other_counts) l }
-    ensures { result ≡ fits_with (view (lent_now other other_counters other_norms other_entries other_counts)) l
-        (layer_at (view (lent_now h counters norms entries counts)) l) }
+    ensures { result ≡ fits_with (view (lent other other_counters.now other_norms.now other_entries.now other_counts.now)) l
+        (layer_at (view (lent h counters.now norms.now entries.now counts.now)) l) }
 {
     let shape = h.shape;
     layer::merge_fits(
@@ -85,8 +85,8 @@ fn all_read(
     many: usize,
 ) -> bool
     requires { Paired (lent_now h counters norms entries counts) (lent_now other other_counters other_norms other_entries other_counts) many 0 }
-    ensures { result ≡ all_layers (reads_with (view (lent_now other other_counters other_norms other_entries other_counts))) many 0
-        (view (lent_now h counters norms entries counts)) }
+    ensures { result ≡ all_layers (reads_with (view (lent other other_counters.now other_norms.now other_entries.now other_counts.now))) many 0
+        (view (lent h counters.now norms.now entries.now counts.now)) }
 {
     let mut l = 0;
     while l < many {
@@ -125,8 +125,8 @@ fn all_fit(
     many: usize,
 ) -> bool
     requires { PairsRead (lent_now h counters norms entries counts) (lent_now other other_counters other_norms other_entries other_counts) many }
-    ensures { result ≡ all_layers (fits_with (view (lent_now other other_counters other_norms other_entries other_counts))) many 0
-        (view (lent_now h counters norms entries counts)) }
+    ensures { result ≡ all_layers (fits_with (view (lent other other_counters.now other_norms.now other_entries.now other_counts.now))) many 0
+        (view (lent h counters.now norms.now entries.now counts.now)) }
 {
     let mut l = 0;
     while l < many {
@@ -183,7 +183,7 @@ fn layers_refusal(
     layers: usize,
 ) -> u64
     requires { Paired (lent_now h counters norms entries counts) (lent_now other other_counters other_norms other_entries other_counts) layers 0 }
-    ensures { result ≡ number (pair_tests layers (view (lent_now h counters norms entries counts)) (view (lent_now other other_counters other_norms other_entries other_counts))) }
+    ensures { result ≡ number (pair_tests layers (view (lent h counters.now norms.now entries.now counts.now)) (view (lent other other_counters.now other_norms.now other_entries.now other_counts.now))) }
 {
     if !all_read(
         h,
@@ -232,7 +232,7 @@ pub fn merge_refusal(
     other_counts: &[i64],
     list: usize,
 ) -> u64
-    ensures { result ≡ number (merge_tests (lent_now h counters norms entries counts) (lent_now other other_counters other_norms other_entries other_counts)
+    ensures { result ≡ number (merge_tests (lent h counters.now norms.now entries.now counts.now) (lent other other_counters.now other_norms.now other_entries.now other_counts.now)
         ++ list_tests (4 * h.shape.heap_size * h.shape.layers) list) }
 {
     let own = lent_refusal(h, counters, norms, entries, counts);

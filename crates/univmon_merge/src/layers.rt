@@ -40,12 +40,12 @@ fn merge_one(
     requires layers_in_bounds { 4 * h.shape.heap_size * h.shape.layers ≤ length list.old }
     ensures counts_value { view (lent_out result counters norms entries counts)
         ≡ put_layer (view (lent_in h counters norms entries counts)) l
-        (merges_with h.shape (view (lent_now other other_counters other_norms other_entries other_counts)) l
+        (merges_with h.shape (view (lent other other_counters.now other_norms.now other_entries.now other_counts.now)) l
         (layer_at (view (lent_in h counters norms entries counts)) l)) }
     ensures standing { Standing (lent_out result counters norms entries counts) }
     ensures list_after { list.new
         ≡ put_places (2 * h.shape.heap_size) list.old l
-        (answers_with (view (lent_in h counters norms entries counts)) (view (lent_now other other_counters other_norms other_entries other_counts)) l) }
+        (answers_with (view (lent_in h counters norms entries counts)) (view (lent other other_counters.now other_norms.now other_entries.now other_counts.now)) l) }
 {
     let shape = h.shape;
     let s = span_of(shape, l);
@@ -100,12 +100,12 @@ pub fn merge_layers(
     requires merges_ready { MergesReady (lent h counters.old norms.old entries.old counts.old) (lent_now other other_counters other_norms other_entries other_counts) many }
     requires layers_in_bounds { 4 * h.shape.heap_size * h.shape.layers ≤ length list.old }
     ensures counts_value { view (lent_out result counters norms entries counts)
-        ≡ over_layers (merges_with h.shape (view (lent_now other other_counters other_norms other_entries other_counts))) many 0
+        ≡ over_layers (merges_with h.shape (view (lent other other_counters.now other_norms.now other_entries.now other_counts.now))) many 0
         (view (lent_in h counters norms entries counts)) }
     ensures standing { Standing (lent_out result counters norms entries counts) }
     ensures list_after { list.new
         ≡ tell_layers (2 * h.shape.heap_size)
-        (answers_with (view (lent_in h counters norms entries counts)) (view (lent_now other other_counters other_norms other_entries other_counts))) many 0 list.old }
+        (answers_with (view (lent_in h counters norms entries counts)) (view (lent other other_counters.now other_norms.now other_entries.now other_counts.now))) many 0 list.old }
 {
     let mut header = h;
     let mut l = 0;

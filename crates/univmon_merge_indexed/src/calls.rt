@@ -1,9 +1,9 @@
 // A second state merged into a first with an index: everything is judged before anything is written.
 ghost use Rattle.std.specs.Prelude.{◌≡◌, length};
-ghost use Rattle.layout.specs.Slices.{view};
+ghost use Rattle.layout.specs.Slices.{view, lent};
 ghost use Rattle.layout.specs.Outcomes.{left, left_after};
 ghost use Rattle.layout.specs.Answers.{list_left};
-ghost use Rattle.layout.specs.Lending.{lent_in, lent_now, lent_out};
+ghost use Rattle.layout.specs.Lending.{lent_in, lent_out};
 ghost use Rattle.layout_index.specs.Tables.{index_left};
 ghost use Rattle.univmon_merge.specs.Merges.{merge_answers};
 ghost use Rattle.univmon_merge_indexed.specs.Merges.{merged_index, indexed_merge_call};
@@ -29,11 +29,11 @@ pub fn merge_indexed(
     list: &mut [u64],
 ) -> Answered
     ensures counts_value { left result.refusal (lent_out result.header counters norms entries counts)
-        ≡ left_after (λ s. indexed_merge_call s index.old (lent_now other other_counters other_norms other_entries other_counts) (length list.old)) (lent_in header counters norms entries counts) }
+        ≡ left_after (λ s. indexed_merge_call s index.old (lent other other_counters.now other_norms.now other_entries.now other_counts.now) (length list.old)) (lent_in header counters norms entries counts) }
     ensures index_after { index.new
-        ≡ index_left result.refusal (merged_index (view (lent_in header counters norms entries counts)) (view (lent_now other other_counters other_norms other_entries other_counts)) index.old) index.old }
+        ≡ index_left result.refusal (merged_index (view (lent_in header counters norms entries counts)) (view (lent other other_counters.now other_norms.now other_entries.now other_counts.now)) index.old) index.old }
     ensures list_after { list.new
-        ≡ list_left result.refusal (merge_answers (view (lent_in header counters norms entries counts)) (view (lent_now other other_counters other_norms other_entries other_counts))) list.old }
+        ≡ list_left result.refusal (merge_answers (view (lent_in header counters norms entries counts)) (view (lent other other_counters.now other_norms.now other_entries.now other_counts.now))) list.old }
 {
     let unfit = indexed_refusal(header, &*counters, &*norms, &*entries, &*counts, &*index);
     if unfit != 0 {

@@ -35,15 +35,15 @@ fn merge_one(
     requires index_len { length index.old ≡ tables_in h.shape }
     ensures counts_value { view (lent_out result counters norms entries counts)
         ≡ put_layer (view (lent_in h counters norms entries counts)) l
-        (merges_with h.shape (view (lent_now other other_counters other_norms other_entries other_counts)) l
+        (merges_with h.shape (view (lent other other_counters.now other_norms.now other_entries.now other_counts.now)) l
         (layer_at (view (lent_in h counters norms entries counts)) l)) }
     ensures standing { Standing (lent_out result counters norms entries counts) }
     ensures index_after { index.new
         ≡ put_table h.shape index.old l (merge_index_in (dims_at h.shape l) (layer_at (view (lent_in h counters norms entries counts)) l)
-        (layer_at (view (lent_now other other_counters other_norms other_entries other_counts)) l)) }
+        (layer_at (view (lent other other_counters.now other_norms.now other_entries.now other_counts.now)) l)) }
     ensures list_after { list.new
         ≡ put_places (2 * h.shape.heap_size) list.old l
-        (answers_with (view (lent_in h counters norms entries counts)) (view (lent_now other other_counters other_norms other_entries other_counts)) l) }
+        (answers_with (view (lent_in h counters norms entries counts)) (view (lent other other_counters.now other_norms.now other_entries.now other_counts.now)) l) }
 {
     let shape = h.shape;
     let s = span_of(shape, l);
@@ -104,15 +104,15 @@ pub fn merge_layers(
     requires layers_in_bounds { 4 * h.shape.heap_size * h.shape.layers ≤ length list.old }
     requires index_len { length index.old ≡ tables_in h.shape }
     ensures counts_value { view (lent_out result counters norms entries counts)
-        ≡ over_layers (merges_with h.shape (view (lent_now other other_counters other_norms other_entries other_counts))) many 0
+        ≡ over_layers (merges_with h.shape (view (lent other other_counters.now other_norms.now other_entries.now other_counts.now))) many 0
         (view (lent_in h counters norms entries counts)) }
     ensures standing { Standing (lent_out result counters norms entries counts) }
     ensures index_after { index.new
         ≡ over_tables h.shape (λ l. merge_index_in (dims_at h.shape l) (layer_at (view (lent_in h counters norms entries counts)) l)
-        (layer_at (view (lent_now other other_counters other_norms other_entries other_counts)) l)) many 0 index.old }
+        (layer_at (view (lent other other_counters.now other_norms.now other_entries.now other_counts.now)) l)) many 0 index.old }
     ensures list_after { list.new
         ≡ tell_layers (2 * h.shape.heap_size)
-        (answers_with (view (lent_in h counters norms entries counts)) (view (lent_now other other_counters other_norms other_entries other_counts))) many 0 list.old }
+        (answers_with (view (lent_in h counters norms entries counts)) (view (lent other other_counters.now other_norms.now other_entries.now other_counts.now))) many 0 list.old }
 {
     let mut header = h;
     let mut l = 0;

@@ -2,8 +2,8 @@
 ghost use Rattle.std.specs.Prelude.{◌≡◌, Bool, true, ℕ};
 ghost use Rattle.estimates.specs.Calls.{l1_call, l2_call, sum_call, cardinality_call};
 ghost use Rattle.univmon_c.specs.Crossing.{is_g, g_by};
-ghost use Rattle.univmon_c.specs.Calls.{lent_of, answer_by};
-ghost use Rattle.univmon_c.specs.Lending.{c_lent_now};
+ghost use Rattle.univmon_c.specs.Calls.{lent_of, answer_by, c_lent};
+
 ghost use Rattle.univmon_two_tier.specs.Crossing.{header_of, two_tier_face};
 
 use crate::CTwoTier;
@@ -47,7 +47,7 @@ pub extern "C" fn univmon_two_tier_estimate_g_sum(
     g: u64,
     count_every_key: bool,
 ) -> CAnswer
-    ensures { result ≡ answer_by (is_g g) header.mode (sum_call (g_by g) count_every_key (lent_of two_tier_face (c_lent_now header counters norms entries counts))) }
+    ensures { result ≡ answer_by (is_g g) header.mode (sum_call (g_by g) count_every_key (lent_of two_tier_face (c_lent header counters.now norms.now entries.now counts.now))) }
 {
     if LAST_MODE < header.mode {
         return no_answer();
@@ -77,7 +77,7 @@ pub extern "C" fn univmon_two_tier_estimate_cardinality(
     entries: &[u64],
     counts: &[i64],
 ) -> CAnswer
-    ensures { result ≡ answer_by true header.mode (cardinality_call (lent_of two_tier_face (c_lent_now header counters norms entries counts))) }
+    ensures { result ≡ answer_by true header.mode (cardinality_call (lent_of two_tier_face (c_lent header counters.now norms.now entries.now counts.now))) }
 {
     if LAST_MODE < header.mode {
         return no_answer();

@@ -7,8 +7,8 @@ ghost use Rattle.univmon.specs.declared.Kind.TheVariants as kind;
 ghost use Rattle.univmon.specs.Updates.{update_answers};
 ghost use Rattle.univmon.specs.Calls.{new_call, update_list_call, clear_call};
 ghost use Rattle.univmon_merge.specs.Merges.{merge_answers, merge_list_call};
-ghost use Rattle.univmon_c.specs.Calls.{lent_of, c_left, crossed, change_by, merge_by};
-ghost use Rattle.univmon_c.specs.Lending.{c_lent_in, c_lent_now, c_lent_out};
+ghost use Rattle.univmon_c.specs.Calls.{lent_of, c_left, crossed, change_by, merge_by, c_lent};
+ghost use Rattle.univmon_c.specs.Lending.{c_lent_in, c_lent_out};
 ghost use Rattle.univmon_two_tier.specs.Crossing.{two_tier_face};
 
 use crate::crossing::{c_answered, header_of};
@@ -163,10 +163,10 @@ pub extern "C" fn univmon_two_tier_merge(
 ) -> CTwoTierAnswered
     ensures counts_value { c_left result.refusal (c_lent_out result.header counters norms entries counts)
         ≡ merge_by two_tier_face (λ s t. merge_list_call s t (length list.old)) (c_lent_in header counters norms entries counts)
-        (c_lent_now other other_counters other_norms other_entries other_counts) }
+        (c_lent other other_counters.now other_norms.now other_entries.now other_counts.now) }
     ensures list_after { list.new
         ≡ list_left result.refusal (merge_answers (view (lent_of two_tier_face (c_lent_in header counters norms entries counts)))
-        (view (lent_of two_tier_face (c_lent_now other other_counters other_norms other_entries other_counts)))) list.old }
+        (view (lent_of two_tier_face (c_lent other other_counters.now other_norms.now other_entries.now other_counts.now)))) list.old }
 {
     if LAST_MODE < header.mode {
         return CTwoTierAnswered { refusal: 9, header };

@@ -1,7 +1,7 @@
 -- One layer in its slices, and what the functions on it need, by name.
 use Rattle.std.specs.Prelude.{ℕ, ◌*◌, ◌≤◌, ◌<◌, ◌≡◌, true, false, Bool, List, length, replicate, ℤ, pos}
 use Rattle.words.specs.Num.{top}
-use Rattle.words.specs.Lending.{SliceNow, SliceBoth}
+use Rattle.words.specs.Lending.{SliceBoth}
 use Rattle.matrix_storage.specs.inner.Shaped.{Shaped}
 use Rattle.countsketch_l2_norm.specs.inner.Needs.{sketch_of}
 use Rattle.heap_moves.specs.declared.Item.{Item}
@@ -15,11 +15,7 @@ use Rattle.layer.specs.Delta.{delta_reads, delta_fits, Delta}
 abbrev pub layer_of : Dims → List ℤ → List ℕ → List ℕ → List ℤ → ℕ → Bool → Layer
 layer_of d xs ws es ns len flag = record { sketch = sketch_of xs ws d.rows; table = table_of es ns len; flag = flag }
 
--- in a contract: of slices that a function is lent to be read
-abbrev pub layer_now : Dims → SliceNow ℤ → SliceNow ℕ → SliceNow ℕ → SliceNow ℤ → ℕ → Bool → Layer
-layer_now d xs ws es ns len flag = layer_of d xs.now ws.now es.now ns.now len flag
-
--- and of those that it is lent to be changed, at its entry and at its exit
+-- in a contract: of slices that a function is lent to be changed, at its entry and at its exit
 abbrev pub layer_in : Dims → SliceBoth ℤ → SliceBoth ℕ → SliceBoth ℕ → SliceBoth ℤ → ℕ → Bool → Layer
 layer_in d xs ws es ns len flag = layer_of d xs.entry.now ws.entry.now es.entry.now ns.entry.now len flag
 
