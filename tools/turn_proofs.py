@@ -210,6 +210,8 @@ class Fn:
                 new = self.spelled(q)
                 self.used_places.add(new)
                 return f"(goal.at.{goal} c).{new}"
+            if rest[0].endswith("_lem") and any(p["of"] and norm(p["of"]) == norm(rest[0][:-4]) for p in self.place.values()):
+                rest[0] = rest[0][:-4]
             f = rest[0]
             here = self.place[q]
             if norm(f).lower() == norm(here["of"]).lower() and here["of"]:

@@ -1,0 +1,34 @@
+-- `layout::parts::words_at` meets its contract.
+use Prim.Native.Nat.{◌*◌}
+use borrow.Author.Rules.{rules}
+use Rattle.header.specs.Shape.{max_layers, max_heap}
+use Rattle.layout.proofs.Pieces.{Piece, words_piece}
+use Rattle.layout.specs.State.{cand_off}
+use Rattle.layout.proofs.parts.words_at.Goals as goal
+use Rattle.layout.proofs.parts.words_at.Goals.{After-span_of-s}
+
+-- where the part stands
+here : (c : After-span_of-s) → let a = c.args in let s = c.span_of-s.result in
+    Piece s.words s.words_end (4 * cand_off a.shape a.l) (4 * a.shape.heap_size) (4 * (max_layers * max_heap)) a.entries.now
+here c = let a = c.args in words_piece a.shape c.requires.accepted a.l c.requires.l_lt_layers c.span_of-s.result c.span_of-s.ensures a.entries.now c.requires.entries_len
+
+pub span_of-s-requires : goal.span_of-s-requires
+span_of-s-requires c = record {
+  accepted = c.requires.accepted;
+  l_lt_layers = c.requires.l_lt_layers;
+}
+
+pub offset_bounds-entries-a : goal.offset_bounds-entries-a
+offset_bounds-entries-a c = let p = here (goal.at.offset_bounds-entries-a c).After-span_of-s in search rules
+
+pub slice_bounds-result-count : goal.slice_bounds-result-count
+slice_bounds-result-count c = let p = here (goal.at.slice_bounds-result-count c).After-span_of-s in search rules
+
+pub slice_bounds-result-start : goal.slice_bounds-result-start
+slice_bounds-result-start c = let p = here (goal.at.slice_bounds-result-start c).After-span_of-s in search rules
+
+pub slice_bounds-result-end : goal.slice_bounds-result-end
+slice_bounds-result-end c = let p = here (goal.at.slice_bounds-result-end c).After-span_of-s in search rules
+
+pub returns : goal.returns
+returns c = (here (goal.at.returns c).After-span_of-s).is
