@@ -3,7 +3,7 @@
 
     oracle/roots.py PROGRAM [CASES [SEED]]
 
-PROGRAM is `float64_test`, compiled (target/bin/float64_test). It is handed CASES patterns (by default 100,000) twice: as function 1
+PROGRAM is `float64_test`, compiled (crates/float64_test/out/float64_test). It is handed CASES patterns (by default 100,000) twice: as function 1
 it answers their roots, as function 8 how many digits it worked out. About half are squares of odd numbers of 1 to 27 digits, times
 even powers of two; the others are the kinds of OTHERS, few of them squares. Every word is compared with what whole numbers and
 `math.isqrt` give here, with no float in it. The last line says how many patterns there were; it ends with 1 if an answer is another

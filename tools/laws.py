@@ -1,7 +1,7 @@
 #!/usr/bin/env python3
 """The definitions and laws of a crate, checked without its code.
 
-    tools/laws.py TREE OUT CRATE ..   a copy of TREE in OUT in which every crate below has its structs and enums only; then `rt dev CRATE` there
+    tools/laws.py TREE OUT CRATE ..   a copy of TREE in OUT in which every crate below has its structs and enums only; then `rt check CRATE` there
 
 No function, so no answers: each crate takes 1 to 5 s, and a law can be proved while the code below it is not. `--skip NAME` leaves a crate's
 laws out, `--only NAME:LAW,LAW` keeps but some of them (where the others are not current and nothing above names them). It prints what fails and
@@ -88,5 +88,5 @@ for c in seen:
     written(there + "/src/lib.rt", mods + uses, kept)
 open(f"{out}/crates.txt", "w").write("".join(f"{c}: {' '.join(d for d in deps[c] if d in deps)}\n" for c in seen))
 for c in crates:
-    o = subprocess.run(f"cd {out}; RT_JOBS=1 RT_CUT=0 rt dev {c} 2>&1", shell=True, capture_output=True, text=True).stdout
+    o = subprocess.run(f"cd {out}; rt check {c} 2>&1", shell=True, capture_output=True, text=True).stdout
     print("\n".join(l[:600] for l in o.split("\n") if "error" in l or l.startswith(("rt:", "logic=", "  "))))

@@ -3,8 +3,8 @@
 
     python3 tools/tryedit.py CRATE LABEL
 
-`rt must-fail CRATE` tries the edits of every crate below CRATE too. This applies crates/CRATE/must-fail/LABEL.edit to the work tree,
-runs `rt dev CRATE`, prints the first errors, and takes the edit back. An edit says something only if a value no longer holds there.
+`rt must-fail` tries the edits of every crate below CRATE too. This applies crates/CRATE/must-fail/LABEL.edit to the work tree,
+runs `rt check` there, prints the first errors, and takes the edit back. An edit says something only if a value no longer holds there.
 """
 import pathlib
 import subprocess
@@ -22,7 +22,7 @@ def main():
         sys.exit(f'{label}: the old text is found {text.count(edit["old"])} times')
     path.write_text(text.replace(edit['old'], edit['new']))
     try:
-        run = subprocess.run(['rt', 'dev', crate], capture_output=True, text=True)
+        run = subprocess.run(['rt', 'check'], cwd=folder, capture_output=True, text=True)
     finally:
         path.write_text(text)
     said = (run.stdout + run.stderr).splitlines()

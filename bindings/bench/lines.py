@@ -3,7 +3,7 @@
 
     python3 bindings/bench/lines.py [LINES]
 
-ORACLE is the folder in which the original is built (default /tmp/oracle); the panel is built by `rt check panel`.
+ORACLE is the folder in which the original is built (default /tmp/oracle); the panel is built by `rt run` in crates/panel.
 The panel reads `(add ..)` lines that spell the hashes, the original `std` commands and hashes for itself (its copies for panics are
 off). Both take turns, three each, on a file of 2,000 keys by Zipf (exponent 1), weight 1, shape 32 5 64 8; given are wall and
 processor time, the least of the three. Stops if L1, L2, cardinality or a flag differ.
@@ -17,7 +17,7 @@ import tempfile
 import time
 
 HERE = os.path.dirname(os.path.realpath(__file__))
-PANEL = os.path.join(HERE, "..", "..", "target", "bin", "panel")
+PANEL = os.path.join(HERE, "..", "..", "crates", "panel", "out", "panel")
 SHAPE, KEYS, TURNS = "32 5 64 8", 2000, 3
 
 
@@ -61,7 +61,7 @@ def told(lines, many):
 
 def main():
     if not os.access(PANEL, os.X_OK):
-        sys.exit("lines.py: the program panel is not built: rt check panel")
+        sys.exit("lines.py: the program panel is not built: rt run in crates/panel")
     oracle, many = original(), int(sys.argv[1]) if len(sys.argv) > 1 else 1000000
     lines = records(oracle)
     drawn = random.Random(1).choices(range(KEYS), [1 / (k + 1) for k in range(KEYS)], k=many)

@@ -1,7 +1,7 @@
 /* UnivMon and UnivMonTwoTier for a relay's own loop: the proved library under plain C names.
  *
- * Build:  rt staticlib univmon_c           (writes target/staticlib/libunivmon_c.a)
- *         rt staticlib univmon_two_tier    (libunivmon_two_tier.a, for the functions univmon_two_tier_*)
+ * Build:  bindings/archives univmon_c         (writes target/staticlib/libunivmon_c.a)
+ *         bindings/archives univmon_two_tier  (libunivmon_two_tier.a, for the functions univmon_two_tier_*)
  * Link:   cc relay.c -I bindings/c target/staticlib/libunivmon_c.a
  * Each archive is whole in itself: a program links the one it calls, or both.
  *

@@ -1,4 +1,4 @@
-//! Says where `rt staticlib` left the archives, of one tier and of two: UNIVMON_LIB, or target/staticlib of the
+//! Says where `bindings/archives` left the archives, of one tier and of two: UNIVMON_LIB, or target/staticlib of the
 //! repository that this crate stands in.
 use std::path::PathBuf;
 
@@ -12,7 +12,7 @@ fn main() {
     for name in ["univmon_c", "univmon_two_tier"] {
         let archive = folder.join(format!("lib{name}.a"));
         if !archive.exists() {
-            panic!("{} is missing: run `rt staticlib {name}` first", archive.display());
+            panic!("{} is missing: run `bindings/archives {name}` first", archive.display());
         }
         println!("cargo:rerun-if-changed={}", archive.display());
         println!("cargo:rustc-link-lib=static={name}");
