@@ -32,8 +32,8 @@ STATED = {
     "panel_stream": ["PanelStream"],
 }
 # whose every contract counts: the calls from C, and the program
-WHOLE = {"univmon_c": True, "univmon_two_tier": True, "panel": True}
-USE = re.compile(r"^(?:ghost )?use (\S+?)\.\{([^}]*)\};?", re.M)
+WHOLE = {"univmon_c": True, "univmon_exports": True, "univmon_two_tier": True, "panel": True}
+USE = re.compile(r"^(?:ghost )?use (\S+?)\.\{([^}]*)\};?", re.M | re.S)
 ALIAS = re.compile(r"^(?:ghost )?use (\S+) as (\S+?);?$", re.M)
 HEAD = re.compile(r"^( *)(?:abbrev |unfoldable )*pub (record |data )?([^\s:({]+)")
 FUNCTION = re.compile(r"(?:pub (?:extern \"C\" )?)?fn (\w+)\(.*?\n *\{\n", re.S)
@@ -44,7 +44,7 @@ def words(text):
 
 
 def target(path):
-    m = re.match(r"Rattle·([a-z0-9_]+)(?:·specs\.specs|\.specs)\.(.+)$", path)
+    m = re.match(r"Rattle\.([a-z0-9_]+)\.specs\.(.+)$", path)
     return (m.group(1), m.group(2)) if m else None
 
 

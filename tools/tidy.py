@@ -20,14 +20,14 @@ TYPES = {"ℕ", "ℤ", "Bool"}
 
 
 def files(pattern):
-    """tracked files, but no proof file that is written from answers"""
+    """tracked files"""
     listed = subprocess.run(["git", "ls-files", pattern], cwd=ROOT, capture_output=True, text=True, check=True).stdout.split()
-    return [f for f in listed if not (f.endswith("/Proof.antt") and os.path.exists(os.path.join(ROOT, os.path.dirname(f), "answers.txt")))]
+    return listed
 
 
 def is_used(name, body):
-    if name.startswith("_") or name.endswith("_"):
-        return name.strip("_") in body
+    if name.startswith("◌") or name.endswith("◌"):
+        return name.strip("◌") in body
     return re.search(r"(?<![\w\-′·«])" + re.escape(name.split(" as ")[-1]) + r"(?![\w\-′])", body) is not None
 
 
