@@ -6,7 +6,6 @@
 ghost use Rattle.std.specs.Prelude.{◌≡◌, ℕ, ◌+◌, ◌*◌, ◌<◌, length};
 ghost use Rattle.words.specs.Tests.{number};
 ghost use Rattle.header.specs.inner.Accepted.{Accepted};
-
 ghost use Rattle.layout_index.specs.Tables.{table_length, tables_in, table_at, indexed_tests};
 ghost use Rattle.layout.specs.Slices.{lent};
 
