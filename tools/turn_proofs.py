@@ -270,13 +270,11 @@ class Fn:
                 new = self.place[want]["new"]
                 self.used_places.add(new)
                 return f"{m.group(1)} (goal.at.{goal} \1).{new}"
-            k, q = 0, place
-            while q is not None and q != want:
-                k, q = k + 1, self.place[q]["parent"]
-            if q is None:
-                self.bad.append(f"a helper at {place} asks {m.group(1)} at {want}")
-                return m.group(0)
-            return m.group(1) + " \1" + ".before" * k
+            if want == place:
+                return m.group(1) + " \1"
+            here, new = self.spelled(place), self.spelled(want)
+            self.used_places.update((here, new))
+            return f"{m.group(1)} (goal.at.{here} \1).{new}"
 
         term = re.sub(r"(?<![\w'.-])([\w']+(?:-[\w']+)*) c(?:\.before)*(?![\w'.-])", given, term)
         term = PATH.sub(one, term)
