@@ -282,6 +282,11 @@ class Fn:
         term = re.sub(r"not-(true|false) _ (c\.[\w-]+)\.(true|false)(?:-raw)?(?![\w-])", r"\2.\3", term)
         term = re.sub(r"(?<=\.)([a-z]\w*(?:-\w+)+)", lambda x: x.group(1).replace("-", "_") if x.group(1).replace("-", "_") in SOURCE and not x.group(1) in self.steps else x.group(1), term)
         term = untuple(term)
+        # what a call left behind its references, bound by a `let`
+        for name, step, what in re.findall(r"let (\w+) = c\.([\w-]+)\.(new|last|kept|auto) in", term):
+            of = self.info.get("params", {}).get(next((p[3] for p in self.info["places"] if p[2][1] == step), None))
+            for n, x in enumerate(of or []):
+                term = re.sub(r"(?<![\w'.₀-₉-])" + name + r"\.1" * n + r"\.0(?![\w])", f"{name}.{x}", term)
         # a call bound by a `let`: its clauses
         for name, step in re.findall(r"let (\w+) = c\.([\w-]+) in", term):
             r = next((i for i, p in enumerate(self.info["places"]) if p[2][1] == step), None)
