@@ -1,0 +1,87 @@
+-- `univmon_delta::delta_refusal` meets its contract.
+use Prim.Native.Nat.{ℕ, ◌*◌}
+use mathlib.Core.Path.{◌≡◌, refl, sym, ◌∙◌}
+use mathlib.Core.List.{◌++◌}
+use native.Mathlib.Omega.{arith}
+use borrow.Author.Tests.{eq-eqb, ne_eqb, le-leb, lt-leb, not-false}
+use mir.Facts.{to_z-of_z}
+use Rattle.layout.specs.Slices.{lent, Lent}
+use Rattle.layout.specs.Outcomes.{lent_tests}
+use Rattle.layout.proofs.Lengths.{standing_of}
+use Rattle.layout.specs.inner.Needs.{Standing}
+use Rattle.words.proofs.Tests.{Off, off_number}
+use Rattle.univmon_delta.specs.Deltas.{Arrival, every_insert, delta_tests, arrival}
+use Rattle.univmon_delta.specs.declared.Fidelity.{Fidelity}
+use Rattle.layout.specs.inner.Telling.{list_tests}
+use Rattle.words.specs.Tests.{number}
+use Rattle.univmon_delta.proofs.Refusing.{unfit_number, first_number, short-number, long-number}
+use Rattle.univmon_delta.proofs.delta_refusal.Goals as goal
+use Rattle.univmon_delta.proofs.delta_refusal.Goals.{After-judge_delta-unready, Else-unfit-ne0, Start}
+
+-- the state that is lent
+abbrev lent_of : Start → Lent
+lent_of c = lent c.args.h c.args.counters.now c.args.norms.now c.args.entries.now c.args.counts.now
+
+-- the delta, of either fidelity
+abbrev delta-of : Start → Fidelity → Arrival
+delta-of c f = arrival c.args.l c.args.row c.args.col c.args.count f
+
+-- a refusal by a test before the list's
+first : (c : Start) (f : Fidelity) (m : ℕ) → m ≡ number (delta_tests (lent_of c) c.args.«record».now (delta-of c f)) → (m ≡ 0 → ⊥)
+    → m ≡ number (delta_tests (lent_of c) c.args.«record».now (delta-of c f) ++ list_tests (2 * c.args.h.shape.layers) c.args.list)
+first c f m e h = first_number (lent_of c) c.args.«record».now (delta-of c f) c.args.list m e h
+
+-- header and lengths were found right
+passed : (c : Else-unfit-ne0) → Off (lent_tests (lent_of (goal.at.Else-unfit-ne0 c).Start))
+passed c = off_number (lent_tests (lent_of (goal.at.Else-unfit-ne0 c).Start)) refl (sym c.lent_refusal-unfit.ensures ∙ c.if-unfit-ne0.false)
+
+standing : (c : Else-unfit-ne0) → Standing (lent_of (goal.at.Else-unfit-ne0 c).Start)
+standing c = standing_of (lent_of (goal.at.Else-unfit-ne0 c).Start) (not-false _ (passed c).0) (not-false _ (passed c).1.0)
+
+-- the number before the list's
+judged : (c : After-judge_delta-unready) (f : Fidelity) → c.judge_delta-unready.result ≡ number (delta_tests (lent_of (goal.at.After-judge_delta-unready c).Start) c.args.«record».now (delta-of (goal.at.After-judge_delta-unready c).Start f))
+unfolding delta_tests
+judged c f =
+    rw (to_z-of_z c.ranges.count) at (c.judge_delta-unready.ensures (every_insert f))
+    ∙ simp ((passed (goal.at.After-judge_delta-unready c).Else-unfit-ne0).0, (passed (goal.at.After-judge_delta-unready c).Else-unfit-ne0).1.0, eq-eqb _ _ c.if-record-shape.false, lt-leb _ _ c.if-shape-l.false, lt-leb _ _ (rw c.dims-d.ensures at c.if-d-row.false), lt-leb _ _ (rw c.dims-d.ensures at c.if-d-col.false))
+
+pub returns-then-unfit-ne0 : goal.returns-then-unfit-ne0
+returns-then-unfit-ne0 c = λ f. first (goal.at.returns-then-unfit-ne0 c).Start f c.lent_refusal-unfit.result (unfit_number (lent_of (goal.at.returns-then-unfit-ne0 c).Start) c.args.«record».now (delta-of (goal.at.returns-then-unfit-ne0 c).Start f) c.lent_refusal-unfit.result c.lent_refusal-unfit.ensures c.if-unfit-ne0.true) c.if-unfit-ne0.true
+
+pub overflow_mul-shape : goal.overflow_mul-shape
+overflow_mul-shape c = record { fits = omega (arith, (standing (goal.at.overflow_mul-shape c).Else-unfit-ne0).accepted.few) }
+
+pub overflow_add-shape : goal.overflow_add-shape
+overflow_add-shape c = record { fits = omega (arith, (standing (goal.at.overflow_add-shape c).Else-unfit-ne0).accepted.few) }
+
+pub returns-then-record-shape : goal.returns-then-record-shape
+unfolding delta_tests
+returns-then-record-shape c = λ f. first (goal.at.returns-then-record-shape c).Start f 12 (simp ((passed (goal.at.returns-then-record-shape c).Else-unfit-ne0).0, (passed (goal.at.returns-then-record-shape c).Else-unfit-ne0).1.0, ne_eqb _ _ c.if-record-shape.true)) (λ z. omega (arith, z))
+
+pub returns-then-shape-l : goal.returns-then-shape-l
+unfolding delta_tests
+returns-then-shape-l c = λ f. first (goal.at.returns-then-shape-l c).Start f 8 (simp ((passed (goal.at.returns-then-shape-l c).Else-unfit-ne0).0, (passed (goal.at.returns-then-shape-l c).Else-unfit-ne0).1.0, eq-eqb _ _ c.if-record-shape.false, le-leb _ _ c.if-shape-l.true)) (λ z. omega (arith, z))
+
+pub returns-then-d-row : goal.returns-then-d-row
+unfolding delta_tests
+returns-then-d-row c = λ f. first (goal.at.returns-then-d-row c).Start f 8 (simp ((passed (goal.at.returns-then-d-row c).Else-unfit-ne0).0, (passed (goal.at.returns-then-d-row c).Else-unfit-ne0).1.0, eq-eqb _ _ c.if-record-shape.false, lt-leb _ _ c.if-shape-l.false, le-leb _ _ (rw c.dims-d.ensures at c.if-d-row.true))) (λ z. omega (arith, z))
+
+pub returns-then-d-col : goal.returns-then-d-col
+unfolding delta_tests
+returns-then-d-col c = λ f. first (goal.at.returns-then-d-col c).Start f 8 (simp ((passed (goal.at.returns-then-d-col c).Else-unfit-ne0).0, (passed (goal.at.returns-then-d-col c).Else-unfit-ne0).1.0, eq-eqb _ _ c.if-record-shape.false, lt-leb _ _ c.if-shape-l.false, lt-leb _ _ (rw c.dims-d.ensures at c.if-d-row.false), le-leb _ _ (rw c.dims-d.ensures at c.if-d-col.true))) (λ z. omega (arith, z))
+
+pub judge_delta-unready-requires : goal.judge_delta-unready-requires
+judge_delta-unready-requires c =
+    record { standing = standing (goal.at.judge_delta-unready-requires c).Else-unfit-ne0; recorded = c.if-record-shape.false; inside = c.if-shape-l.false; below = rw c.dims-d.ensures at c.if-d-row.false; within = rw c.dims-d.ensures at c.if-d-col.false }
+
+pub returns-then-unready-ne0 : goal.returns-then-unready-ne0
+returns-then-unready-ne0 c = λ f. first (goal.at.returns-then-unready-ne0 c).Start f c.judge_delta-unready.result (judged (goal.at.returns-then-unready-ne0 c).After-judge_delta-unready f) c.if-unready-ne0.true
+
+pub overflow_mul-shape-2 : goal.overflow_mul-shape-2
+overflow_mul-shape-2 c = record { fits = omega (arith, (standing (goal.at.overflow_mul-shape-2 c).Else-unfit-ne0).accepted.few) }
+
+pub returns-then-list-shape : goal.returns-then-list-shape
+returns-then-list-shape c = λ f. short-number (lent_of (goal.at.returns-then-list-shape c).Start) c.args.«record».now (delta-of (goal.at.returns-then-list-shape c).Start f) c.args.list (sym (judged (goal.at.returns-then-list-shape c).After-judge_delta-unready f) ∙ c.if-unready-ne0.false) c.if-list-shape.true
+
+pub returns : goal.returns
+returns c = λ f. c.if-unready-ne0.false ∙ long-number (lent_of (goal.at.returns c).Start) c.args.«record».now (delta-of (goal.at.returns c).Start f) c.args.list (sym (judged (goal.at.returns c).After-judge_delta-unready f) ∙ c.if-unready-ne0.false) c.if-list-shape.false
