@@ -63,7 +63,8 @@ fn offer_first(
         return g;
     }
     let here = heap::find(source, i, w.key);
-    if here < i {
+    let known = here < i;
+    if known {
         return g;
     }
     offer_one(entries, counts, list, d, g, w, counters)

@@ -5,8 +5,8 @@ use Rattle.layer.proofs.candidates.offer_first.Goals as goal
 pub returns-then-there-m : goal.returns-then-there-m
 returns-then-there-m c = first_there _ _ _ _ _ _ _ c.item_at-w.ensures _ c.find-there.ensures.0 _ c.if-there-m.true
 
-pub returns-then-here-i : goal.returns-then-here-i
-returns-then-here-i c = first_here _ _ _ _ _ _ _ c.item_at-w.ensures _ c.find-there.ensures.0 _ c.if-there-m.false _ c.find-here.ensures.0 c.if-here-i.true
+pub returns-then-known : goal.returns-then-known
+returns-then-known c = first_here _ _ _ _ _ _ _ c.item_at-w.ensures _ c.find-there.ensures.0 _ c.if-there-m.false _ c.find-here.ensures.0 c.if-known.true
 
 pub offer_one-requires : goal.offer_one-requires
 offer_one-requires c = record {
@@ -18,5 +18,5 @@ offer_one-requires c = record {
 
 pub returns : goal.returns
 returns c =
-    first_new _ _ _ _ _ _ _ c.item_at-w.ensures _ c.find-there.ensures.0 _ c.if-there-m.false _ c.find-here.ensures.0 c.if-here-i.false _
+    first_new _ _ _ _ _ _ _ c.item_at-w.ensures _ c.find-there.ensures.0 _ c.if-there-m.false _ c.find-here.ensures.0 c.if-known.false _
     c.offer_one.ensures
