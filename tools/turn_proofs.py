@@ -294,6 +294,7 @@ class Fn:
             lent = self.lent(self.info["places"][r][3]) if r is not None and self.info["places"][r][3] else []
             for n, x in enumerate(lent):
                 term = re.sub(r"(?<![\w'.₀-₉-])" + name + r"\.(?:kept|auto)" + r"\.1" * n + r"\.0(?![\w.])", f"{name}.auto.{x}", term)
+                term = re.sub(r"(?<![\w'.₀-₉-])" + name + r"\.(?:last|new)" + r"\.1" * n + r"\.0(?![\w.])", f"{name}.new.{x}", term)
             if not clauses:
                 continue
 
@@ -330,6 +331,9 @@ class Fn:
                 rest[1 : at + 1] = ["auto", lent[n]]
 
     def lent(self, callee):
+        # by its position among all that the callee takes
+        if callee in (self.info.get("params") or {}):
+            return self.info["params"][callee]
         crate, *_, name = callee.split("::")
         for p in glob.glob(f"crates/{crate}/src/**/*.rt", recursive=True):
             m = re.search(r"\bfn " + name + r"\(([^)]*)\)", read(p))
