@@ -1,0 +1,16 @@
+-- `univmon::update::send` meets its contract.
+use Prim.Native.Nat.{◌+◌, ◌-◌}
+use mathlib.Core.Path.{sym, ◌∙◌}
+use native.Mathlib.Omega.{arith}
+use Rattle.header.specs.Header.{head_of, Headed}
+use Rattle.layout.specs.Slices.{lent, Lent}
+use Rattle.layout.specs.Outcomes.{left}
+use Rattle.layout.proofs.InTurn.{in_turn-long}
+use Rattle.univmon.proofs.Sending.{Sending, sending_start, sending_ready, sending_room, sending_on, sending_end}
+use Rattle.univmon.proofs.update.send.Given as goal
+
+abbrev pub invariant-loop-l : goal.invariant-loop-l
+invariant-loop-l l = Sending (lent (head_of l.h l.initial.lens l.initial.flags) l.initial.counters l.initial.norms l.initial.entries l.initial.counts) l.record l.weight l.many l.first l.initial.list (lent (head_of l.h l.lens l.flags) l.counters l.norms l.entries l.counts) l.list l.l
+
+abbrev pub decreases-loop-l : goal.decreases-loop-l
+decreases-loop-l l = l.many + l.first - l.l
