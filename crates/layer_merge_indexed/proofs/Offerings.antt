@@ -13,7 +13,6 @@ use Rattle.heap_moves.specs.Cands.{Cand, most_cands}
 use Rattle.heap_moves.specs.Flat.{item_of, cands_of, cand_of}
 use Rattle.heap.specs.declared.Answer.{Answer}
 use Rattle.heap.specs.Offer.{len_by}
-use Rattle.heap.specs.Places.{places}
 use Rattle.heap.specs.inner.Slices.{table_of}
 use Rattle.heap.specs.inner.Telling.{tell_at, tell_all}
 use Rattle.heap.proofs.Places.{told_zeros}
