@@ -9,7 +9,6 @@ use lib.ListN.{length, take}
 use lib.Seq.{sets}
 use lib.IntN.{ℤ}
 use lib.Ieee.{binary64, to_bits}
-use Rattle.header.specs.declared.Shape.{Shape}
 use Rattle.header.specs.OneTier.{one_tier}
 use Rattle.header.specs.declared.Header.{Header}
 use Rattle.header.specs.Header.{header_ok}
