@@ -1,5 +1,4 @@
 -- `univmon::calls::update_weighted_terminal` meets its contract.
-use borrow.Author.Rules.{rules}
 use mir.Facts.{to_z-of_z}
 use Rattle.univmon.proofs.calls.update_weighted_terminal.Goals as goal
 

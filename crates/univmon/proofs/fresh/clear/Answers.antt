@@ -1,9 +1,8 @@
 -- `univmon::fresh::clear` meets its contract.
 use mathlib.Core.Path.{◌≡◌, refl, sym, ◌∙◌}
 use native.Mathlib.Omega.{arith}
-use borrow.Author.Rules.{rules}
 use Rattle.layout.specs.Slices.{lent, fresh_lent, Lent}
-use Rattle.layout.specs.Outcomes.{left, lent_tests}
+use Rattle.layout.specs.Outcomes.{lent_tests}
 use Rattle.univmon.specs.Calls.{clear_call}
 use Rattle.layout.proofs.Lengths.{zeroed, stands_of}
 use Rattle.words.specs.Tests.{number}

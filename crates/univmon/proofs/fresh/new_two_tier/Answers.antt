@@ -1,7 +1,5 @@
 -- `univmon::fresh::new_two_tier` meets its contract.
-use Prim.Native.Nat.{zero}
 use mathlib.Core.Path.{◌≡◌, sym, ◌∙◌}
-use borrow.Author.Rules.{rules}
 use borrow.Author.Tests.{ne_eqb}
 use Rattle.header.specs.declared.Shape.{Shape}
 use Rattle.header.specs.Shape.{shape_refusal}

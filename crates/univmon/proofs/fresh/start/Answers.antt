@@ -1,12 +1,9 @@
 -- `univmon::fresh::start` meets its contract.
-use Prim.Native.Nat.{zero}
 use mathlib.Core.Path.{sym, ◌∙◌}
 use native.Mathlib.Omega.{arith}
-use borrow.Author.Rules.{rules}
-use borrow.Author.Tests.{eq-eqb, not-true, not-false}
+use borrow.Author.Tests.{eq-eqb}
 use Rattle.header.specs.Shape.{shape_refusal}
 use Rattle.header.proofs.Refusals.{accepted_of}
-use Rattle.layout.specs.Outcomes.{left}
 use Rattle.univmon.specs.Calls.{new_call}
 use Rattle.layout.proofs.Lengths.{sizes_of, zeroed}
 use Rattle.univmon.proofs.fresh.start.Goals as goal

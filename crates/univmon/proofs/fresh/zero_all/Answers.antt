@@ -1,5 +1,4 @@
 -- `univmon::fresh::zero_all` meets its contract.
-use borrow.Author.Rules.{rules}
 use Rattle.univmon.proofs.fresh.zero_all.Goals as goal
 
 pub returns : goal.returns

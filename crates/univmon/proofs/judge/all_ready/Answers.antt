@@ -1,14 +1,12 @@
 -- `univmon::judge::all_ready` meets its contract.
-use Prim.Native.Nat.{ℕ, ◌+◌, ◌-◌}
+use Prim.Native.Nat.{ℕ}
 use mathlib.Core.Path.{sym, ◌∙◌}
 use mathlib.Core.Bool.{Bool}
 use native.Mathlib.Omega.{arith}
-use borrow.Author.Tests.{not-true, not-false}
 use Rattle.header.specs.Header.{head_of}
 use Rattle.layout.specs.Slices.{lent, view, Lent}
-use Rattle.layout.specs.Outcomes.{left}
 use Rattle.univmon.specs.inner.Needs.{ready_at}
-use Rattle.words.proofs.Scans.{Scan, scan_start, scan_on, scan_stop, scan_end}
+use Rattle.words.proofs.Scans.{scan_start, scan_on, scan_stop, scan_end}
 use Rattle.layout.specs.State.{all_layers}
 use Rattle.layout.proofs.States.{layers-step, layers-none}
 use Rattle.univmon.proofs.Judging.{judge-one}

@@ -2,7 +2,6 @@
 use mathlib.Core.Path.{sym, ◌∙◌}
 use Rattle.header.specs.Header.{head_of}
 use Rattle.layout.specs.Slices.{lent, view, Lent}
-use Rattle.layout.specs.Outcomes.{left}
 use Rattle.univmon.proofs.Judging.{judge-light, judged_ready, judged_unfit, judged_unread}
 use Rattle.univmon.proofs.judge.judge_layers.Goals as goal
 use Rattle.univmon.proofs.judge.judge_layers.Goals.{Start}

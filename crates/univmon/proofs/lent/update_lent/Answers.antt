@@ -1,7 +1,6 @@
 -- `univmon::lent::update_lent` meets its contract.
 use mathlib.Core.Path.{◌≡◌, sym, ap, ◌∙◌}
 use lib.ListN.{length}
-use borrow.Author.Rules.{rules}
 use mir.Facts.{to_z-of_z}
 use Rattle.header.specs.Header.{head_of, begin_of, begin_tests}
 use Rattle.layout.specs.Slices.{lent, view, Lent}

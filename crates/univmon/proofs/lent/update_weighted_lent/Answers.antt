@@ -1,5 +1,4 @@
 -- `univmon::lent::update_weighted_lent` meets its contract.
-use borrow.Author.Rules.{rules}
 use mir.Facts.{to_z-of_z}
 use Rattle.univmon.proofs.lent.update_weighted_lent.Goals as goal
 

@@ -1,8 +1,5 @@
 -- `univmon::marks::mark_candidates_incomplete` meets its contract.
 use mathlib.Core.Path.{sym, ◌∙◌}
-use borrow.Author.Rules.{rules}
-use borrow.Author.Tests.{not-true, not-false}
-use Rattle.layout.specs.Outcomes.{left}
 use Rattle.univmon.specs.Calls.{mark_call}
 use Rattle.univmon.proofs.marks.mark_candidates_incomplete.Goals as goal
 

@@ -2,11 +2,9 @@
 use mathlib.Core.Path.{◌≡◌, sym, ◌∙◌}
 use mathlib.Core.Bool.{true}
 use native.Mathlib.Omega.{arith}
-use borrow.Author.Rules.{rules}
-use borrow.Author.Tests.{le-leb, lt-leb, not-true, not-false}
+use borrow.Author.Tests.{le-leb, lt-leb}
 use Rattle.header.specs.Header.{header_ok}
 use Rattle.header.proofs.Ranges.{ranged_of}
-use Rattle.layout.specs.Outcomes.{left}
 use Rattle.univmon.specs.Calls.{mark_layer_call}
 use Rattle.univmon.proofs.marks.mark_layer_candidates_incomplete.Goals as goal
 use Rattle.univmon.proofs.marks.mark_layer_candidates_incomplete.Goals.{Else-not-in_range}

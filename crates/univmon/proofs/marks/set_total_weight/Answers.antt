@@ -1,10 +1,8 @@
 -- `univmon::marks::set_total_weight` meets its contract.
 use mathlib.Core.Path.{◌≡◌, sym, ◌∙◌}
 use mathlib.Core.Bool.{true}
-use borrow.Author.Rules.{rules}
-use borrow.Author.Tests.{lt-ltb, le-ltb, not-true, not-false}
+use borrow.Author.Tests.{lt-ltb, le-ltb}
 use Rattle.header.specs.Header.{header_ok}
-use Rattle.layout.specs.Outcomes.{left}
 use Rattle.univmon.specs.Calls.{weight_call}
 use Rattle.univmon.proofs.marks.set_total_weight.Goals as goal
 use Rattle.univmon.proofs.marks.set_total_weight.Goals.{Else-not-in_range}

@@ -6,11 +6,9 @@ use mathlib.Core.List.{List}
 use lib.ListN.{length}
 use lib.Dec.{leb}
 use native.Mathlib.Omega.{arith}
-use borrow.Author.Rules.{rules}
-use borrow.Author.Tests.{le-leb, lt-leb, not-true, not-false}
+use borrow.Author.Tests.{le-leb, lt-leb}
 use Rattle.header.specs.Header.{head_of}
 use Rattle.layout.specs.Slices.{lent, view, Lent}
-use Rattle.layout.specs.Outcomes.{left}
 use Rattle.univmon.specs.inner.Needs.{ready_at, SendsReady, zeroed_for}
 use Rattle.words.proofs.Bools.{never, both}
 use Rattle.layer.specs.Layer.{Layer}

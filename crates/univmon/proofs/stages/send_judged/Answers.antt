@@ -5,7 +5,6 @@ use mathlib.Core.Bool.{Bool, true, ◌&&◌}
 use lib.ListN.{length}
 use lib.Dec.{leb}
 use native.Mathlib.Omega.{arith}
-use borrow.Author.Rules.{rules}
 use borrow.Author.Tests.{leb-true, leb-false}
 use Rattle.header.specs.Header.{head_of}
 use Rattle.layout.specs.Slices.{lent, view, Lent}

@@ -2,7 +2,6 @@
 use Prim.Native.Nat.{ℕ, ◌+◌, ◌-◌}
 use mathlib.Core.Path.{◌≡◌, ap, ◌∙◌}
 use native.Mathlib.Omega.{arith}
-use borrow.Author.Rules.{rules}
 use Rattle.header.specs.Shape.{bottom_of}
 use Rattle.header.specs.Header.{head_of}
 use Rattle.layout.specs.Slices.{lent, view, Lent}

@@ -1,12 +1,11 @@
 -- `univmon::stages::sized_refusal` meets its contract.
 use mathlib.Core.Path.{◌≡◌, sym, ◌∙◌}
-use mathlib.Core.Bool.{true, not}
-use borrow.Author.Tests.{eq-eqb, ne_eqb, not-true, not-false}
+use mathlib.Core.Bool.{true}
+use borrow.Author.Tests.{eq-eqb, ne_eqb}
 use Rattle.header.specs.Shape.{max_layers}
 use Rattle.header.specs.Header.{header_ok, head_of}
 use Rattle.header.proofs.Ranges.{ranged_of}
-use Rattle.layout.specs.Slices.{lengths_ok, lent}
-use Rattle.layout.specs.Outcomes.{left}
+use Rattle.layout.specs.Slices.{lengths_ok}
 use Rattle.header.specs.declared.Header.{Header}
 use Rattle.univmon.proofs.stages.sized_refusal.Goals as goal
 use Rattle.univmon.proofs.stages.sized_refusal.Goals.{Else-not-fields_in_range, Else-not-lengths_match, Start}

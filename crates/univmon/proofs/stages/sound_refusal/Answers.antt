@@ -4,13 +4,11 @@ use mathlib.Core.Path.{refl, sym, ◌∙◌}
 use mathlib.Core.Bool.{Bool}
 use mathlib.Core.List.{List, [], ◌∷◌, ◌++◌}
 use native.Mathlib.Omega.{arith}
-use borrow.Author.Rules.{rules}
 use borrow.Author.Tests.{eq-eqb, ne_eqb, not-false}
 use Rattle.header.specs.Header.{head_of}
 use Rattle.header.specs.inner.Accepted.{Accepted}
 use Rattle.header.proofs.Ranges.{ranged_of}
-use Rattle.layout.specs.Slices.{lent}
-use Rattle.layout.specs.Outcomes.{left, size_tests, record_test}
+use Rattle.layout.specs.Outcomes.{size_tests, record_test}
 use Rattle.univmon.specs.Calls.{place_tests}
 use Rattle.words.proofs.Tests.{Off, off_number, number_first, number-rest, off_rest}
 use Rattle.header.specs.declared.Header.{Header}

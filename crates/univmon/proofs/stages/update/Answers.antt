@@ -4,11 +4,9 @@ use mathlib.Core.Path.{◌≡◌, sym, ap, ◌∙◌}
 use mathlib.Core.List.{List}
 use lib.ListN.{length}
 use lib.IntN.{nat_abs}
-use borrow.Author.Rules.{rules}
 use mir.Facts.{to_z-of_z}
 use Rattle.header.specs.Header.{head_of}
 use Rattle.layout.specs.Slices.{lent, Lent}
-use Rattle.layout.specs.Outcomes.{left}
 use Rattle.univmon.specs.inner.Needs.{sound_in}
 use Rattle.words.specs.Tests.{number}
 use Rattle.univmon.proofs.Updating.{key-ready, after_unsound, after_unbegun, after-begun, key-told}

@@ -1,8 +1,7 @@
 -- `univmon::update::note` meets its contract.
 use mathlib.Core.Path.{◌≡◌, sym, ap, ◌∙◌}
-use lib.ListN.{length, set}
+use lib.ListN.{set}
 use borrow.Author.Rules.{rules}
-use Rattle.layout.specs.Outcomes.{left}
 use Rattle.heap.specs.Offer.{kept_by, len_by}
 use Rattle.header.proofs.Steps.{flag-kept, flag_lost}
 use Rattle.univmon.proofs.update.note.Goals as goal

@@ -8,7 +8,6 @@ use borrow.Author.Rules.{rules}
 use borrow.Author.Tests.{not-true, not-false}
 use Rattle.header.specs.Header.{head_of}
 use Rattle.layout.specs.Slices.{lent, view, Lent}
-use Rattle.layout.specs.Outcomes.{left}
 use Rattle.univmon.specs.inner.Needs.{ready_at}
 use Rattle.words.proofs.Bools.{never}
 use Rattle.layout.specs.State.{layer_at}
