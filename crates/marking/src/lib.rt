@@ -24,8 +24,8 @@ fn with_mark(header: Header, layer: usize) -> Header
 }
 
 // Marks one layer's candidates as partial, on a header that is lent: 9, then 8 for a layer outside.
-// One flag changes and nothing else; a refused mark changes nothing. The proof of this function walks
-// through its steps by hand, so it has no branch of its own: the two functions above judge.
+// One flag changes and nothing else; a refused mark changes nothing. It has no branch of its own: the two
+// functions above judge.
 pub fn mark_layer_lent(header: &mut Header, layer: usize) -> u64
     ensures { (result ≡ (mark_layer_call header.old layer).refusal) × (header.new ≡ (mark_layer_call header.old layer).header) }
 {
