@@ -253,7 +253,8 @@ pub fn update(
     if refusal != 0 {
         return refusal;
     }
-    if begins != 0 {
+    let refused = begins != 0;
+    if refused {
         return begins;
     }
     send_key(

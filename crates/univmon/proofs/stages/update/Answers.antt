@@ -37,19 +37,19 @@ returns-then-refusal-ne0 c =
       list_after = list-kept _ _ _ c.if-refusal-ne0.true;
     }
 
-pub returns-then-begins-ne0 : goal.returns-then-begins-ne0
-returns-then-begins-ne0 c =
+pub returns-then-refused : goal.returns-then-refused
+returns-then-refused c =
     let a = c.args in
     record {
-      counts_value = after_unbegun a.kind a.begins a.«record».now a.weight (length a.list.now) (lent_of (goal.at.returns-then-begins-ne0 c).Start) (sound (goal.at.returns-then-begins-ne0 c).Else-refusal-ne0) c.if-begins-ne0.true;
-      list_after = list-kept _ _ _ c.if-begins-ne0.true;
+      counts_value = after_unbegun a.kind a.begins a.«record».now a.weight (length a.list.now) (lent_of (goal.at.returns-then-refused c).Start) (sound (goal.at.returns-then-refused c).Else-refusal-ne0) c.if-refused.true;
+      list_after = list-kept _ _ _ c.if-refused.true;
     }
 
 pub send_key-requires : goal.send_key-requires
 send_key-requires c =
     let a = c.args in
     rw (weight_is (goal.at.send_key-requires c).After-magnitude) (record {
-      key_ready = key-ready (lent_of (goal.at.send_key-requires c).Start) a.«record».now (nat_abs a.weight) (sound (goal.at.send_key-requires c).Else-refusal-ne0) (c.requires c.if-begins-ne0.false);
+      key_ready = key-ready (lent_of (goal.at.send_key-requires c).Start) a.«record».now (nat_abs a.weight) (sound (goal.at.send_key-requires c).Else-refusal-ne0) (c.requires c.if-refused.false);
       bottom_hash_value = c.bottom_word-bottom_hash.ensures;
     })
 
@@ -57,6 +57,6 @@ pub returns : goal.returns
 returns c =
     let a = c.args in
     let n = c.send_key.result in record {
-      counts_value = rw (weight_is (goal.at.returns c).After-magnitude) at c.send_key.ensures.counts_value ∙ after-begun a.kind a.begins a.«record».now a.weight (length a.list.now) (lent_of (goal.at.returns c).Start) (sound (goal.at.returns c).Else-refusal-ne0) c.if-begins-ne0.false;
+      counts_value = rw (weight_is (goal.at.returns c).After-magnitude) at c.send_key.ensures.counts_value ∙ after-begun a.kind a.begins a.«record».now a.weight (length a.list.now) (lent_of (goal.at.returns c).Start) (sound (goal.at.returns c).Else-refusal-ne0) c.if-refused.false;
       list_after = rw (weight_is (goal.at.returns c).After-magnitude) at c.send_key.ensures.list_after ∙ ap (λ (t : List ℕ). list_left n t a.list.now) (key-told a.kind a.«record».now a.weight (lent_of (goal.at.returns c).Start));
     }
