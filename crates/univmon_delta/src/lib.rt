@@ -190,7 +190,8 @@ fn delta_refusal(
     let unready = judge_delta(
         h, counters, norms, entries, counts, record, l, row, col, count,
     );
-    if unready != 0 {
+    let refused = unready != 0;
+    if refused {
         return unready;
     }
     if list < 2 * shape.layers {

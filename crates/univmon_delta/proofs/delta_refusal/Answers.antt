@@ -74,14 +74,18 @@ pub judge_delta-unready-requires : goal.judge_delta-unready-requires
 judge_delta-unready-requires c =
     record { standing = standing (goal.at.judge_delta-unready-requires c).Else-unfit-ne0; recorded = c.if-record-shape.false; inside = c.if-shape-l.false; below = rw c.dims-d.ensures at c.if-d-row.false; within = rw c.dims-d.ensures at c.if-d-col.false }
 
-pub returns-then-unready-ne0 : goal.returns-then-unready-ne0
-returns-then-unready-ne0 c = λ f. first (goal.at.returns-then-unready-ne0 c).Start f c.judge_delta-unready.result (judged (goal.at.returns-then-unready-ne0 c).After-judge_delta-unready f) c.if-unready-ne0.true
+pub returns-then-refused : goal.returns-then-refused
+returns-then-refused c = λ f. first (goal.at.returns-then-refused c).Start f c.judge_delta-unready.result (judged (goal.at.returns-then-refused c).After-judge_delta-unready f) (λ z. omega (arith, z, c.if-refused.true))
 
 pub overflow_mul-shape-2 : goal.overflow_mul-shape-2
 overflow_mul-shape-2 c = record { fits = omega (arith, (standing (goal.at.overflow_mul-shape-2 c).Else-unfit-ne0).accepted.few) }
 
 pub returns-then-list-shape : goal.returns-then-list-shape
-returns-then-list-shape c = λ f. short-number (lent_of (goal.at.returns-then-list-shape c).Start) c.args.«record».now (delta-of (goal.at.returns-then-list-shape c).Start f) c.args.list (sym (judged (goal.at.returns-then-list-shape c).After-judge_delta-unready f) ∙ c.if-unready-ne0.false) c.if-list-shape.true
+returns-then-list-shape c =
+    let unrefused : c.judge_delta-unready.result ≡ 0 = omega (arith, c.if-refused.false) in
+    λ f. short-number (lent_of (goal.at.returns-then-list-shape c).Start) c.args.«record».now (delta-of (goal.at.returns-then-list-shape c).Start f) c.args.list (sym (judged (goal.at.returns-then-list-shape c).After-judge_delta-unready f) ∙ unrefused) c.if-list-shape.true
 
 pub returns : goal.returns
-returns c = λ f. c.if-unready-ne0.false ∙ long-number (lent_of (goal.at.returns c).Start) c.args.«record».now (delta-of (goal.at.returns c).Start f) c.args.list (sym (judged (goal.at.returns c).After-judge_delta-unready f) ∙ c.if-unready-ne0.false) c.if-list-shape.false
+returns c =
+    let unrefused : c.judge_delta-unready.result ≡ 0 = omega (arith, c.if-refused.false) in
+    λ f. unrefused ∙ long-number (lent_of (goal.at.returns c).Start) c.args.«record».now (delta-of (goal.at.returns c).Start f) c.args.list (sym (judged (goal.at.returns c).After-judge_delta-unready f) ∙ unrefused) c.if-list-shape.false
