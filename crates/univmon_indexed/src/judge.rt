@@ -5,7 +5,6 @@ ghost use Rattle.words.specs.Tests.{number};
 ghost use Rattle.header.specs.Lending.{head_now};
 ghost use Rattle.layout.specs.State.{layer_at, all_layers};
 ghost use Rattle.layout.specs.Slices.{view, lent};
-
 ghost use Rattle.univmon_indexed.specs.Updates.{layers_tests_in};
 ghost use Rattle.univmon_indexed.specs.inner.Needs.{JudgeReadyIn, grade_in, reaches_at};
 ghost use Rattle.header.specs.Header.{head_of};
