@@ -2,7 +2,6 @@
 ghost use Rattle.std.specs.Prelude.{◌≡◌, false, length};
 ghost use Rattle.heap.specs.inner.Slices.{table_of};
 ghost use Rattle.heap_index.specs.inner.Needs.{Cover};
-
 ghost use Rattle.indexed_state.specs.Lookups.{looked_up, look_in, lookup_call};
 ghost use Rattle.layout.specs.Slices.{lent};
 
