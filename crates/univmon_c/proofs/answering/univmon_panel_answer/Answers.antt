@@ -1,0 +1,28 @@
+-- `univmon_c::answering::univmon_panel_answer` meets its contract.
+use mathlib.Core.Path.{◌∙◌}
+use native.Mathlib.Omega.{arith}
+use borrow.Author.Rules.{rules}
+use Rattle.layout.specs.Slices.{Lent}
+use Rattle.layout.specs.Outcomes.{left}
+use Rattle.estimates.specs.Calls.{panel_call}
+use Rattle.univmon_c.specs.Calls.{one_tier_face, CLent, c_lent, lent_of}
+use Rattle.univmon_c.proofs.Turning.{panel_no_mode, panelled}
+use Rattle.univmon_c.specs.declared.CHeader.{CHeader}
+use Rattle.univmon_c.proofs.answering.univmon_panel_answer.Goals as goal
+use Rattle.univmon_c.proofs.answering.univmon_panel_answer.Goals.{Start}
+
+-- what C lends
+abbrev here : Start → CLent CHeader
+here c = c_lent c.args.header c.args.counters.now c.args.norms.now c.args.entries.now c.args.counts.now
+
+-- the state that it stands for
+abbrev stood : Start → Lent
+stood c = lent_of one_tier_face (here c)
+
+pub returns-then-header-gt-LAST_MODE : goal.returns-then-header-gt-LAST_MODE
+returns-then-header-gt-LAST_MODE c = c.no_panel.ensures ∙ panel_no_mode c.args.header (panel_call (stood (goal.at.returns-then-header-gt-LAST_MODE c).Start)) (omega (arith, c.if-header-gt-LAST_MODE.true))
+
+pub returns : goal.returns
+returns c =
+    c.c_panel.ensures
+    ∙ panelled c.args.header (panel_call (stood (goal.at.returns c).Start)) _ (omega (arith, c.if-header-gt-LAST_MODE.false)) (rw c.header_of-h.ensures at c.panel_answer.ensures)

@@ -1,0 +1,45 @@
+-- `univmon_c::changing::univmon_apply_delta` meets its contract.
+use lib.ListN.{length}
+use native.Mathlib.Omega.{arith}
+use borrow.Author.Rules.{rules}
+use borrow.Author.Tests.{le-leb, lt-leb}
+use mir.Facts.{to_z-of_z}
+use Rattle.layout.specs.Slices.{Lent}
+use Rattle.univmon_delta.specs.Deltas.{arrival, delta_list_call}
+use Rattle.layout.specs.Outcomes.{Outcome, left}
+use Rattle.layout.proofs.Telling.{list-kept}
+use Rattle.univmon_c.specs.Crossing.{fidelity_of, is_fidelity}
+use Rattle.univmon_c.specs.Calls.{one_tier_face, CLent, c_lent}
+use Rattle.univmon_c.proofs.Turning.{change_no_mode, change_no_choice, changed}
+use Rattle.univmon_c.specs.declared.CHeader.{CHeader}
+use Rattle.univmon_c.proofs.changing.univmon_apply_delta.Goals as goal
+use Rattle.univmon_c.proofs.changing.univmon_apply_delta.Goals.{Start}
+
+-- what C lends
+abbrev here : Start → CLent CHeader
+here c = c_lent c.args.header c.args.counters.now c.args.norms.now c.args.entries.now c.args.counts.now
+
+-- the call on the state that it stands for
+abbrev call : Start → Lent → Outcome
+call c s = delta_list_call s c.args.«record».now (arrival c.args.layer c.args.row c.args.col c.args.count (fidelity_of c.args.fidelity)) (length c.args.list.now)
+
+pub returns-then-header-gt-LAST_MODE : goal.returns-then-header-gt-LAST_MODE
+returns-then-header-gt-LAST_MODE c = record {
+  counts_value = change_no_mode one_tier_face (is_fidelity c.args.fidelity) (call (goal.at.returns-then-header-gt-LAST_MODE c).Start) (here (goal.at.returns-then-header-gt-LAST_MODE c).Start) (omega (arith, c.if-header-gt-LAST_MODE.true));
+  list_after = list-kept 9 _ _ (λ e. omega (arith, e));
+}
+
+pub returns-then-fidelity-gt-LAST_FIDELITY : goal.returns-then-fidelity-gt-LAST_FIDELITY
+returns-then-fidelity-gt-LAST_FIDELITY c = record {
+  counts_value = change_no_choice one_tier_face (is_fidelity c.args.fidelity) (call (goal.at.returns-then-fidelity-gt-LAST_FIDELITY c).Start) (here (goal.at.returns-then-fidelity-gt-LAST_FIDELITY c).Start) (omega (arith, c.if-header-gt-LAST_MODE.false)) (lt-leb _ _ c.if-fidelity-gt-LAST_FIDELITY.true);
+  list_after = list-kept 9 _ _ (λ e. omega (arith, e));
+}
+
+pub returns : goal.returns
+returns c =
+    record {
+      counts_value = rw c.c_answered.ensures
+          (changed one_tier_face (is_fidelity c.args.fidelity) (call (goal.at.returns c).Start) (here (goal.at.returns c).Start) (omega (arith, c.if-header-gt-LAST_MODE.false)) (le-leb _ _ c.if-fidelity-gt-LAST_FIDELITY.false) _ _
+          (rw (c.header_of-h.ensures, c.fidelity_of-f.ensures, to_z-of_z c.ranges.count) at c.apply_delta.ensures.counts_value));
+      list_after = rw c.c_answered.ensures (rw (c.header_of-h.ensures, c.fidelity_of-f.ensures, to_z-of_z c.ranges.count) at c.apply_delta.ensures.list_after);
+    }

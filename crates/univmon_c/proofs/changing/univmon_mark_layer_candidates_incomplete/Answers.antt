@@ -1,0 +1,16 @@
+-- `univmon_c::changing::univmon_mark_layer_candidates_incomplete` meets its contract.
+use mathlib.Core.Path.{◌∙◌}
+use native.Mathlib.Omega.{arith}
+use borrow.Author.Rules.{rules}
+use Rattle.layout.specs.Outcomes.{left}
+use Rattle.univmon.specs.Calls.{mark_layer_call}
+use Rattle.univmon_c.proofs.Turning.{head_no_mode, headed}
+use Rattle.univmon_c.proofs.changing.univmon_mark_layer_candidates_incomplete.Goals as goal
+
+pub returns-then-header-gt-LAST_MODE : goal.returns-then-header-gt-LAST_MODE
+returns-then-header-gt-LAST_MODE c = head_no_mode (λ h. mark_layer_call h c.args.layer) c.args.header (omega (arith, c.if-header-gt-LAST_MODE.true))
+
+pub returns : goal.returns
+returns c =
+    c.c_answered.ensures
+    ∙ headed (λ h. mark_layer_call h c.args.layer) c.args.header (omega (arith, c.if-header-gt-LAST_MODE.false)) _ (rw c.header_of-h.ensures at c.mark_layer_candidates_incomplete.ensures)

@@ -1,0 +1,22 @@
+-- `univmon_c::texts::univmon_write_state` meets its contract.
+use native.Mathlib.Omega.{arith}
+use borrow.Author.Rules.{rules}
+use Rattle.layout.specs.Outcomes.{left}
+use Rattle.univmon_c.specs.Calls.{CLent, c_lent}
+use Rattle.univmon_c.proofs.Turning.{write_no_mode, writes}
+use Rattle.state_text.specs.Calls.{copied, write_call}
+use Rattle.univmon_c.specs.declared.CHeader.{CHeader}
+use Rattle.univmon_c.proofs.texts.univmon_write_state.Goals as goal
+use Rattle.univmon_c.proofs.texts.univmon_write_state.Goals.{Start}
+
+-- what C lends
+abbrev here : Start → CLent CHeader
+here c = c_lent c.args.header c.args.counters.now c.args.norms.now c.args.entries.now c.args.counts.now
+
+pub returns-then-header-gt-LAST_MODE : goal.returns-then-header-gt-LAST_MODE
+returns-then-header-gt-LAST_MODE c = write_no_mode write_call (here (goal.at.returns-then-header-gt-LAST_MODE c).Start) c.args.out.now (omega (arith, c.if-header-gt-LAST_MODE.true))
+
+pub returns : goal.returns
+returns c =
+    rw c.c_written.ensures
+    (writes write_call (here (goal.at.returns c).Start) c.args.out.now (omega (arith, c.if-header-gt-LAST_MODE.false)) (copied c.write_state.result c.write_state.new.out) (rw c.header_of-h.ensures at c.write_state.ensures))
