@@ -26,7 +26,7 @@ use Rattle.shared_streams.specs.SharedStreams.{Claimed}
 use Rattle.shared_streams.proofs.SharedStreams.{shared-streams}
 use Rattle.state_check.proofs.KeptCalls.{fresh-passing}
 use Rattle.indexed_state.proofs.Passing.{fresh_passes}
-use Rattle.indexed_streams.specs.Runs.{Call, put, first_of, walk_ask, walk_join, walk_call, walk_run}
+use Rattle.indexed_streams.specs.Runs.{put, first_of, walk_ask, walk_join, walk_call, walk_run}
 use Rattle.indexed_streams.specs.IndexedRuns.{PassingIn, SameRuns}
 use Rattle.indexed_streams.specs.IndexedShared.{asked, fresh_indexed, sought_after, Corollary}
 use Rattle.indexed_streams.proofs.IndexedRuns.{indexed_runs}
