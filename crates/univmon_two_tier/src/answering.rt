@@ -3,7 +3,6 @@ ghost use Rattle.std.specs.Prelude.{◌≡◌, Bool, true, ℕ};
 ghost use Rattle.estimates.specs.Calls.{l1_call, l2_call, sum_call, cardinality_call};
 ghost use Rattle.univmon_c.specs.Crossing.{is_g, g_by};
 ghost use Rattle.univmon_c.specs.Calls.{lent_of, answer_by, c_lent};
-
 ghost use Rattle.univmon_two_tier.specs.Crossing.{header_of, two_tier_face};
 
 use crate::CTwoTier;

@@ -1,0 +1,30 @@
+-- `univmon_two_tier::answering::univmon_two_tier_estimate_cardinality` meets its contract.
+use mathlib.Core.Path.{refl, ◌∙◌}
+use mathlib.Core.Bool.{true}
+use native.Mathlib.Omega.{arith}
+use borrow.Author.Rules.{rules}
+use Rattle.layout.specs.Slices.{Lent}
+use Rattle.layout.specs.Outcomes.{left}
+use Rattle.estimates.specs.Calls.{cardinality_call}
+use Rattle.univmon_c.specs.Calls.{CLent, c_lent, lent_of}
+use Rattle.univmon_c.proofs.Turning.{answer_no_mode, answers}
+use Rattle.univmon_two_tier.specs.Crossing.{two_tier_face}
+use Rattle.univmon_two_tier.specs.declared.CTwoTier.{CTwoTier}
+use Rattle.univmon_two_tier.proofs.answering.univmon_two_tier_estimate_cardinality.Goals as goal
+use Rattle.univmon_two_tier.proofs.answering.univmon_two_tier_estimate_cardinality.Goals.{Start}
+
+-- what C lends
+abbrev here : Start → CLent CTwoTier
+here c = c_lent c.args.header c.args.counters.now c.args.norms.now c.args.entries.now c.args.counts.now
+
+-- the state that it stands for
+abbrev stood : Start → Lent
+stood c = lent_of two_tier_face (here c)
+
+pub returns-then-header-gt-LAST_MODE : goal.returns-then-header-gt-LAST_MODE
+returns-then-header-gt-LAST_MODE c = c.no_answer.ensures ∙ answer_no_mode true c.args.header.mode (cardinality_call (stood (goal.at.returns-then-header-gt-LAST_MODE c).Start)) (omega (arith, c.if-header-gt-LAST_MODE.true))
+
+pub returns : goal.returns
+returns c =
+    c.c_answer.ensures
+    ∙ answers true c.args.header.mode (cardinality_call (stood (goal.at.returns c).Start)) _ (omega (arith, c.if-header-gt-LAST_MODE.false)) refl (rw c.header_of-h.ensures at c.estimate_cardinality.ensures)

@@ -1,0 +1,37 @@
+-- `univmon_two_tier::answering::univmon_two_tier_estimate_g_sum` meets its contract.
+use mathlib.Core.Path.{◌∙◌}
+use native.Mathlib.Omega.{arith}
+use borrow.Author.Rules.{rules}
+use borrow.Author.Tests.{le-leb, lt-leb}
+use Rattle.layout.specs.Slices.{Lent}
+use Rattle.layout.specs.Outcomes.{left}
+use Rattle.estimates.specs.Calls.{sum_call}
+use Rattle.univmon_c.specs.Crossing.{g_by, is_g}
+use Rattle.univmon_c.specs.Calls.{CLent, c_lent, lent_of}
+use Rattle.univmon_c.proofs.Turning.{answer_no_mode, answer_no_choice, answers}
+use Rattle.univmon_two_tier.specs.Crossing.{two_tier_face}
+use Rattle.univmon_two_tier.specs.declared.CTwoTier.{CTwoTier}
+use Rattle.univmon_two_tier.proofs.answering.univmon_two_tier_estimate_g_sum.Goals as goal
+use Rattle.univmon_two_tier.proofs.answering.univmon_two_tier_estimate_g_sum.Goals.{Start}
+
+-- what C lends
+abbrev here : Start → CLent CTwoTier
+here c = c_lent c.args.header c.args.counters.now c.args.norms.now c.args.entries.now c.args.counts.now
+
+-- the state that it stands for
+abbrev stood : Start → Lent
+stood c = lent_of two_tier_face (here c)
+
+pub returns-then-header-gt-LAST_MODE : goal.returns-then-header-gt-LAST_MODE
+returns-then-header-gt-LAST_MODE c = c.no_answer.ensures ∙ answer_no_mode (is_g c.args.g) c.args.header.mode (sum_call (g_by c.args.g) c.args.count_every_key (stood (goal.at.returns-then-header-gt-LAST_MODE c).Start)) (omega (arith, c.if-header-gt-LAST_MODE.true))
+
+pub returns-then-g-gt-LAST_G : goal.returns-then-g-gt-LAST_G
+returns-then-g-gt-LAST_G c =
+    c.no_answer-then-g-gt-LAST_G.ensures
+    ∙ answer_no_choice (is_g c.args.g) c.args.header.mode (sum_call (g_by c.args.g) c.args.count_every_key (stood (goal.at.returns-then-g-gt-LAST_G c).Start)) (omega (arith, c.if-header-gt-LAST_MODE.false)) (lt-leb _ _ c.if-g-gt-LAST_G.true)
+
+pub returns : goal.returns
+returns c =
+    c.c_answer.ensures
+    ∙ answers (is_g c.args.g) c.args.header.mode (sum_call (g_by c.args.g) c.args.count_every_key (stood (goal.at.returns c).Start)) _ (omega (arith, c.if-header-gt-LAST_MODE.false)) (le-leb _ _ c.if-g-gt-LAST_G.false)
+    (rw (c.header_of-h.ensures, c.g_of-choice.ensures) at c.estimate_g_sum.ensures)

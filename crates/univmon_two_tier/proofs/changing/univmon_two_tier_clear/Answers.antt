@@ -1,0 +1,25 @@
+-- `univmon_two_tier::changing::univmon_two_tier_clear` meets its contract.
+use mathlib.Core.Path.{refl}
+use mathlib.Core.Bool.{true}
+use native.Mathlib.Omega.{arith}
+use borrow.Author.Rules.{rules}
+use Rattle.layout.specs.Outcomes.{left}
+use Rattle.univmon.specs.Calls.{clear_call}
+use Rattle.univmon_c.specs.Calls.{CLent, c_lent}
+use Rattle.univmon_c.proofs.Turning.{change_no_mode, changed}
+use Rattle.univmon_two_tier.specs.Crossing.{two_tier_face}
+use Rattle.univmon_two_tier.specs.declared.CTwoTier.{CTwoTier}
+use Rattle.univmon_two_tier.proofs.changing.univmon_two_tier_clear.Goals as goal
+use Rattle.univmon_two_tier.proofs.changing.univmon_two_tier_clear.Goals.{Start}
+
+-- what C lends
+abbrev here : Start → CLent CTwoTier
+here c = c_lent c.args.header c.args.counters.now c.args.norms.now c.args.entries.now c.args.counts.now
+
+pub returns-then-header-gt-LAST_MODE : goal.returns-then-header-gt-LAST_MODE
+returns-then-header-gt-LAST_MODE c = change_no_mode two_tier_face true clear_call (here (goal.at.returns-then-header-gt-LAST_MODE c).Start) (omega (arith, c.if-header-gt-LAST_MODE.true))
+
+pub returns : goal.returns
+returns c =
+    rw c.c_answered.ensures
+    (changed two_tier_face true clear_call (here (goal.at.returns c).Start) (omega (arith, c.if-header-gt-LAST_MODE.false)) refl _ _ (rw c.header_of-h.ensures at c.clear.ensures))

@@ -1,0 +1,46 @@
+-- `univmon_two_tier::changing::univmon_two_tier_merge` meets its contract.
+use lib.ListN.{length}
+use native.Mathlib.Omega.{arith}
+use borrow.Author.Rules.{rules}
+use Rattle.layout.specs.Slices.{Lent}
+use Rattle.layout.specs.Outcomes.{Outcome, left}
+use Rattle.univmon_merge.specs.Merges.{merge_list_call}
+use Rattle.layout.proofs.Telling.{list-kept}
+use Rattle.univmon_c.specs.Calls.{CLent, c_lent}
+use Rattle.univmon_c.proofs.Turning.{merge_no_mode, merge_no_other, merged}
+use Rattle.univmon_two_tier.specs.Crossing.{two_tier_face}
+use Rattle.univmon_two_tier.specs.declared.CTwoTier.{CTwoTier}
+use Rattle.univmon_two_tier.proofs.changing.univmon_two_tier_merge.Goals as goal
+use Rattle.univmon_two_tier.proofs.changing.univmon_two_tier_merge.Goals.{Start}
+
+-- what C lends
+abbrev here : Start → CLent CTwoTier
+here c = c_lent c.args.header c.args.counters.now c.args.norms.now c.args.entries.now c.args.counts.now
+
+-- the other state that C lends
+abbrev there : Start → CLent CTwoTier
+there c = c_lent c.args.other c.args.other_counters.now c.args.other_norms.now c.args.other_entries.now c.args.other_counts.now
+
+-- the call on the states that they stand for
+abbrev call : Start → Lent → Lent → Outcome
+call c s t = merge_list_call s t (length c.args.list.now)
+
+pub returns-then-header-gt-LAST_MODE : goal.returns-then-header-gt-LAST_MODE
+returns-then-header-gt-LAST_MODE c = record {
+  counts_value = merge_no_mode two_tier_face (call (goal.at.returns-then-header-gt-LAST_MODE c).Start) (here (goal.at.returns-then-header-gt-LAST_MODE c).Start) (there (goal.at.returns-then-header-gt-LAST_MODE c).Start) (omega (arith, c.if-header-gt-LAST_MODE.true));
+  list_after = list-kept 9 _ _ (λ e. omega (arith, e));
+}
+
+pub returns-then-other-gt-LAST_MODE : goal.returns-then-other-gt-LAST_MODE
+returns-then-other-gt-LAST_MODE c = record {
+  counts_value = merge_no_other two_tier_face (call (goal.at.returns-then-other-gt-LAST_MODE c).Start) (here (goal.at.returns-then-other-gt-LAST_MODE c).Start) (there (goal.at.returns-then-other-gt-LAST_MODE c).Start) (omega (arith, c.if-header-gt-LAST_MODE.false)) c.if-other-gt-LAST_MODE.true;
+  list_after = list-kept 9 _ _ (λ e. omega (arith, e));
+}
+
+pub returns : goal.returns
+returns c =
+    record {
+      counts_value = rw c.c_answered.ensures
+          (merged two_tier_face (call (goal.at.returns c).Start) (here (goal.at.returns c).Start) (there (goal.at.returns c).Start) (omega (arith, c.if-header-gt-LAST_MODE.false)) c.if-other-gt-LAST_MODE.false _ _ (rw (c.header_of-h.ensures, c.header_of-o.ensures) at c.merge.ensures.counts_value));
+      list_after = rw c.c_answered.ensures (rw (c.header_of-h.ensures, c.header_of-o.ensures) at c.merge.ensures.list_after);
+    }

@@ -1,0 +1,40 @@
+-- `univmon_two_tier::changing::univmon_two_tier_update_weighted` meets its contract.
+use mathlib.Core.Path.{refl}
+use mathlib.Core.Bool.{true}
+use lib.ListN.{length}
+use native.Mathlib.Omega.{arith}
+use borrow.Author.Rules.{rules}
+use mir.Facts.{to_z-of_z}
+use Rattle.univmon.specs.declared.Kind.TheVariants as kind
+use Rattle.layout.specs.Slices.{Lent}
+use Rattle.layout.specs.Outcomes.{Outcome, left}
+use Rattle.univmon.specs.Calls.{update_list_call}
+use Rattle.layout.proofs.Telling.{list-kept}
+use Rattle.univmon_c.specs.Calls.{CLent, c_lent}
+use Rattle.univmon_c.proofs.Turning.{change_no_mode, changed}
+use Rattle.univmon_two_tier.specs.Crossing.{two_tier_face}
+use Rattle.univmon_two_tier.specs.declared.CTwoTier.{CTwoTier}
+use Rattle.univmon_two_tier.proofs.changing.univmon_two_tier_update_weighted.Goals as goal
+use Rattle.univmon_two_tier.proofs.changing.univmon_two_tier_update_weighted.Goals.{Start}
+
+-- what C lends
+abbrev here : Start → CLent CTwoTier
+here c = c_lent c.args.header c.args.counters.now c.args.norms.now c.args.entries.now c.args.counts.now
+
+-- the call on the state that it stands for
+abbrev call : Start → Lent → Outcome
+call c s = update_list_call kind.Standard s c.args.«record».now c.args.weight (length c.args.list.now)
+
+pub returns-then-header-gt-LAST_MODE : goal.returns-then-header-gt-LAST_MODE
+returns-then-header-gt-LAST_MODE c = record {
+  counts_value = change_no_mode two_tier_face true (call (goal.at.returns-then-header-gt-LAST_MODE c).Start) (here (goal.at.returns-then-header-gt-LAST_MODE c).Start) (omega (arith, c.if-header-gt-LAST_MODE.true));
+  list_after = list-kept 9 _ _ (λ e. omega (arith, e));
+}
+
+pub returns : goal.returns
+returns c =
+    record {
+      counts_value = rw c.c_answered.ensures
+          (changed two_tier_face true (call (goal.at.returns c).Start) (here (goal.at.returns c).Start) (omega (arith, c.if-header-gt-LAST_MODE.false)) refl _ _ (rw (c.header_of-h.ensures, to_z-of_z c.ranges.weight) at c.update_weighted.ensures.counts_value));
+      list_after = rw c.c_answered.ensures (rw (c.header_of-h.ensures, to_z-of_z c.ranges.weight) at c.update_weighted.ensures.list_after);
+    }
