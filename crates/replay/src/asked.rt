@@ -30,22 +30,27 @@ fn g_of(k: u64) -> G {
 }
 
 // 11: L1, L2, cardinality, the six sums, and the panel's answer.
-fn answers(output: Stdout, h: Header, counters: &[i64], norms: &[u64], entries: &[u64], counts: &[i64]) -> io::Result<()> {
+fn answers(
+    output: Stdout,
+    h: Header,
+    counters: &[i64],
+    norms: &[u64],
+    entries: &[u64],
+    counts: &[i64],
+) -> io::Result<()> {
     print_answer(output, estimates::estimate_l1(h))?;
     print_answer(output, estimates::estimate_l2(h, norms))?;
-    print_answer(output, estimates::estimate_cardinality(h, counters, norms, entries, counts))?;
+    print_answer(
+        output,
+        estimates::estimate_cardinality(h, counters, norms, entries, counts),
+    )?;
     let mut k = 0;
     while k < 6 {
         let every = k % 2 == 1;
-        print_answer(output, estimates::estimate_g_sum(
-            h,
-            counters,
-            norms,
-            entries,
-            counts,
-            g_of(k),
-            every,
-        ))?;
+        print_answer(
+            output,
+            estimates::estimate_g_sum(h, counters, norms, entries, counts, g_of(k), every),
+        )?;
         k += 1;
     }
     let p = estimates::panel_answer(h, counters, norms, entries, counts);
