@@ -5,7 +5,6 @@ ghost use Rattle.state_check.specs.Check.{state_ok};
 ghost use Rattle.univmon_c.specs.Crossing.{is_g, g_by, header_of};
 ghost use Rattle.univmon_c.specs.Calls.{one_tier_face, lent_of, answer_by, panel_by, check_by, c_lent};
 
-
 use univmon_c::{CAnswer, CHeader, CPanel};
 
 // L1: the exact weight.
