@@ -1,7 +1,5 @@
 -- `univmon_c::answering::univmon_check_state` meets its contract.
 use native.Mathlib.Omega.{arith}
-use borrow.Author.Rules.{rules}
-use Rattle.layout.specs.Outcomes.{left}
 use Rattle.univmon_c.specs.Calls.{CLent, c_lent}
 use Rattle.univmon_c.proofs.Turning.{check_no_mode, checked}
 use Rattle.state_check.specs.Check.{state_ok}

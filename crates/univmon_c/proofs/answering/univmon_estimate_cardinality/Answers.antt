@@ -2,9 +2,7 @@
 use mathlib.Core.Path.{refl, ◌∙◌}
 use mathlib.Core.Bool.{true}
 use native.Mathlib.Omega.{arith}
-use borrow.Author.Rules.{rules}
 use Rattle.layout.specs.Slices.{Lent}
-use Rattle.layout.specs.Outcomes.{left}
 use Rattle.estimates.specs.Calls.{cardinality_call}
 use Rattle.univmon_c.specs.Calls.{one_tier_face, CLent, c_lent, lent_of}
 use Rattle.univmon_c.proofs.Turning.{answer_no_mode, answers}

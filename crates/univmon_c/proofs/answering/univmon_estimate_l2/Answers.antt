@@ -2,8 +2,6 @@
 use mathlib.Core.Path.{refl, ◌∙◌}
 use mathlib.Core.Bool.{true}
 use native.Mathlib.Omega.{arith}
-use borrow.Author.Rules.{rules}
-use Rattle.layout.specs.Outcomes.{left}
 use Rattle.estimates.specs.Calls.{l2_call}
 use Rattle.univmon_c.specs.Crossing.{header_of}
 use Rattle.univmon_c.proofs.Turning.{answer_no_mode, answers}

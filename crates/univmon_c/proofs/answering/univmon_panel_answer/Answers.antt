@@ -1,9 +1,7 @@
 -- `univmon_c::answering::univmon_panel_answer` meets its contract.
 use mathlib.Core.Path.{◌∙◌}
 use native.Mathlib.Omega.{arith}
-use borrow.Author.Rules.{rules}
 use Rattle.layout.specs.Slices.{Lent}
-use Rattle.layout.specs.Outcomes.{left}
 use Rattle.estimates.specs.Calls.{panel_call}
 use Rattle.univmon_c.specs.Calls.{one_tier_face, CLent, c_lent, lent_of}
 use Rattle.univmon_c.proofs.Turning.{panel_no_mode, panelled}

@@ -1,12 +1,11 @@
 -- `univmon_c::changing::univmon_apply_delta` meets its contract.
 use lib.ListN.{length}
 use native.Mathlib.Omega.{arith}
-use borrow.Author.Rules.{rules}
 use borrow.Author.Tests.{le-leb, lt-leb}
 use mir.Facts.{to_z-of_z}
 use Rattle.layout.specs.Slices.{Lent}
 use Rattle.univmon_delta.specs.Deltas.{arrival, delta_list_call}
-use Rattle.layout.specs.Outcomes.{Outcome, left}
+use Rattle.layout.specs.Outcomes.{Outcome}
 use Rattle.layout.proofs.Telling.{list-kept}
 use Rattle.univmon_c.specs.Crossing.{fidelity_of, is_fidelity}
 use Rattle.univmon_c.specs.Calls.{one_tier_face, CLent, c_lent}

@@ -1,6 +1,5 @@
 -- `univmon_c::changing::univmon_bottom_layer_for_hash` meets its contract.
 use mathlib.Core.Path.{ap, ◌∙◌}
-use borrow.Author.Rules.{rules}
 use Rattle.univmon_c.specs.Crossing.{c_bottom}
 use Rattle.univmon_c.proofs.changing.univmon_bottom_layer_for_hash.Goals as goal
 

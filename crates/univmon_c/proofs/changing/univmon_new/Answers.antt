@@ -1,6 +1,5 @@
 -- `univmon_c::changing::univmon_new` meets its contract.
 use mathlib.Core.Path.{ap}
-use borrow.Author.Rules.{rules}
 use Rattle.univmon_c.specs.Calls.{one_tier_face, crossed}
 use Rattle.univmon_c.proofs.changing.univmon_new.Goals as goal
 

@@ -3,11 +3,10 @@ use mathlib.Core.Path.{refl}
 use mathlib.Core.Bool.{true}
 use lib.ListN.{length}
 use native.Mathlib.Omega.{arith}
-use borrow.Author.Rules.{rules}
 use mir.Facts.{to_z-of_z}
 use Rattle.univmon.specs.declared.Kind.TheVariants as kind
 use Rattle.layout.specs.Slices.{Lent}
-use Rattle.layout.specs.Outcomes.{Outcome, left}
+use Rattle.layout.specs.Outcomes.{Outcome}
 use Rattle.univmon.specs.Calls.{update_list_call}
 use Rattle.layout.proofs.Telling.{list-kept}
 use Rattle.univmon_c.specs.Calls.{one_tier_face, CLent, c_lent}

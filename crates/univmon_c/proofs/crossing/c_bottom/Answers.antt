@@ -1,6 +1,5 @@
 -- `univmon_c::crossing::c_bottom` meets its contract.
 use mathlib.Core.Path.{sym, ap}
-use borrow.Author.Rules.{rules}
 use Rattle.univmon_c.specs.Crossing.{c_bottom}
 use Rattle.univmon_c.proofs.crossing.c_bottom.Goals as goal
 

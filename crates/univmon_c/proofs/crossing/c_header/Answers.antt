@@ -1,5 +1,4 @@
 -- `univmon_c::crossing::c_header` meets its contract.
-use borrow.Author.Rules.{rules}
 use Rattle.univmon_c.proofs.crossing.c_header.Goals as goal
 
 pub returns : goal.returns

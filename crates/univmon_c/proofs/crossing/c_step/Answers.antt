@@ -1,5 +1,4 @@
 -- `univmon_c::crossing::c_step` meets its contract.
-use borrow.Author.Rules.{rules}
 use Rattle.univmon_c.proofs.crossing.c_step.Goals as goal
 
 pub returns : goal.returns

@@ -1,6 +1,5 @@
 -- `univmon_c::crossing::fidelity_of` meets its contract.
 use borrow.Author.Tests.{eq-eqb, ne_eqb}
-use Rattle.layout.specs.Outcomes.{left}
 use Rattle.univmon_c.specs.Crossing.{fidelity_of}
 use Rattle.univmon_c.proofs.crossing.fidelity_of.Goals as goal
 

@@ -1,6 +1,5 @@
 -- `univmon_c::crossing::g_of` meets its contract.
 use borrow.Author.Tests.{eq-eqb, ne_eqb}
-use Rattle.layout.specs.Outcomes.{left}
 use Rattle.univmon_c.specs.Crossing.{g_by}
 use Rattle.univmon_c.proofs.crossing.g_of.Goals as goal
 

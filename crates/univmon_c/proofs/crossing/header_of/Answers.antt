@@ -1,5 +1,4 @@
 -- `univmon_c::crossing::header_of` meets its contract.
-use borrow.Author.Rules.{rules}
 use Rattle.univmon_c.proofs.crossing.header_of.Goals as goal
 
 pub returns : goal.returns

@@ -1,5 +1,4 @@
 -- `univmon_c::crossing::scalars_of` meets its contract.
-use borrow.Author.Rules.{rules}
 use Rattle.univmon_c.proofs.crossing.scalars_of.Goals as goal
 
 pub returns : goal.returns

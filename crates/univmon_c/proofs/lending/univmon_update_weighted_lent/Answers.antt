@@ -1,12 +1,9 @@
 -- `univmon_c::lending::univmon_update_weighted_lent` meets its contract.
-use mathlib.Core.Path.{refl}
 use mathlib.Core.Bool.{true}
 use lib.ListN.{length}
 use native.Mathlib.Omega.{arith}
-use borrow.Author.Rules.{rules}
 use mir.Facts.{to_z-of_z}
 use Rattle.univmon.specs.declared.Kind.TheVariants as kind
-use Rattle.layout.specs.Outcomes.{left}
 use Rattle.univmon.specs.Calls.{lent_update_list_call}
 use Rattle.layout.proofs.Telling.{list-kept}
 use Rattle.univmon_c.specs.Crossing.{c_head}

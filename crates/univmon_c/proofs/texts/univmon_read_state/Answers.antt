@@ -1,6 +1,5 @@
 -- `univmon_c::texts::univmon_read_state` meets its contract.
 use mathlib.Core.Path.{ap}
-use borrow.Author.Rules.{rules}
 use Rattle.univmon_c.specs.Calls.{one_tier_face, crossed}
 use Rattle.univmon_c.proofs.texts.univmon_read_state.Goals as goal
 

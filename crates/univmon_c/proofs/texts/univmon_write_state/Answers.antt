@@ -1,7 +1,5 @@
 -- `univmon_c::texts::univmon_write_state` meets its contract.
 use native.Mathlib.Omega.{arith}
-use borrow.Author.Rules.{rules}
-use Rattle.layout.specs.Outcomes.{left}
 use Rattle.univmon_c.specs.Calls.{CLent, c_lent}
 use Rattle.univmon_c.proofs.Turning.{write_no_mode, writes}
 use Rattle.state_text.specs.Calls.{copied, write_call}

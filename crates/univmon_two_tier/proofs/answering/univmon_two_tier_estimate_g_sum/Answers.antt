@@ -1,10 +1,8 @@
 -- `univmon_two_tier::answering::univmon_two_tier_estimate_g_sum` meets its contract.
 use mathlib.Core.Path.{◌∙◌}
 use native.Mathlib.Omega.{arith}
-use borrow.Author.Rules.{rules}
 use borrow.Author.Tests.{le-leb, lt-leb}
 use Rattle.layout.specs.Slices.{Lent}
-use Rattle.layout.specs.Outcomes.{left}
 use Rattle.estimates.specs.Calls.{sum_call}
 use Rattle.univmon_c.specs.Crossing.{g_by, is_g}
 use Rattle.univmon_c.specs.Calls.{CLent, c_lent, lent_of}

@@ -1,6 +1,5 @@
 -- `univmon_two_tier::changing::univmon_two_tier_check_shape` meets its contract.
 use mathlib.Core.Path.{sym, ◌∙◌}
-use borrow.Author.Rules.{rules}
 use Rattle.header.specs.declared.Shape.{Shape}
 use Rattle.header.specs.Shape.{two_tier}
 use Rattle.header.proofs.Refusals.{checked_good, checked_refused}

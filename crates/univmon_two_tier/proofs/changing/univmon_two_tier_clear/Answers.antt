@@ -2,8 +2,6 @@
 use mathlib.Core.Path.{refl}
 use mathlib.Core.Bool.{true}
 use native.Mathlib.Omega.{arith}
-use borrow.Author.Rules.{rules}
-use Rattle.layout.specs.Outcomes.{left}
 use Rattle.univmon.specs.Calls.{clear_call}
 use Rattle.univmon_c.specs.Calls.{CLent, c_lent}
 use Rattle.univmon_c.proofs.Turning.{change_no_mode, changed}

@@ -1,9 +1,8 @@
 -- `univmon_two_tier::changing::univmon_two_tier_merge` meets its contract.
 use lib.ListN.{length}
 use native.Mathlib.Omega.{arith}
-use borrow.Author.Rules.{rules}
 use Rattle.layout.specs.Slices.{Lent}
-use Rattle.layout.specs.Outcomes.{Outcome, left}
+use Rattle.layout.specs.Outcomes.{Outcome}
 use Rattle.univmon_merge.specs.Merges.{merge_list_call}
 use Rattle.layout.proofs.Telling.{list-kept}
 use Rattle.univmon_c.specs.Calls.{CLent, c_lent}

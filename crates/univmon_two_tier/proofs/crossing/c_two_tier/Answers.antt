@@ -1,5 +1,4 @@
 -- `univmon_two_tier::crossing::c_two_tier` meets its contract.
-use borrow.Author.Rules.{rules}
 use Rattle.univmon_two_tier.proofs.crossing.c_two_tier.Goals as goal
 
 pub returns : goal.returns

@@ -1,6 +1,5 @@
 -- `univmon_two_tier::crossing::header_of` meets its contract.
 use mathlib.Core.Path.{ap}
-use borrow.Author.Rules.{rules}
 use Rattle.univmon_two_tier.specs.Crossing.{header_of}
 use Rattle.header.specs.declared.Mode.{Mode}
 use Rattle.header.specs.Header.{with_mode}

@@ -1,5 +1,4 @@
 -- `univmon_two_tier::crossing::scalars_of` meets its contract.
-use borrow.Author.Rules.{rules}
 use Rattle.univmon_two_tier.proofs.crossing.scalars_of.Goals as goal
 
 pub returns : goal.returns

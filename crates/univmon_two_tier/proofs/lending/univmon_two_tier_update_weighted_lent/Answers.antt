@@ -2,10 +2,8 @@
 use mathlib.Core.Bool.{true}
 use lib.ListN.{length}
 use native.Mathlib.Omega.{arith}
-use borrow.Author.Rules.{rules}
 use mir.Facts.{to_z-of_z}
 use Rattle.univmon.specs.declared.Kind.TheVariants as kind
-use Rattle.layout.specs.Outcomes.{left}
 use Rattle.univmon.specs.Calls.{lent_update_list_call}
 use Rattle.layout.proofs.Telling.{list-kept}
 use Rattle.univmon_c.specs.Calls.{CLent, c_lent}
