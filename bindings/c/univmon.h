@@ -86,11 +86,11 @@
  *   univmon_bottom_layer_for_hash              1 KiB
  *   univmon_new                                1 KiB
  *   univmon_clear                              2 KiB
- *   univmon_update_weighted                    2 KiB
- *   univmon_update_weighted_terminal           2 KiB
+ *   univmon_update_weighted                    3 KiB
+ *   univmon_update_weighted_terminal           3 KiB
  *   univmon_update_weighted_lent               2 KiB
  *   univmon_update_weighted_terminal_lent      2 KiB
- *   univmon_apply_delta                        2 KiB
+ *   univmon_apply_delta                        3 KiB
  *   univmon_merge                             36 KiB
  *   univmon_set_total_weight                   2 KiB
  *   univmon_mark_candidates_incomplete         2 KiB
