@@ -98,7 +98,13 @@ fn try_broken(output: Stdout, lens: u64, text: &[u8], way: Way, k: usize) -> io:
 }
 
 // At every place, with what came out before.
-fn break_places(output: Stdout, lens: u64, text: &[u8], way: Way, before: Sums) -> io::Result<Sums> {
+fn break_places(
+    output: Stdout,
+    lens: u64,
+    text: &[u8],
+    way: Way,
+    before: Sums,
+) -> io::Result<Sums> {
     let mut all = before;
     let mut k = 0;
     while k < text.len() {
@@ -130,7 +136,16 @@ fn print_sums(output: Stdout, s: Sums) -> io::Result<()> {
 
 pub fn break_text(output: Stdout, lens: u64, text: &[u8]) -> io::Result<()> {
     print_sums(output, change_places(output, lens, text)?)?;
-    print_sums(output, break_places(output, lens, text, Way::Cut, Sums::none())?)?;
-    print_sums(output, break_places(output, lens, text, Way::LeftOut, Sums::none())?)?;
-    print_sums(output, break_places(output, lens, text, Way::Doubled, Sums::none())?)
+    print_sums(
+        output,
+        break_places(output, lens, text, Way::Cut, Sums::none())?,
+    )?;
+    print_sums(
+        output,
+        break_places(output, lens, text, Way::LeftOut, Sums::none())?,
+    )?;
+    print_sums(
+        output,
+        break_places(output, lens, text, Way::Doubled, Sums::none())?,
+    )
 }

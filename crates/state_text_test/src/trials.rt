@@ -109,14 +109,26 @@ fn say_accepted(
     print!(output; "0 {digest}")?;
     let n = text.len();
     let less = least(std::num::wrapping_sub_u64(n as u64, 1), n);
-    say(output, write_in(h, counters, norms, entries, counts, text, less))?;
-    say(output, write_in(h, counters, norms, entries, counts, text, n))?;
-    say(output, write_in(h, counters, norms, entries, counts, text, usize::MAX))?;
+    say(
+        output,
+        write_in(h, counters, norms, entries, counts, text, less),
+    )?;
+    say(
+        output,
+        write_in(h, counters, norms, entries, counts, text, n),
+    )?;
+    say(
+        output,
+        write_in(h, counters, norms, entries, counts, text, usize::MAX),
+    )?;
     let bad = h.with_totals(Totals {
         weight: u64::MAX,
         updates: 0,
     });
-    say(output, write_in(bad, counters, norms, entries, counts, text, less))?;
+    say(
+        output,
+        write_in(bad, counters, norms, entries, counts, text, less),
+    )?;
     output.write_all(b"\n")
 }
 
@@ -187,8 +199,7 @@ fn try_lent(
 ) -> io::Result<u64> {
     let r = read_state(text, counters, norms, entries, counts);
     judge(
-        output,
-        r, &*counters, &*norms, &*entries, &*counts, text, was, aloud,
+        output, r, &*counters, &*norms, &*entries, &*counts, text, was, aloud,
     )
 }
 
