@@ -17,7 +17,7 @@ WORD = 8
 OUTSIDE = ("memcpy", "memset")
 NUMBER = r"\$0x([0-9a-f]+)"
 # A frame above a page is touched page by page, from the stack pointer down to r11.
-TOUCHING = (r"mov +%rsp,%r11", rf"sub +{NUMBER},%r11", r"sub +\$0x1000,%rsp", r"movq +\$0x0,\(%rsp\)", r"cmp +%r11,%rsp", r"jne .*")
+TOUCHING = (r"mov +%rsp,%r11", rf"sub +{NUMBER},%r11", r"sub +\$0x(?:1000|c00),%rsp", r"movq +\$0x0,\(%rsp\)", r"cmp +%r11,%rsp", r"jne .*")
 
 
 def stop(what):
