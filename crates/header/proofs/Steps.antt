@@ -21,8 +21,8 @@ use Rattle.header.specs.Totals.{update_totals, totals_tests}
 use Rattle.header.specs.declared.Shape.{Shape}
 use Rattle.header.specs.declared.Header.{Header}
 use Rattle.header.specs.declared.Scalars.{Scalars}
-use Rattle.header.specs.declared.AnsweredLent.{AnsweredLent}
-use Rattle.header.specs.declared.Answered.{Answered}
+use Rattle.header.specs.Answers.{AnsweredLent}
+use Rattle.header.specs.Answers.{Answered}
 use Rattle.header.specs.declared.Mode.{Mode}
 
 -- ---- signs of a weight

@@ -8,12 +8,16 @@
 ghost use Rattle.std.specs.Prelude.{◌≡◌, Bool, true, false, ◌&&◌, ◌||◌, List, ℕ, ◌+◌, ◌-◌, ◌<◌, ◌≤◌, length, get_or, set, replicate, eqb, leb};
 ghost use Rattle.words.specs.Num.{top};
 ghost use Rattle.words.specs.Tests.{number};
+ghost use Rattle.refusal.specs.Refusals.{answer, refused};
+ghost use Rattle.header.specs.Answers.{answered_by, answered_lent_by};
 ghost use Rattle.matrix_storage.specs.inner.Shaped.{Shaped};
 ghost use Rattle.header.specs.declared.Mode.{Mode};
 ghost use Rattle.header.specs.Totals.{no_totals, update_totals, add_totals, set_weight, totals_ok, totals_tests};
 ghost use Rattle.header.specs.Shape.{max_layers, two_tier, empty_tier, bits_above, tier_above, same_tier, shape_refusal, checked_shape, same_shape, bottom_of, bottom_layer};
 ghost use Rattle.header.specs.OneTier.{one_tier, is_one_tier};
 ghost use Rattle.header.specs.Header.{zero_header, fresh_header, with_totals, with_mode, with_flags, with_lens, with_layer, with_layers, scalars_of, clash, joined, mode_number, mode_by, begun, begun_scalars, begin_tests, begin_of, begin_header, fresh_flags, lens_from, header_ok, head_of};
+
+use refusal::Refusal;
 
 // The dimensions of a state: heap size, layers, and rows and columns of two tiers. Layers below
 // `elephant_layers` are of the first, the others of the second. `UnivMon`'s four dimensions are a shape
@@ -27,20 +31,6 @@ pub struct Shape {
     pub elephant_cols: usize,
     pub mouse_rows: usize,
     pub mouse_cols: usize,
-}
-
-// A shape that was checked, or its refusal.
-#[derive(Clone, Copy)]
-pub enum CheckedShape {
-    Good(Shape),
-    Refused(u64),
-}
-
-// The last layer that a key reaches, or a refusal.
-#[derive(Clone, Copy)]
-pub enum BottomLayer {
-    At(usize),
-    Refused(u64),
 }
 
 // How keys were sent to layers; a fresh state has no mode yet.
@@ -78,20 +68,6 @@ pub struct Scalars {
     pub mode: Mode,
 }
 
-// What a call on a header answers: a refusal and the header as it was, or 0 and the new header.
-#[derive(Clone, Copy)]
-pub struct Answered {
-    pub refusal: u64,
-    pub header: Header,
-}
-
-// The same where lengths and flags are lent.
-#[derive(Clone, Copy)]
-pub struct AnsweredLent {
-    pub refusal: u64,
-    pub scalars: Scalars,
-}
-
 impl Shape {
     pub const MAX_LAYERS: usize = 19;
 
@@ -101,28 +77,28 @@ impl Shape {
 
     pub const MAX_HEAP_SIZE: usize = heap_moves::MAX_HEAP_SIZE;
 
-    // 0, or the refusal of the dimensions: 1, 2, 3, 4 in this order, each over both tiers. Tests that are
+    // Whether the dimensions are accepted: 1, 2, 3, 4 in this order, each over both tiers. Tests that are
     // joined by `|` have no jump.
-    pub fn refusal(self) -> u64
-        ensures { result ≡ shape_refusal self }
+    pub fn check(self) -> Result<(), Refusal>
+        ensures { refused result ≡ shape_refusal self }
     {
         let elephants = empty_tier(self.elephant_rows, self.elephant_cols);
         let mice = empty_tier(self.mouse_rows, self.mouse_cols);
         if (self.heap_size == 0) | ((self.layers == 0) | (elephants | mice)) {
-            return 1;
+            return Err(Refusal::ZeroDimension);
         }
         if (Self::MAX_LAYERS < self.layers) | (Self::MAX_LAYERS < self.elephant_layers) {
-            return 2;
+            return Err(Refusal::TooManyLayers);
         }
         if self.bits_above() {
-            return 3;
+            return Err(Refusal::TooManyHashBits);
         }
         let wide = tier_above(self.elephant_rows, self.elephant_cols);
         let narrow = tier_above(self.mouse_rows, self.mouse_cols);
         if wide | (narrow | (Self::MAX_HEAP_SIZE < self.heap_size)) {
-            return 4;
+            return Err(Refusal::AboveDomain);
         }
-        0
+        Ok(())
     }
 
     // Whether a tier takes more hash bits than there are. Tiers that are alike are asked once.
@@ -165,18 +141,15 @@ impl Shape {
         if self.usual() {
             return true;
         }
-        self.refusal() == 0
+        self.check().is_ok()
     }
 
-    // The shape itself, or its refusal.
-    fn checked(self) -> CheckedShape
-        ensures { result ≡ checked_shape self }
+    // The shape itself, if it is accepted.
+    fn checked(self) -> Result<Self, Refusal>
+        ensures { answer result ≡ checked_shape self }
     {
-        let n = self.refusal();
-        if n != 0 {
-            return CheckedShape::Refused(n);
-        }
-        CheckedShape::Good(self)
+        self.check()?;
+        Ok(self)
     }
 
     // The shape of these dimensions, if none is refused.
@@ -188,8 +161,8 @@ impl Shape {
         mouse_rows: usize,
         mouse_cols: usize,
         layers: usize,
-    ) -> CheckedShape
-        ensures { result ≡ checked_shape (two_tier heap_size elephant_layers elephant_rows elephant_cols mouse_rows mouse_cols layers) }
+    ) -> Result<Self, Refusal>
+        ensures { answer result ≡ checked_shape (two_tier heap_size elephant_layers elephant_rows elephant_cols mouse_rows mouse_cols layers) }
     {
         let shape = Shape {
             heap_size,
@@ -204,8 +177,13 @@ impl Shape {
     }
 
     // The same of the four dimensions of `UnivMon`.
-    pub fn new_one_tier(heap_size: usize, rows: usize, cols: usize, layers: usize) -> CheckedShape
-        ensures { result ≡ checked_shape (one_tier heap_size rows cols layers) }
+    pub fn new_one_tier(
+        heap_size: usize,
+        rows: usize,
+        cols: usize,
+        layers: usize,
+    ) -> Result<Self, Refusal>
+        ensures { answer result ≡ checked_shape (one_tier heap_size rows cols layers) }
     {
         Shape::one_tier(heap_size, rows, cols, layers).checked()
     }
@@ -289,11 +267,11 @@ fn same_tier(rows: usize, cols: usize, other_rows: usize, other_cols: usize) -> 
     (rows == other_rows) & (cols == other_cols)
 }
 
-// 0, or the refusal of the four dimensions of `UnivMon`.
-pub fn check_shape(heap_size: usize, rows: usize, cols: usize, layers: usize) -> u64
-    ensures { result ≡ shape_refusal (one_tier heap_size rows cols layers) }
+// Whether the four dimensions of `UnivMon` are accepted.
+pub fn check_shape(heap_size: usize, rows: usize, cols: usize, layers: usize) -> Result<(), Refusal>
+    ensures { refused result ≡ shape_refusal (one_tier heap_size rows cols layers) }
 {
-    Shape::one_tier(heap_size, rows, cols, layers).refusal()
+    Shape::one_tier(heap_size, rows, cols, layers).check()
 }
 
 // The last layer that a key with this bottom hash reaches: the number of ones in a row from bit 1 on, at
@@ -311,16 +289,16 @@ pub fn bottom_of(hash: u64, layers: usize) -> usize
 }
 
 // The same for any number of layers: 1 for none, 2 above the domain.
-pub fn bottom_layer_for_hash(hash: u64, layers: usize) -> BottomLayer
-    ensures { result ≡ bottom_layer hash layers }
+pub fn bottom_layer_for_hash(hash: u64, layers: usize) -> Result<usize, Refusal>
+    ensures { answer result ≡ bottom_layer hash layers }
 {
     if layers == 0 {
-        return BottomLayer::Refused(1);
+        return Err(Refusal::ZeroDimension);
     }
     if Shape::MAX_LAYERS < layers {
-        return BottomLayer::Refused(2);
+        return Err(Refusal::TooManyLayers);
     }
-    BottomLayer::At(bottom_of(hash, layers))
+    Ok(bottom_of(hash, layers))
 }
 
 // ---- modes
@@ -525,29 +503,24 @@ impl Header {
         self.with_totals(sum).with_mode(next)
     }
 
-    // Totals and mode of an update: 5, 6, 7 or 14 and the header as it was, or 0 and the header that the
-    // update begins with.
-    pub fn begin_update(self, weight: i64, mode: Mode) -> Answered
-        ensures { result ≡ begin_header self weight mode }
+    // Totals and mode of an update come in, 5, 6, 7 and 14: the header that the update begins with.
+    pub fn begin_update(self, weight: i64, mode: Mode) -> Result<Self, Refusal>
+        ensures { answered_by self result ≡ begin_header self weight mode }
     {
-        let begun = self.scalars().begin_update(weight, mode);
-        let scalars = begun.scalars;
+        let scalars = self.scalars().begin_update(weight, mode)?;
         let totals = scalars.totals;
         let next = scalars.mode;
-        Answered {
-            refusal: begun.refusal,
-            header: self.with_totals(totals).with_mode(next),
-        }
+        Ok(self.with_totals(totals).with_mode(next))
     }
 
     // Whether dimensions, totals, lengths and flags are in range.
     pub fn in_range(self) -> bool
         ensures { result ≡ header_ok self }
     {
-        if self.shape.refusal() != 0 {
+        let shape = self.shape;
+        if !shape.accepted() {
             return false;
         }
-        let shape = self.shape;
         let lens = self.lens;
         let flags = self.flags;
         rest_in_range(shape.layers, shape.heap_size, self.totals, &lens, &flags)
@@ -598,20 +571,20 @@ impl Totals {
         (self.weight <= words::MAX_WEIGHT) & (self.updates <= words::MAX_WEIGHT)
     }
 
-    // 7 where the weights of two totals would pass 2^52, else 14 where their updates would, else 0; for
-    // totals out of range too.
-    pub fn sum_refusal(self, more: Totals) -> u64
-        ensures { result ≡ number (totals_tests self more) }
+    // Whether two totals may be added: 7 where their weights would pass 2^52, else 14 where their updates
+    // would; for totals out of range too.
+    pub fn check_sum(self, more: Totals) -> Result<(), Refusal>
+        ensures { refused result ≡ number (totals_tests self more) }
     {
         let light = sum_within(self.weight, more.weight);
         let few = sum_within(self.updates, more.updates);
         if !light {
-            return 7;
+            return Err(Refusal::WeightAbove);
         }
         if !few {
-            return 14;
+            return Err(Refusal::UpdatesAbove);
         }
-        0
+        Ok(())
     }
 
     pub fn plus(self, more: Totals) -> Self
@@ -626,19 +599,19 @@ impl Totals {
 }
 
 impl Scalars {
-    // The number that an update's beginning is refused with, 0 for none: 5, 6, 7, 14.
-    pub fn begin_refusal(self, weight: i64, mode: Mode) -> u64
-        ensures { result ≡ number (begin_tests self weight mode) }
+    // Whether an update may begin: 5, 6, 7, 14.
+    pub fn check_begin(self, weight: i64, mode: Mode) -> Result<(), Refusal>
+        ensures { refused result ≡ number (begin_tests self weight mode) }
     {
         if weight < 0 {
-            return 5;
+            return Err(Refusal::NegativeWeight);
         }
         let before = self.mode;
         if clashes(before, mode) {
-            return 6;
+            return Err(Refusal::MixedModes);
         }
         self.totals
-            .sum_refusal(Totals::of_update(words::magnitude(weight)))
+            .check_sum(Totals::of_update(words::magnitude(weight)))
     }
 
     // The totals of an update or of a second state come in, once they are judged, and an unset mode
@@ -658,20 +631,11 @@ impl Scalars {
 
     // An update's beginning without lengths and flags, which it does not change; for any totals that
     // were there.
-    pub fn begin_update(self, weight: i64, mode: Mode) -> AnsweredLent
-        ensures { result ≡ begin_of self weight mode }
+    pub fn begin_update(self, weight: i64, mode: Mode) -> Result<Self, Refusal>
+        ensures { answered_lent_by self result ≡ begin_of self weight mode }
     {
-        let refusal = self.begin_refusal(weight, mode);
-        if refusal != 0 {
-            return AnsweredLent {
-                refusal,
-                scalars: self,
-            };
-        }
-        AnsweredLent {
-            refusal: 0,
-            scalars: self.begin(Totals::of_update(words::magnitude(weight)), mode),
-        }
+        self.check_begin(weight, mode)?;
+        Ok(self.begin(Totals::of_update(words::magnitude(weight)), mode))
     }
 }
 

@@ -4,4 +4,4 @@ use Rattle.header.specs.Shape.{shape_refusal}
 use Rattle.header.proofs.check_shape.Goals as goal
 
 pub returns : goal.returns
-returns c = c.refusal.ensures ∙ ap shape_refusal c.one_tier.ensures
+returns c = c.check.ensures ∙ ap shape_refusal c.one_tier.ensures

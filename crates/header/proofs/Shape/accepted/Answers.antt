@@ -1,6 +1,7 @@
 -- `header::Shape::accepted` meets its contract.
-use mathlib.Core.Path.{refl, sym}
+use Rattle.std.proofs.Common.{sym, ◌∙◌}
 use borrow.Author.Tests.{eq-eqb}
+use Rattle.refusal.proofs.Numbers.{ok_is}
 use Rattle.header.specs.Shape.{shape_refusal}
 use Rattle.header.proofs.Shape.accepted.Goals as goal
 
@@ -8,4 +9,4 @@ pub returns-then-usual : goal.returns-then-usual
 returns-then-usual c = sym (eq-eqb (shape_refusal c.args.self) 0 (c.usual.ensures c.if-usual.true))
 
 pub returns : goal.returns
-returns c = rw c.refusal.ensures refl
+returns c = rw (← c.check.ensures) (c.is_ok.ensures.value ∙ ok_is c.check.result)

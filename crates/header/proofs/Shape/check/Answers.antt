@@ -1,12 +1,12 @@
--- `header::Shape::refusal` meets its contract.
+-- `header::Shape::check` meets its contract.
 use mathlib.Core.Path.{◌≡◌, sym, ◌∙◌}
 use mathlib.Core.Bool.{true, false, ◌||◌}
 use lib.Dec.{eqb, ltb}
 use Rattle.header.proofs.Refusals.{zero_test, domain_test, refusal_is, some-cols}
 use Rattle.header.specs.Shape.{max_heap}
 use Rattle.words.proofs.Bools.{never}
-use Rattle.header.proofs.Shape.refusal.Goals as goal
-use Rattle.header.proofs.Shape.refusal.Goals.{After-empty_tier-mice, After-tier_above-narrow, Else-self-elephants}
+use Rattle.header.proofs.Shape.check.Goals as goal
+use Rattle.header.proofs.Shape.check.Goals.{After-empty_tier-mice, After-tier_above-narrow, Else-self-elephants}
 
 -- what each test of the code says of the shape
 zero_is : (c : After-empty_tier-mice) → let s = c.args.self in
