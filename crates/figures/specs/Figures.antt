@@ -11,8 +11,7 @@ use Rattle.countsketch_l2_norm.specs.Estimate.{estimate_f}
 use Rattle.countsketch_l2_norm.specs.Merge.{row_norm}
 use Rattle.header.specs.declared.Shape.{Shape}
 use Rattle.header.specs.OneTier.{one_tier}
-use Rattle.header.specs.declared.BottomLayer.{BottomLayer}
-use Rattle.header.specs.declared.BottomLayer.TheVariants as bottom
+use Rattle.refusal.specs.Refusals.{Answer as Answered}
 use Rattle.header.specs.Shape.{bottom_layer}
 use Rattle.layout.specs.Slices.{Lent}
 use Rattle.layout.specs.Outcomes.{left_by}

@@ -8,6 +8,7 @@ mod parts;
 
 ghost use Rattle.std.specs.Prelude.{◌≡◌, ℕ, ◌+◌, ◌*◌, ◌≤◌, ◌<◌, length};
 ghost use Rattle.words.specs.Tests.{number};
+ghost use Rattle.refusal.specs.Refusals.{refused};
 ghost use Rattle.header.specs.Shape.{max_layers};
 ghost use Rattle.header.specs.inner.Accepted.{Accepted};
 ghost use Rattle.layout.specs.State.{dims_at, cell_off, norm_off};
@@ -21,6 +22,7 @@ use heap_moves::Item;
 use layer::Dims;
 pub use lists::zero_places;
 pub use parts::{cells_at, norms_at, seats_at, words_at};
+use refusal::Refusal;
 
 // Counters, norm words, entry words and counts of a shape.
 #[derive(Clone, Copy)]
@@ -101,18 +103,18 @@ pub fn lengths_match(
     counts == e.seats
 }
 
-// 9 for a header out of range or slices that are not its shape's, 0 for none.
-pub fn lent_refusal(
+// Whether a header is in range and four slices are its shape's: 9.
+pub fn check_lent(
     h: Header,
     counters: &[i64],
     norms: &[u64],
     entries: &[u64],
     counts: &[i64],
-) -> u64
-    ensures { result ≡ number (lent_tests (lent h counters.now norms.now entries.now counts.now)) }
+) -> Result<(), Refusal>
+    ensures { refused result ≡ number (lent_tests (lent h counters.now norms.now entries.now counts.now)) }
 {
     if !h.in_range() {
-        return 9;
+        return Err(Refusal::OutOfRange);
     }
     if !lengths_match(
         h.shape,
@@ -121,9 +123,9 @@ pub fn lent_refusal(
         entries.len(),
         counts.len(),
     ) {
-        return 9;
+        return Err(Refusal::OutOfRange);
     }
-    0
+    Ok(())
 }
 
 // Where a layer's counters, norm words, entry words and counts begin and end.

@@ -3,6 +3,7 @@
 
 #![tactic(auto)]
 
+ghost use Rattle.refusal.specs.Refusals.{refused};
 ghost use Rattle.std.specs.Prelude.{◌≡◌, ℕ, ◌+◌, ◌*◌, ◌<◌, length};
 ghost use Rattle.words.specs.Tests.{number};
 ghost use Rattle.header.specs.inner.Accepted.{Accepted};
@@ -10,6 +11,7 @@ ghost use Rattle.layout_index.specs.Tables.{table_length, tables_in, table_at, i
 ghost use Rattle.layout.specs.Slices.{lent};
 
 use header::{Header, Shape};
+use refusal::Refusal;
 
 // Where a layer's table begins and ends.
 #[derive(Clone, Copy)]
@@ -52,23 +54,20 @@ pub fn table_at(shape: Shape, l: usize, index: &[u64]) -> &[u64]
     &index[a..e]
 }
 
-// 9 for a header out of range, or slices or an index that are not its shape's; 0 for none.
-pub fn indexed_refusal(
+// Whether a header is in range, and slices and index are its shape's: 9.
+pub fn check_indexed(
     h: Header,
     counters: &[i64],
     norms: &[u64],
     entries: &[u64],
     counts: &[i64],
     index: &[u64],
-) -> u64
-    ensures { result ≡ number (indexed_tests (lent h counters.now norms.now entries.now counts.now) index.now) }
+) -> Result<(), Refusal>
+    ensures { refused result ≡ number (indexed_tests (lent h counters.now norms.now entries.now counts.now) index.now) }
 {
-    let unfit = layout::lent_refusal(h, counters, norms, entries, counts);
-    if unfit != 0 {
-        return unfit;
-    }
+    layout::check_lent(h, counters, norms, entries, counts)?;
     if index.len() != tables_in(h.shape) {
-        return 9;
+        return Err(Refusal::OutOfRange);
     }
-    0
+    Ok(())
 }

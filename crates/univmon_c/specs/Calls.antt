@@ -2,7 +2,7 @@
 -- then "Header and slices remain unchanged".
 use Rattle.std.specs.Prelude.{ℕ, Bool, cond, ◌&&◌, List, ℤ}
 use Rattle.header.specs.declared.Header.{Header}
-use Rattle.header.specs.declared.Answered.{Answered}
+use Rattle.header.specs.Answers.{Answered}
 use Rattle.layout.specs.Slices.{Lent, lent}
 use Rattle.layout.specs.Outcomes.{Outcome, Left, left_by}
 use Rattle.estimates.specs.declared.Answer.{Answer}

@@ -1,9 +1,9 @@
 -- Between C's shapes and the library's: "When an answer is an enum, a definition specifies this paper's number and values for each of its cases."
 use Rattle.std.specs.Prelude.{ℕ, Bool, cond, List, eqb, leb}
 use Rattle.header.specs.declared.Header.{Header}
-use Rattle.header.specs.declared.Answered.{Answered}
+use Rattle.header.specs.Answers.{Answered}
 use Rattle.header.specs.declared.Scalars.{Scalars}
-use Rattle.header.specs.declared.AnsweredLent.{AnsweredLent}
+use Rattle.header.specs.Answers.{AnsweredLent}
 use Rattle.header.specs.OneTier.{one_tier}
 use Rattle.header.specs.Header.{mode_number, mode_by}
 use Rattle.header.specs.declared.BottomLayer.{BottomLayer}

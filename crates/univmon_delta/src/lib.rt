@@ -3,6 +3,7 @@
 
 #![tactic(auto)]
 
+ghost use Rattle.refusal.specs.Refusals.{kept, refused};
 ghost use Rattle.std.specs.Prelude.{◌≡◌, Bool, true, ◌&&◌, ◌++◌, ℕ, ◌+◌, ◌*◌, ◌≤◌, ◌<◌, length};
 ghost use Rattle.words.specs.Tests.{number};
 ghost use Rattle.heap.specs.Offer.{kept_by};
@@ -22,9 +23,10 @@ ghost use Rattle.univmon_delta.specs.declared.Fidelity.{Fidelity};
 ghost use Rattle.univmon_delta.specs.Deltas.{every_insert, delta_tests_at, delta_tests, delta_answers, delta_list_call, arrival};
 ghost use Rattle.univmon_delta.specs.inner.Needs.{Placed, Arrives};
 
-use header::{Answered, Header, Mode};
+use header::{Header, Mode};
 use heap::Answer;
-use layout::{cells_at, dims, item_in, lent_refusal, norms_at, seats_at, span_of, zero_places};
+use layout::{cells_at, dims, item_in, check_lent, norms_at, seats_at, span_of, zero_places};
+use refusal::Refusal;
 
 // How much of the stream reached a relay that is fed by deltas.
 #[derive(Clone, Copy)]
@@ -53,9 +55,9 @@ pub fn kept_all(a: Answer, every: bool) -> bool
     false
 }
 
-// 0 if the delta may be made, 9 if something that it reads is out of range, 11 if its counter would
+// Whether the delta may be made: 9 if something that it reads is out of range, 11 if its counter would
 // leave the range. The state is lent whole, so that the contract can name it; no entry is read.
-fn judge_delta(
+fn check_layer(
     h: Header,
     counters: &[i64],
     norms: &[u64],
@@ -66,9 +68,9 @@ fn judge_delta(
     row: usize,
     col: usize,
     count: i64,
-) -> u64
+) -> Result<(), Refusal>
     requires { Placed (lent_now h counters norms entries counts) «record».now l row col }
-    ensures { (every : Bool) → result ≡ number (delta_tests_at (dims_at h.shape l) (delta row col count (item_at «record».now l) every)
+    ensures { (every : Bool) → refused result ≡ number (delta_tests_at (dims_at h.shape l) (delta row col count (item_at «record».now l) every)
         (layer_at (view (lent h counters.now norms.now entries.now counts.now)) l)) }
 {
     let shape = h.shape;
@@ -87,12 +89,12 @@ fn judge_delta(
         col,
         item,
     ) {
-        return 9;
+        return Err(Refusal::OutOfRange);
     }
     if layer::delta_fits(cells, d, row, col, count) {
-        return 0;
+        return Ok(());
     }
-    11
+    Err(Refusal::CounterAbove)
 }
 
 // Makes the delta on its layer, once it is judged; the layer's place in the list tells what the offer of
@@ -152,9 +154,8 @@ fn deliver(
     h.touched(l, heap::len_after(len, answer), kept_all(answer, every))
 }
 
-// The number that a delta with a list of so many words is refused with, 0 for none: 9, 12, 8, then 9 and
-// 11 for its layer, then 16.
-fn delta_refusal(
+// Whether a delta with a list of so many words may be made: 9, 12, 8, then 9 and 11 for its layer, then 16.
+fn check_delta(
     h: Header,
     counters: &[i64],
     norms: &[u64],
@@ -166,38 +167,31 @@ fn delta_refusal(
     col: usize,
     count: i64,
     list: usize,
-) -> u64
-    ensures { (f : Fidelity) → result ≡ number (delta_tests (lent h counters.now norms.now entries.now counts.now) «record».now (arrival l row col count f) ++ list_tests (2 * h.shape.layers) list) }
+) -> Result<(), Refusal>
+    ensures { (f : Fidelity) → refused result ≡ number (delta_tests (lent h counters.now norms.now entries.now counts.now) «record».now (arrival l row col count f) ++ list_tests (2 * h.shape.layers) list) }
 {
-    let unfit = lent_refusal(h, counters, norms, entries, counts);
-    if unfit != 0 {
-        return unfit;
-    }
+    check_lent(h, counters, norms, entries, counts)?;
     let shape = h.shape;
     if record.len() != 2 + 2 * shape.layers {
-        return 12;
+        return Err(Refusal::RecordLength);
     }
     if shape.layers <= l {
-        return 8;
+        return Err(Refusal::OutsideShape);
     }
     let d = dims(shape, l);
     if d.rows <= row {
-        return 8;
+        return Err(Refusal::OutsideShape);
     }
     if d.cols <= col {
-        return 8;
+        return Err(Refusal::OutsideShape);
     }
-    let unready = judge_delta(
+    check_layer(
         h, counters, norms, entries, counts, record, l, row, col, count,
-    );
-    let refused = unready != 0;
-    if refused {
-        return unready;
-    }
+    )?;
     if list < 2 * shape.layers {
-        return 16;
+        return Err(Refusal::TooShort);
     }
-    unready
+    Ok(())
 }
 
 // The header that a delta begins with: an unset mode becomes standard, and nothing is added up.
@@ -222,14 +216,14 @@ pub fn apply_delta(
     count: i32,
     fidelity: Fidelity,
     list: &mut [u64],
-) -> Answered
-    ensures counts_value { left result.refusal (lent_out result.header counters norms entries counts)
+) -> Result<Header, Refusal>
+    ensures counts_value { left (refused result) (lent_out (kept header result) counters norms entries counts)
         ≡ left_after (λ s. delta_list_call s «record».now (arrival layer row col count fidelity) (length list.old)) (lent_in header counters norms entries counts) }
     ensures list_after { list.new
-        ≡ list_left result.refusal (delta_answers (view (lent_in header counters norms entries counts)) «record».now (arrival layer row col count fidelity)) list.old }
+        ≡ list_left (refused result) (delta_answers (view (lent_in header counters norms entries counts)) «record».now (arrival layer row col count fidelity)) list.old }
 {
     let n = count as i64;
-    let refusal = delta_refusal(
+    check_delta(
         header,
         &*counters,
         &*norms,
@@ -241,17 +235,11 @@ pub fn apply_delta(
         col,
         n,
         list.len(),
-    );
-    if refusal != 0 {
-        return Answered { refusal, header };
-    }
+    )?;
     let begun = begin_delta(header);
     let every = every_insert(fidelity);
     zero_places(list, header.shape.layers);
-    Answered {
-        refusal: 0,
-        header: deliver(
-            begun, counters, norms, entries, counts, record, layer, row, col, n, every, list,
-        ),
-    }
+    Ok(deliver(
+        begun, counters, norms, entries, counts, record, layer, row, col, n, every, list,
+    ))
 }

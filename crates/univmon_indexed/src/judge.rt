@@ -1,5 +1,6 @@
 // How far an update may come at the layers that it touches. The offer is tried on the slices and taken back,
 // so that everything is left as it was lent.
+ghost use Rattle.refusal.specs.Refusals.{refused};
 ghost use Rattle.std.specs.Prelude.{◌≡◌, ℕ};
 ghost use Rattle.words.specs.Tests.{number};
 ghost use Rattle.header.specs.Lending.{head_now};
@@ -12,6 +13,7 @@ ghost use Rattle.header.specs.Header.{head_of};
 use header::Scalars;
 use layout::{cells_at, dims, item_in, norms_at, span_of};
 use layout_index::table_span;
+use refusal::Refusal;
 
 // The grade of one layer.
 fn grade_at(
@@ -93,7 +95,7 @@ pub fn all_reach(
 // 0 if the update may be made, 9 if something that it reads first is out of range, 11 if a counter would leave
 // the range, 9 if a visit of its moves is refused. For a call that is refused: what is read first anywhere comes
 // before a counter anywhere, and that before the moves.
-pub fn judge_layers(
+pub fn check_layers(
     h: Scalars,
     lens: &[usize],
     flags: &[bool],
@@ -106,25 +108,25 @@ pub fn judge_layers(
     weight: u64,
     first: usize,
     many: usize,
-) -> u64
+) -> Result<(), Refusal>
     requires { JudgeReadyIn (lent (head_now h lens flags) counters.now norms.now entries.old counts.old) index.old «record».now weight many first }
-    ensures value { result ≡ number (layers_tests_in h.shape «record».now weight index.old many first (view (lent (head_of h lens.now flags.now) counters.now norms.now entries.old counts.old))) }
+    ensures value { refused result ≡ number (layers_tests_in h.shape «record».now weight index.old many first (view (lent (head_of h lens.now flags.now) counters.now norms.now entries.old counts.old))) }
     ensures entries_unchanged { (entries.new ≡ entries.old) × ((counts.new ≡ counts.old) × (index.new ≡ index.old)) }
 {
     if !all_reach(
         h, lens, flags, counters, norms, entries, counts, index, record, weight, first, many, 2,
     ) {
-        return 9;
+        return Err(Refusal::OutOfRange);
     }
     if !all_reach(
         h, lens, flags, counters, norms, entries, counts, index, record, weight, first, many, 3,
     ) {
-        return 11;
+        return Err(Refusal::CounterAbove);
     }
     if !all_reach(
         h, lens, flags, counters, norms, entries, counts, index, record, weight, first, many, 4,
     ) {
-        return 9;
+        return Err(Refusal::OutOfRange);
     }
-    0
+    Ok(())
 }

@@ -1,5 +1,6 @@
 // What a merge reads of two states, whether the sums fit, and the number that it is refused with: nothing
 // is written here. Both states are lent whole, so that a contract can name them.
+ghost use Rattle.refusal.specs.Refusals.{refused};
 ghost use Rattle.std.specs.Prelude.{◌≡◌, ◌++◌, ◌*◌};
 ghost use Rattle.words.specs.Tests.{number};
 ghost use Rattle.layout.specs.State.{layer_at, all_layers};
@@ -10,7 +11,8 @@ ghost use Rattle.univmon_merge.specs.Merges.{heads_tests, pair_tests, merge_test
 ghost use Rattle.univmon_merge.specs.inner.Pairs.{Paired, PairRead, PairsRead, reads_with, fits_with};
 
 use header::Header;
-use layout::{cells_at, lent_refusal, seats_at};
+use layout::{cells_at, check_lent, seats_at};
+use refusal::Refusal;
 
 // Whether what a merge reads of one layer of both states is in range.
 fn reads_at(
@@ -150,26 +152,26 @@ fn all_fit(
     true
 }
 
-// ---- the number that a merge is refused with
+// ---- whether a merge is refused
 
-// 10, 6, 7 or 14 by the two headers, 0 for none.
-fn heads_refusal(h: Header, other: Header) -> u64
-    ensures { result ≡ number (heads_tests h other) }
+// 10, 6, 7 or 14 by the two headers.
+fn check_heads(h: Header, other: Header) -> Result<(), Refusal>
+    ensures { refused result ≡ number (heads_tests h other) }
 {
     let shape = h.shape;
     if !shape.same(other.shape) {
-        return 10;
+        return Err(Refusal::ShapesDiffer);
     }
     let mode = h.mode;
     let other_mode = other.mode;
     if header::clashes(mode, other_mode) {
-        return 6;
+        return Err(Refusal::MixedModes);
     }
-    h.totals.sum_refusal(other.totals)
+    h.totals.check_sum(other.totals)
 }
 
-// 9 for what is read of the layers or 11 for their sums, 0 for none: 9 anywhere comes first.
-fn layers_refusal(
+// 9 for what is read of the layers or 11 for their sums: 9 anywhere comes first.
+fn check_layers(
     h: Header,
     counters: &[i64],
     norms: &[u64],
@@ -181,9 +183,9 @@ fn layers_refusal(
     other_entries: &[u64],
     other_counts: &[i64],
     layers: usize,
-) -> u64
+) -> Result<(), Refusal>
     requires { Paired (lent_now h counters norms entries counts) (lent_now other other_counters other_norms other_entries other_counts) layers 0 }
-    ensures { result ≡ number (pair_tests layers (view (lent h counters.now norms.now entries.now counts.now)) (view (lent other other_counters.now other_norms.now other_entries.now other_counts.now))) }
+    ensures { refused result ≡ number (pair_tests layers (view (lent h counters.now norms.now entries.now counts.now)) (view (lent other other_counters.now other_norms.now other_entries.now other_counts.now))) }
 {
     if !all_read(
         h,
@@ -198,7 +200,7 @@ fn layers_refusal(
         other_counts,
         layers,
     ) {
-        return 9;
+        return Err(Refusal::OutOfRange);
     }
     if !all_fit(
         h,
@@ -213,13 +215,13 @@ fn layers_refusal(
         other_counts,
         layers,
     ) {
-        return 11;
+        return Err(Refusal::CounterAbove);
     }
-    0
+    Ok(())
 }
 
-// The number that a merge with a list of so many words is refused with, 0 for none.
-pub fn merge_refusal(
+// Whether a merge with a list of so many words may be made.
+pub fn check_merge(
     h: Header,
     counters: &[i64],
     norms: &[u64],
@@ -231,30 +233,21 @@ pub fn merge_refusal(
     other_entries: &[u64],
     other_counts: &[i64],
     list: usize,
-) -> u64
-    ensures { result ≡ number (merge_tests (lent h counters.now norms.now entries.now counts.now) (lent other other_counters.now other_norms.now other_entries.now other_counts.now)
+) -> Result<(), Refusal>
+    ensures { refused result ≡ number (merge_tests (lent h counters.now norms.now entries.now counts.now) (lent other other_counters.now other_norms.now other_entries.now other_counts.now)
         ++ list_tests (4 * h.shape.heap_size * h.shape.layers) list) }
 {
-    let own = lent_refusal(h, counters, norms, entries, counts);
-    if own != 0 {
-        return own;
-    }
-    let others = lent_refusal(
+    check_lent(h, counters, norms, entries, counts)?;
+    check_lent(
         other,
         other_counters,
         other_norms,
         other_entries,
         other_counts,
-    );
-    if others != 0 {
-        return others;
-    }
-    let heads = heads_refusal(h, other);
-    if heads != 0 {
-        return heads;
-    }
+    )?;
+    check_heads(h, other)?;
     let layers = h.shape.layers;
-    let unready = layers_refusal(
+    check_layers(
         h,
         counters,
         norms,
@@ -266,12 +259,9 @@ pub fn merge_refusal(
         other_entries,
         other_counts,
         layers,
-    );
-    if unready != 0 {
-        return unready;
-    }
+    )?;
     if list < 4 * h.shape.heap_size * layers {
-        return 16;
+        return Err(Refusal::TooShort);
     }
-    0
+    Ok(())
 }

@@ -1,6 +1,6 @@
 -- `marking::mark_refusal` meets its contract.
 use mathlib.Core.Path.{ap}
-use Rattle.header.specs.declared.Answered.{Answered}
+use Rattle.header.specs.Answers.{Answered}
 use Rattle.marking.proofs.mark_refusal.Goals as goal
 
 pub returns : goal.returns

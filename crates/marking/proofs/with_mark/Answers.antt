@@ -1,6 +1,6 @@
 -- `marking::with_mark` meets its contract.
 use mathlib.Core.Path.{ap}
-use Rattle.header.specs.declared.Answered.{Answered}
+use Rattle.header.specs.Answers.{Answered}
 use Rattle.marking.proofs.with_mark.Goals as goal
 
 pub returns : goal.returns

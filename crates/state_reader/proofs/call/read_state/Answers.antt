@@ -17,7 +17,7 @@ use Rattle.state_lines.specs.inner.Places.{spot, forget, first_spot, head_spot}
 use Rattle.state_text.specs.Pages.{frame_of, shape_from, dims_of}
 use Rattle.layout.specs.Outcomes.{left}
 use Rattle.state_text.specs.Calls.{unread}
-use Rattle.header.specs.declared.Answered.{Answered}
+use Rattle.header.specs.Answers.{Answered}
 use Rattle.state_lines.proofs.Known.{known}
 use Rattle.state_reader.proofs.Callings.{rest-head, rest_bad, rest_more, rest_got, some_left, call_first, call_shape, call_lengths, call_rest, call_done, head-by, begins, lends_are}
 use Rattle.state_text.proofs.Built.{each}

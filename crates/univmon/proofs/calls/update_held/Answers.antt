@@ -9,7 +9,7 @@ use Rattle.layout.specs.Slices.{lent, view, Lent}
 use Rattle.layout.specs.Outcomes.{left, left_by}
 use Rattle.univmon.specs.Calls.{update_list_call, lent_update_list_call}
 use Rattle.univmon.specs.inner.Needs.{sent_after}
-use Rattle.header.specs.declared.Answered.{Answered}
+use Rattle.header.specs.Answers.{Answered}
 use Rattle.words.specs.Tests.{number}
 use Rattle.header.proofs.Steps.{header_begun, header_number, begin-light}
 use Rattle.univmon.specs.Updates.{mode_of, update_answers}

@@ -6,7 +6,7 @@ use Rattle.header.specs.Header.{head_of, begin_of, begin_tests}
 use Rattle.layout.specs.Slices.{lent, view, Lent}
 use Rattle.layout.specs.Outcomes.{left}
 use Rattle.univmon.specs.inner.Needs.{sent_after}
-use Rattle.header.specs.declared.AnsweredLent.{AnsweredLent}
+use Rattle.header.specs.Answers.{AnsweredLent}
 use Rattle.words.specs.Tests.{number}
 use Rattle.header.proofs.Steps.{begun_is, begin-number, begin-light}
 use Rattle.univmon.specs.Updates.{mode_of, update_answers}

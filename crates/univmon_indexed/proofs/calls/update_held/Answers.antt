@@ -11,7 +11,7 @@ use Rattle.header.specs.Shape.{max_layers}
 use Rattle.header.specs.Header.{head_of, begin_header, begin_tests, scalars_of}
 use Rattle.layout.specs.Slices.{Lent, lent}
 use Rattle.layout.specs.Outcomes.{left, left_by}
-use Rattle.header.specs.declared.Answered.{Answered}
+use Rattle.header.specs.Answers.{Answered}
 use Rattle.header.proofs.Steps.{header_begun, header_number, begin-light}
 use Rattle.univmon.specs.Updates.{mode_of}
 use Rattle.univmon_indexed.specs.Calls.{indexed_update_call, lent_indexed_update_call}

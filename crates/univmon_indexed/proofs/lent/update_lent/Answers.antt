@@ -9,7 +9,7 @@ use Rattle.words.specs.Tests.{number}
 use Rattle.header.specs.Header.{head_of, begin_of, begin_tests}
 use Rattle.layout.specs.Slices.{Lent, lent}
 use Rattle.layout.specs.Outcomes.{left}
-use Rattle.header.specs.declared.AnsweredLent.{AnsweredLent}
+use Rattle.header.specs.Answers.{AnsweredLent}
 use Rattle.header.proofs.Steps.{begun_is, begin-number, begin-light}
 use Rattle.univmon.specs.Updates.{mode_of}
 use Rattle.univmon_indexed.specs.inner.Needs.{KeySentOrKept, staged_tests}

@@ -1,4 +1,4 @@
--- `univmon::stages::sized_refusal` meets its contract.
+-- `univmon::stages::check_sizes` meets its contract.
 use mathlib.Core.Path.{◌≡◌, sym, ◌∙◌}
 use mathlib.Core.Bool.{true}
 use borrow.Author.Tests.{eq-eqb, ne_eqb}
@@ -7,8 +7,8 @@ use Rattle.header.specs.Header.{header_ok, head_of}
 use Rattle.header.proofs.Ranges.{ranged_of}
 use Rattle.layout.specs.Slices.{lengths_ok}
 use Rattle.header.specs.declared.Header.{Header}
-use Rattle.univmon.proofs.stages.sized_refusal.Goals as goal
-use Rattle.univmon.proofs.stages.sized_refusal.Goals.{Else-not-fields_in_range, Else-not-lengths_match, Start}
+use Rattle.univmon.proofs.stages.check_sizes.Goals as goal
+use Rattle.univmon.proofs.stages.check_sizes.Goals.{Else-not-fields_in_range, Else-not-lengths_match, Start}
 
 -- the header of what is lent
 abbrev head-of : Start → Header

@@ -1,7 +1,7 @@
--- `layout::lent_refusal` meets its contract.
+-- `layout::check_lent` meets its contract.
 use mathlib.Core.Path.{sym, ◌∙◌}
 use Rattle.header.proofs.Ranges.{ranged_of}
-use Rattle.layout.proofs.lent_refusal.Goals as goal
+use Rattle.layout.proofs.check_lent.Goals as goal
 
 pub returns-then-not-in_range : goal.returns-then-not-in_range
 returns-then-not-in_range c = simp (sym c.in_range.ensures ∙ c.if-not-in_range.true)

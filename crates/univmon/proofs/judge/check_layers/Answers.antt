@@ -1,10 +1,10 @@
--- `univmon::judge::judge_layers` meets its contract.
+-- `univmon::judge::check_layers` meets its contract.
 use mathlib.Core.Path.{sym, ◌∙◌}
 use Rattle.header.specs.Header.{head_of}
 use Rattle.layout.specs.Slices.{lent, view, Lent}
 use Rattle.univmon.proofs.Judging.{judge-light, judged_ready, judged_unfit, judged_unread}
-use Rattle.univmon.proofs.judge.judge_layers.Goals as goal
-use Rattle.univmon.proofs.judge.judge_layers.Goals.{Start}
+use Rattle.univmon.proofs.judge.check_layers.Goals as goal
+use Rattle.univmon.proofs.judge.check_layers.Goals.{Start}
 
 -- the state that is lent
 abbrev lent_of : Start → Lent
