@@ -1,4 +1,6 @@
 // The public calls. Each judges lengths and header, then what it reads, before it answers.
+ghost use Rattle.refusal.specs.Refusals.{kept, refused};
+ghost use Rattle.estimates.specs.Answers.{float_answer};
 ghost use Rattle.std.specs.Prelude.{◌≡◌, Bool, true, not, ◌&&◌, ℕ, ◌*◌, eqb};
 ghost use Rattle.header.specs.inner.Accepted.{Accepted};
 ghost use Rattle.layout.specs.Slices.{norms_in, view, lent};
@@ -12,28 +14,21 @@ use crate::norms::{l2_of, l2_reads};
 use crate::reads::sum_reads;
 use crate::standard::standard_sum;
 use crate::terminal::terminal_sum;
-use crate::{Answer, PanelAnswer};
+use crate::PanelAnswer;
 use header::{Header, Mode, Shape};
 use sums::G;
-
-const REFUSED: u64 = 9;
+use refusal::Refusal;
 
 // ---- L1 and L2
 
 // L1: the exact weight.
-pub fn estimate_l1(header: Header) -> Answer
-    ensures { result ≡ l1_call header }
+pub fn estimate_l1(header: Header) -> Result<f64, Refusal>
+    ensures { float_answer result ≡ l1_call header }
 {
     if !header.in_range() {
-        return Answer {
-            refusal: REFUSED,
-            value: 0.0,
-        };
+        return Err(Refusal::OutOfRange);
     }
-    Answer {
-        refusal: 0,
-        value: header.totals.weight as f64,
-    }
+    Ok(header.totals.weight as f64)
 }
 
 // Whether a shape has this number of norm words.
@@ -56,23 +51,16 @@ fn norms_lent(header: Header, norms: &[u64]) -> bool
 }
 
 // L2: of layer 0, or in terminal mode of all layers.
-pub fn estimate_l2(header: Header, norms: &[u64]) -> Answer
-    ensures { result ≡ l2_call header norms.now }
+pub fn estimate_l2(header: Header, norms: &[u64]) -> Result<f64, Refusal>
+    ensures { float_answer result ≡ l2_call header norms.now }
 {
     if !norms_lent(header, norms) {
-        return Answer {
-            refusal: REFUSED,
-            value: 0.0,
-        };
+        return Err(Refusal::OutOfRange);
     }
     if !l2_reads(header, norms) {
-        return Answer {
-            refusal: REFUSED,
-            value: 0.0,
-        };
+        return Err(Refusal::OutOfRange);
     }
-    let value = l2_of(header, norms);
-    Answer { refusal: 0, value }
+    Ok(l2_of(header, norms))
 }
 
 // ---- sums
@@ -106,24 +94,19 @@ fn sum_by_mode(
     counts: &[i64],
     g: G,
     every: bool,
-) -> Answer
+) -> Result<f64, Refusal>
     requires { Standing (lent_now header counters norms entries counts) }
-    ensures { result ≡ sum_answer g every (view (lent header counters.now norms.now entries.now counts.now)) }
+    ensures { float_answer result ≡ sum_answer g every (view (lent header counters.now norms.now entries.now counts.now)) }
 {
     let mode = header.mode;
     let terminal = is_terminal(mode);
     if !sum_reads(header, counters, norms, entries, counts, terminal) {
-        return Answer {
-            refusal: REFUSED,
-            value: 0.0,
-        };
+        return Err(Refusal::OutOfRange);
     }
     if terminal {
-        let value = terminal_sum(header, counters, norms, entries, g, every);
-        return Answer { refusal: 0, value };
+        return Ok(terminal_sum(header, counters, norms, entries, g, every));
     }
-    let value = standard_sum(header, counters, entries, g, every);
-    Answer { refusal: 0, value }
+    Ok(standard_sum(header, counters, entries, g, every))
 }
 
 // The sum of g over the candidates.
@@ -135,21 +118,12 @@ pub fn estimate_g_sum(
     counts: &[i64],
     g: G,
     count_every_key: bool,
-) -> Answer
-    ensures { result ≡ sum_call g count_every_key (lent header counters.now norms.now entries.now counts.now) }
+) -> Result<f64, Refusal>
+    ensures { float_answer result ≡ sum_call g count_every_key (lent header counters.now norms.now entries.now counts.now) }
 {
-    let refusal = layout::lent_refusal(header, counters, norms, entries, counts);
-    if refusal != 0 {
-        return Answer {
-            refusal,
-            value: 0.0,
-        };
-    }
+    layout::check_lent(header, counters, norms, entries, counts)?;
     if header_alone(header.totals.weight, count_every_key) {
-        return Answer {
-            refusal: 0,
-            value: 0.0,
-        };
+        return Ok(0.0);
     }
     sum_by_mode(header, counters, norms, entries, counts, g, count_every_key)
 }
@@ -161,26 +135,34 @@ pub fn estimate_cardinality(
     norms: &[u64],
     entries: &[u64],
     counts: &[i64],
-) -> Answer
-    ensures { result ≡ cardinality_call (lent header counters.now norms.now entries.now counts.now) }
+) -> Result<f64, Refusal>
+    ensures { float_answer result ≡ cardinality_call (lent header counters.now norms.now entries.now counts.now) }
 {
     estimate_g_sum(header, counters, norms, entries, counts, G::One, true)
 }
 
 // ---- the panel answer
 
-fn no_panel(refusal: u64) -> PanelAnswer
-    ensures { result ≡ no_panel refusal }
+// L1, L2 and cardinality, if none is refused.
+fn three_answers(
+    header: Header,
+    counters: &[i64],
+    norms: &[u64],
+    entries: &[u64],
+    counts: &[i64],
+) -> Result<PanelAnswer, Refusal>
+    ensures { kept (no_panel (refused result)) result ≡ panel_call (lent header counters.now norms.now entries.now counts.now) }
 {
-    PanelAnswer {
-        l1: 0.0,
-        l2: 0.0,
-        cardinality: 0.0,
-        refusal,
-    }
+    Ok(PanelAnswer {
+        l1: estimate_l1(header)?,
+        l2: estimate_l2(header, norms)?,
+        cardinality: estimate_cardinality(header, counters, norms, entries, counts)?,
+        refusal: 0,
+    })
 }
 
-// L1, L2 and cardinality.
+// L1, L2 and cardinality, or a refusal's number and +0.0 three times: the panel's own form, a struct that is
+// passed by value with a number for C.
 pub fn panel_answer(
     header: Header,
     counters: &[i64],
@@ -190,22 +172,13 @@ pub fn panel_answer(
 ) -> PanelAnswer
     ensures { result ≡ panel_call (lent header counters.now norms.now entries.now counts.now) }
 {
-    let a = estimate_l1(header);
-    if a.refusal != 0 {
-        return no_panel(a.refusal);
-    }
-    let b = estimate_l2(header, norms);
-    if b.refusal != 0 {
-        return no_panel(b.refusal);
-    }
-    let c = estimate_cardinality(header, counters, norms, entries, counts);
-    if c.refusal != 0 {
-        return no_panel(c.refusal);
-    }
-    PanelAnswer {
-        l1: a.value,
-        l2: b.value,
-        cardinality: c.value,
-        refusal: 0,
+    match three_answers(header, counters, norms, entries, counts) {
+        Ok(panel) => panel,
+        Err(refusal) => PanelAnswer {
+            l1: 0.0,
+            l2: 0.0,
+            cardinality: 0.0,
+            refusal: refusal.number(),
+        },
     }
 }

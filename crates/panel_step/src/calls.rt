@@ -1,4 +1,5 @@
 // The three requests on the panel's state: a header, and slices of which its shape uses the front.
+ghost use Rattle.refusal.specs.Refusals.{kept, refused};
 ghost use Rattle.std.specs.Prelude.{◌≡◌, ℕ, ◌≤◌, length};
 ghost use Rattle.std.proofs.lemmas.List.Edits.{sets};
 ghost use Rattle.header.specs.Shape.{max_layers};
@@ -10,20 +11,11 @@ ghost use Rattle.panel_lines.specs.Answers.{show_bytes};
 ghost use Rattle.panel_step.specs.Panel.{shape_call, add_call, show_line, panel_text, updates_digits};
 ghost use Rattle.layout.specs.Slices.{lent};
 
-use crate::extent::panel_refusal;
-use header::{Answered, Header, Shape};
+use crate::extent::check_panel;
+use header::{Header, Shape};
 use layout::extent_of;
 use panel_lines::answer::{put_refused, put_show};
-
-// 13 before a shape.
-const NO_SHAPE: u64 = 13;
-
-// A refused request: the header stays as it is.
-fn refused(refusal: u64, header: Header) -> Answered
-    ensures { result ≡ answered refusal header }
-{
-    Answered { refusal, header }
-}
+use refusal::Refusal;
 
 // Starts afresh with a shape, or refuses it.
 pub fn start(
@@ -33,20 +25,17 @@ pub fn start(
     entries: &mut [u64],
     counts: &mut [i64],
     shape: Shape,
-) -> Answered
-    ensures { left result.refusal (lent_out result.header counters norms entries counts)
+) -> Result<Header, Refusal>
+    ensures { left (refused result) (lent_out (kept header result) counters norms entries counts)
         ≡ shape_call (lent_in header counters norms entries counts) shape }
 {
-    let refusal = panel_refusal(
+    check_panel(
         shape,
         counters.len(),
         norms.len(),
         entries.len(),
         counts.len(),
-    );
-    if refusal != 0 {
-        return refused(refusal, header);
-    }
+    )?;
     let e = extent_of(shape);
     let cells = e.cells;
     let sums = e.norms;
@@ -76,20 +65,22 @@ pub fn add(
     counts: &mut [i64],
     record: &[u64],
     weight: i64,
-) -> Answered
-    ensures { left result.refusal (lent_out result.header counters norms entries counts)
+) -> Result<Header, Refusal>
+    ensures { left (refused result) (lent_out (kept header result) counters norms entries counts)
         ≡ add_call (lent_in header counters norms entries counts) «record».now weight }
 {
     let shape = header.shape;
-    if panel_refusal(
+    if check_panel(
         shape,
         counters.len(),
         norms.len(),
         entries.len(),
         counts.len(),
-    ) != 0
+    )
+    .is_err()
     {
-        return refused(NO_SHAPE, header);
+        // before a shape
+        return Err(Refusal::Unreadable);
     }
     let e = extent_of(shape);
     let cells = e.cells;
@@ -152,15 +143,17 @@ pub fn show(
     ensures upper_bound { result ≤ show_bytes max_layers updates_digits }
 {
     let shape = header.shape;
-    if panel_refusal(
+    if check_panel(
         shape,
         counters.len(),
         norms.len(),
         entries.len(),
         counts.len(),
-    ) != 0
+    )
+    .is_err()
     {
-        return put_refused(out, NO_SHAPE);
+        // before a shape
+        return put_refused(out, Refusal::Unreadable.number());
     }
     let e = extent_of(shape);
     let cells = e.cells;

@@ -1,9 +1,11 @@
 // Whether the panel takes a shape: its slices have room for what the shape uses.
+ghost use Rattle.refusal.specs.Refusals.{refused};
 ghost use Rattle.std.specs.Prelude.{◌≡◌, Bool, ℕ};
 ghost use Rattle.panel_step.specs.Panel.{roomy, panel_refusal};
 
 use header::Shape;
 use layout::{Extent, extent_of};
+use refusal::Refusal;
 
 // The greatest numbers of counters and of candidates, over all layers.
 pub const MAX_COUNTERS: usize = 4096;
@@ -26,29 +28,26 @@ fn has_room(e: Extent, counters: usize, norms: usize, entries: usize, counts: us
     e.seats <= counts
 }
 
-// 0, or the refusal of a shape in slices of these lengths.
-pub fn panel_refusal(
+// Whether the panel takes a shape in slices of these lengths.
+pub fn check_panel(
     shape: Shape,
     counters: usize,
     norms: usize,
     entries: usize,
     counts: usize,
-) -> u64
-    ensures { result ≡ panel_refusal shape counters norms entries counts }
+) -> Result<(), Refusal>
+    ensures { refused result ≡ panel_refusal shape counters norms entries counts }
 {
-    let own = shape.refusal();
-    if own != 0 {
-        return own;
-    }
+    shape.check()?;
     let e = extent_of(shape);
     if MAX_COUNTERS < e.cells {
-        return 4;
+        return Err(Refusal::AboveDomain);
     }
     if MAX_CANDIDATES < e.seats {
-        return 4;
+        return Err(Refusal::AboveDomain);
     }
     if has_room(e, counters, norms, entries, counts) {
-        return 0;
+        return Ok(());
     }
-    4
+    Err(Refusal::AboveDomain)
 }

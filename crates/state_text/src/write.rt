@@ -8,11 +8,12 @@ ghost use Rattle.layout.specs.Lending.{lent_now};
 ghost use Rattle.state_forms.specs.Grammar.{first_format, num_line, head_format, page_format, pages_text};
 ghost use Rattle.state_forms.specs.inner.Laying.{TextRoom, LaidText};
 ghost use Rattle.state_text.specs.Pages.{first_of, dims_of, frame_of, page_of, pages_of, text_of};
-ghost use Rattle.state_text.specs.Calls.{copied, write_call};
+ghost use Rattle.state_text.specs.Calls.{copied, write_call, written_by};
 
 use header::{Header, Shape, Totals};
 use state_forms::keys::lay_page;
 use state_forms::lay::{lay_number, lay_word};
+use refusal::Refusal;
 
 // `(WORD N)` and a newline.
 fn lay_line(out: &mut [u8], at: usize, word: &[u8], n: u64) -> usize
@@ -132,13 +133,6 @@ fn lay_state(
     lay_layers(out, b, header, counters, norms, entries, counts)
 }
 
-// The refusal's number, 0 for none, and the number of bytes written.
-#[derive(Clone, Copy)]
-pub struct Written {
-    pub refusal: u64,
-    pub bytes: usize,
-}
-
 // 9 for a state that fails the check or has two tiers, 16 for a space that is too short; else the text at
 // its start. Laid into nothing first, the text is measured.
 pub fn write_state(
@@ -148,29 +142,19 @@ pub fn write_state(
     entries: &[u64],
     counts: &[i64],
     out: &mut [u8],
-) -> Written
-    ensures { copied result out.new ≡ write_call (lent header counters.now norms.now entries.now counts.now) out.old }
+) -> Result<usize, Refusal>
+    ensures { copied (written_by result) out.new ≡ write_call (lent header counters.now norms.now entries.now counts.now) out.old }
 {
     if !state_check::check_state(header, counters, norms, entries, counts) {
-        return Written {
-            refusal: 9,
-            bytes: 0,
-        };
+        return Err(Refusal::OutOfRange);
     }
     if !header.shape.is_one_tier() {
-        return Written {
-            refusal: 9,
-            bytes: 0,
-        };
+        return Err(Refusal::OutOfRange);
     }
     let mut nothing = [0u8; 1];
     let n = lay_state(&mut nothing, header, counters, norms, entries, counts);
     if out.len() < n {
-        return Written {
-            refusal: 16,
-            bytes: 0,
-        };
+        return Err(Refusal::TooShort);
     }
-    let bytes = lay_state(out, header, counters, norms, entries, counts);
-    Written { refusal: 0, bytes }
+    Ok(lay_state(out, header, counters, norms, entries, counts))
 }

@@ -12,7 +12,7 @@ use Rattle.layout.specs.Slices.{Lent}
 use Rattle.layout.specs.Outcomes.{Outcome, Left, left, left_by}
 use Rattle.univmon.specs.declared.Kind.{Kind}
 use Rattle.univmon.specs.Calls.{lent_update_list_call}
-use Rattle.estimates.specs.declared.Answer.{Answer}
+use Rattle.estimates.specs.Answers.{Answer}
 use Rattle.estimates.specs.declared.PanelAnswer.{PanelAnswer}
 use Rattle.estimates.specs.Calls.{refused_by, no_panel}
 use Rattle.state_text.specs.Calls.{Copied, not_copied}

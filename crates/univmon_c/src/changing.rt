@@ -15,6 +15,8 @@ ghost use Rattle.univmon_c.specs.Lending.{c_lent_in, c_lent_out};
 
 use crate::crossing::{LAST_MODE, c_answered, c_bottom, fidelity_of, header_of};
 use crate::{CAnswered, CBottom, CHeader};
+use header::Header;
+use refusal::number_in;
 
 // The greatest number that is a fidelity.
 const LAST_FIDELITY: u64 = 1;
@@ -25,7 +27,7 @@ const LAST_FIDELITY: u64 = 1;
 pub fn univmon_check_shape(heap_size: usize, rows: usize, cols: usize, layers: usize) -> u64
     ensures { result ≡ shape_refusal (one_tier heap_size rows cols layers) }
 {
-    header::check_shape(heap_size, rows, cols, layers)
+    number_in(&header::check_shape(heap_size, rows, cols, layers))
 }
 
 // The last layer that a key with this bottom hash reaches.
@@ -51,9 +53,12 @@ pub fn univmon_new(
     ensures { c_left result.refusal (c_lent_out result.header counters norms entries counts)
         ≡ crossed one_tier_face (new_call (one_tier heap_size rows cols layers) counters.old norms.old entries.old counts.old) }
 {
-    c_answered(univmon::new(
-        heap_size, rows, cols, layers, counters, norms, entries, counts,
-    ))
+    c_answered(
+        Header::zero(),
+        univmon::new(
+            heap_size, rows, cols, layers, counters, norms, entries, counts,
+        ),
+    )
 }
 
 // Clears a state: header and slices are then as `new` leaves them.
@@ -71,7 +76,7 @@ pub fn univmon_clear(
         return CAnswered { refusal: 9, header };
     }
     let h = header_of(header);
-    c_answered(univmon::clear(h, counters, norms, entries, counts))
+    c_answered(h, univmon::clear(h, counters, norms, entries, counts))
 }
 
 // ---- updates
@@ -96,7 +101,7 @@ pub fn univmon_update_weighted(
         return CAnswered { refusal: 9, header };
     }
     let h = header_of(header);
-    c_answered(univmon::update_weighted(h, counters, norms, entries, counts, record, weight, list))
+    c_answered(h, univmon::update_weighted(h, counters, norms, entries, counts, record, weight, list))
 }
 
 // The key goes to its bottom layer only.
@@ -119,7 +124,7 @@ pub fn univmon_update_weighted_terminal(
         return CAnswered { refusal: 9, header };
     }
     let h = header_of(header);
-    c_answered(univmon::update_weighted_terminal(
+    c_answered(h, univmon::update_weighted_terminal(
         h, counters, norms, entries, counts, record, weight, list,
     ))
 }
@@ -154,7 +159,7 @@ pub fn univmon_apply_delta(
     }
     let h = header_of(header);
     let f = fidelity_of(fidelity);
-    c_answered(univmon_delta::apply_delta(
+    c_answered(h, univmon_delta::apply_delta(
         h, counters, norms, entries, counts, record, layer, row, col, count, f, list,
     ))
 }
@@ -190,7 +195,7 @@ pub fn univmon_merge(
     }
     let h = header_of(header);
     let o = header_of(other);
-    c_answered(univmon_merge::merge(
+    c_answered(h, univmon_merge::merge(
         h,
         counters,
         norms,
@@ -215,7 +220,7 @@ pub fn univmon_set_total_weight(header: CHeader, weight: u64) -> CAnswered
         return CAnswered { refusal: 9, header };
     }
     let h = header_of(header);
-    c_answered(univmon::set_total_weight(h, weight))
+    c_answered(h, univmon::set_total_weight(h, weight))
 }
 
 // Marks every layer's candidates as partial.
@@ -226,7 +231,7 @@ pub fn univmon_mark_candidates_incomplete(header: CHeader) -> CAnswered
         return CAnswered { refusal: 9, header };
     }
     let h = header_of(header);
-    c_answered(univmon::mark_candidates_incomplete(h))
+    c_answered(h, univmon::mark_candidates_incomplete(h))
 }
 
 // Marks one layer's candidates as partial.
@@ -237,5 +242,5 @@ pub fn univmon_mark_layer_candidates_incomplete(header: CHeader, layer: usize) -
         return CAnswered { refusal: 9, header };
     }
     let h = header_of(header);
-    c_answered(univmon::mark_layer_candidates_incomplete(h, layer))
+    c_answered(h, univmon::mark_layer_candidates_incomplete(h, layer))
 }

@@ -1,4 +1,8 @@
 // Between C's shapes and the library's: numbers for enums, one flat struct for a header.
+ghost use Rattle.refusal.specs.Refusals.{answer};
+ghost use Rattle.header.specs.Answers.{answered_by, answered_lent_by};
+ghost use Rattle.estimates.specs.Answers.{float_answer};
+ghost use Rattle.state_text.specs.Calls.{written_by};
 ghost use Rattle.std.specs.Prelude.{◌≡◌, Bool, ℕ};
 ghost use Rattle.estimates.specs.Calls.{refused_by, no_panel};
 ghost use Rattle.univmon_c.specs.Crossing.{
@@ -16,11 +20,9 @@ ghost use Rattle.univmon_c.specs.Crossing.{
 };
 
 use crate::{CAnswer, CAnswered, CBottom, CHeader, CPanel, CShape, CStep, CWritten};
-use estimates::{Answer, PanelAnswer};
-use header::{
-    Answered, AnsweredLent, BottomLayer, Header, Scalars, Shape, Totals, mode_number, mode_of,
-};
-use state_text::Written;
+use estimates::PanelAnswer;
+use header::{Header, Scalars, Shape, Totals, mode_number, mode_of};
+use refusal::{Refusal, number_in};
 use sums::G;
 use univmon_delta::Fidelity;
 
@@ -106,45 +108,52 @@ pub fn scalars_of(s: CShape, weight: u64, updates: u64, mode: u64) -> Scalars
 
 // ---- answers
 
-pub fn c_step(b: AnsweredLent) -> CStep
-    ensures { result ≡ c_step b }
+// Of a call on these scalars.
+pub fn c_step(before: Scalars, answer: Result<Scalars, Refusal>) -> CStep
+    ensures { result ≡ c_step (answered_lent_by before answer) }
 {
-    let scalars = b.scalars;
+    let scalars = answer.unwrap_or(before);
     let m = scalars.mode;
     let mode = mode_number(m);
     CStep {
-        refusal: b.refusal,
+        refusal: number_in(&answer),
         weight: scalars.totals.weight,
         updates: scalars.totals.updates,
         mode,
     }
 }
 
-pub fn c_answered(a: Answered) -> CAnswered
-    ensures { result ≡ c_answered a }
+// Of a call on this header.
+pub fn c_answered(before: Header, answer: Result<Header, Refusal>) -> CAnswered
+    ensures { result ≡ c_answered (answered_by before answer) }
 {
-    let h = a.header;
     CAnswered {
-        refusal: a.refusal,
-        header: c_header(h),
+        refusal: number_in(&answer),
+        header: c_header(answer.unwrap_or(before)),
     }
 }
 
-pub fn c_bottom(b: BottomLayer) -> CBottom
-    ensures { result ≡ c_bottom b }
+pub fn c_bottom(b: Result<usize, Refusal>) -> CBottom
+    ensures { result ≡ c_bottom (answer b) }
 {
     match b {
-        BottomLayer::At(layer) => CBottom { refusal: 0, layer },
-        BottomLayer::Refused(refusal) => CBottom { refusal, layer: 0 },
+        Ok(layer) => CBottom { refusal: 0, layer },
+        Err(refusal) => CBottom {
+            refusal: refusal.number(),
+            layer: 0,
+        },
     }
 }
 
-pub fn c_answer(a: Answer) -> CAnswer
-    ensures { result ≡ c_answer a }
+pub fn c_answer(a: Result<f64, Refusal>) -> CAnswer
+    ensures { result ≡ c_answer (float_answer a) }
 {
-    CAnswer {
-        refusal: a.refusal,
-        value: a.value,
+    match a {
+        Ok(value) => CAnswer { refusal: 0, value },
+        Err(refusal) => CAnswer {
+            refusal: refusal.number(),
+            value: 0.0,
+        },
     }
 }
 
@@ -159,12 +168,15 @@ pub fn c_panel(a: PanelAnswer) -> CPanel
     }
 }
 
-pub fn c_written(w: Written) -> CWritten
-    ensures { result ≡ c_written w }
+pub fn c_written(w: Result<usize, Refusal>) -> CWritten
+    ensures { result ≡ c_written (written_by w) }
 {
-    CWritten {
-        refusal: w.refusal,
-        bytes: w.bytes,
+    match w {
+        Ok(bytes) => CWritten { refusal: 0, bytes },
+        Err(refusal) => CWritten {
+            refusal: refusal.number(),
+            bytes: 0,
+        },
     }
 }
 

@@ -42,7 +42,7 @@ pub fn univmon_update_weighted_lent(
         };
     }
     let scalars = scalars_of(shape, total_weight, total_updates, mode);
-    c_step(univmon::update_weighted_lent(
+    c_step(scalars, univmon::update_weighted_lent(
         scalars, lens, flags, counters, norms, entries, counts, record, weight, list,
     ))
 }
@@ -77,7 +77,7 @@ pub fn univmon_update_weighted_terminal_lent(
         };
     }
     let scalars = scalars_of(shape, total_weight, total_updates, mode);
-    c_step(univmon::update_weighted_terminal_lent(
+    c_step(scalars, univmon::update_weighted_terminal_lent(
         scalars, lens, flags, counters, norms, entries, counts, record, weight, list,
     ))
 }

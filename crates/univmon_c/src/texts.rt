@@ -8,6 +8,7 @@ ghost use Rattle.univmon_c.specs.Lending.{c_lent_out};
 
 use crate::crossing::{LAST_MODE, c_answered, c_written, header_of};
 use crate::{CAnswered, CHeader, CWritten};
+use header::Header;
 
 // A state's text at the start of the lent space: 9 for a state that fails the check, 16 for a space that
 // is too short.
@@ -42,5 +43,8 @@ pub fn univmon_read_state(
     ensures { c_left result.refusal (c_lent_out result.header counters norms entries counts)
         ≡ crossed one_tier_face (read_call text.now (lent_in zero_header counters norms entries counts)) }
 {
-    c_answered(state_reader::read_state(text, counters, norms, entries, counts))
+    c_answered(
+        Header::zero(),
+        state_reader::read_state(text, counters, norms, entries, counts),
+    )
 }

@@ -13,7 +13,8 @@ ghost use Rattle.univmon_two_tier.specs.Crossing.{two_tier_face};
 
 use crate::crossing::{c_answered, header_of};
 use crate::{CTwoTier, CTwoTierAnswered};
-use header::{CheckedShape, Shape};
+use header::{Header, Shape};
+use refusal::number_in;
 use univmon_c::crossing::LAST_MODE;
 
 // 0, or the refusal of these dimensions.
@@ -29,7 +30,7 @@ pub extern "C" fn univmon_two_tier_check_shape(
 ) -> u64
     ensures { result ≡ shape_refusal (two_tier heap_size elephant_layers elephant_rows elephant_cols mouse_rows mouse_cols layers) }
 {
-    let checked = Shape::new(
+    number_in(&Shape::new(
         heap_size,
         elephant_layers,
         elephant_rows,
@@ -37,11 +38,7 @@ pub extern "C" fn univmon_two_tier_check_shape(
         mouse_rows,
         mouse_cols,
         layers,
-    );
-    match checked {
-        CheckedShape::Good(_) => 0,
-        CheckedShape::Refused(n) => n,
-    }
+    ))
 }
 
 // A fresh state in lent slices.
@@ -62,7 +59,7 @@ pub extern "C" fn univmon_two_tier_new(
     ensures { c_left result.refusal (c_lent_out result.header counters norms entries counts)
         ≡ crossed two_tier_face (new_call (two_tier heap_size elephant_layers elephant_rows elephant_cols mouse_rows mouse_cols layers) counters.old norms.old entries.old counts.old) }
 {
-    c_answered(univmon::new_two_tier(
+    c_answered(Header::zero(), univmon::new_two_tier(
         heap_size,
         elephant_layers,
         elephant_rows,
@@ -93,7 +90,7 @@ pub extern "C" fn univmon_two_tier_clear(
         return CTwoTierAnswered { refusal: 9, header };
     }
     let h = header_of(header);
-    c_answered(univmon::clear(h, counters, norms, entries, counts))
+    c_answered(h, univmon::clear(h, counters, norms, entries, counts))
 }
 
 // The key goes to layers 0 to its bottom layer.
@@ -117,7 +114,7 @@ pub extern "C" fn univmon_two_tier_update_weighted(
         return CTwoTierAnswered { refusal: 9, header };
     }
     let h = header_of(header);
-    c_answered(univmon::update_weighted(h, counters, norms, entries, counts, record, weight, list))
+    c_answered(h, univmon::update_weighted(h, counters, norms, entries, counts, record, weight, list))
 }
 
 // The key goes to its bottom layer only.
@@ -141,7 +138,7 @@ pub extern "C" fn univmon_two_tier_update_weighted_terminal(
         return CTwoTierAnswered { refusal: 9, header };
     }
     let h = header_of(header);
-    c_answered(univmon::update_weighted_terminal(
+    c_answered(h, univmon::update_weighted_terminal(
         h, counters, norms, entries, counts, record, weight, list,
     ))
 }
@@ -176,7 +173,7 @@ pub extern "C" fn univmon_two_tier_merge(
     }
     let h = header_of(header);
     let o = header_of(other);
-    c_answered(univmon_merge::merge(
+    c_answered(h, univmon_merge::merge(
         h,
         counters,
         norms,

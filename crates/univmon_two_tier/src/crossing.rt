@@ -1,9 +1,11 @@
 // Between C's headers and the library's: one flat struct, with the mode as a number.
+ghost use Rattle.header.specs.Answers.{answered_by};
 ghost use Rattle.std.specs.Prelude.{◌≡◌, Bool, ℕ};
 ghost use Rattle.univmon_two_tier.specs.Crossing.{header_of, c_two_tier, c_answered, c_scalars};
 
 use crate::{CTwoTier, CTwoTierAnswered, CTwoTierShape};
-use header::{Answered, Header, Scalars, Shape, Totals, mode_number, mode_of};
+use header::{Header, Scalars, Shape, Totals, mode_number, mode_of};
+use refusal::{Refusal, number_in};
 
 pub fn header_of(h: CTwoTier) -> Header
     ensures { result ≡ header_of h }
@@ -55,13 +57,13 @@ fn c_two_tier(h: Header) -> CTwoTier
     }
 }
 
-pub fn c_answered(a: Answered) -> CTwoTierAnswered
-    ensures { result ≡ c_answered a }
+// Of a call on this header.
+pub fn c_answered(before: Header, answer: Result<Header, Refusal>) -> CTwoTierAnswered
+    ensures { result ≡ c_answered (answered_by before answer) }
 {
-    let h = a.header;
     CTwoTierAnswered {
-        refusal: a.refusal,
-        header: c_two_tier(h),
+        refusal: number_in(&answer),
+        header: c_two_tier(answer.unwrap_or(before)),
     }
 }
 

@@ -47,7 +47,7 @@ pub extern "C" fn univmon_two_tier_update_weighted_lent(
         };
     }
     let scalars = scalars_of(shape, total_weight, total_updates, mode);
-    c_step(univmon::update_weighted_lent(
+    c_step(scalars, univmon::update_weighted_lent(
         scalars, lens, flags, counters, norms, entries, counts, record, weight, list,
     ))
 }
@@ -83,7 +83,7 @@ pub extern "C" fn univmon_two_tier_update_weighted_terminal_lent(
         };
     }
     let scalars = scalars_of(shape, total_weight, total_updates, mode);
-    c_step(univmon::update_weighted_terminal_lent(
+    c_step(scalars, univmon::update_weighted_terminal_lent(
         scalars, lens, flags, counters, norms, entries, counts, record, weight, list,
     ))
 }
