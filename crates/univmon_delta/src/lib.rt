@@ -25,7 +25,7 @@ ghost use Rattle.univmon_delta.specs.inner.Needs.{Placed, Arrives};
 
 use header::{Header, Mode};
 use heap::Answer;
-use layout::{cells_at, dims, item_in, check_lent, norms_at, seats_at, span_of, zero_places};
+use layout::{cells_at, check_lent, dims, item_in, norms_at, seats_at, span_of, zero_places};
 use refusal::Refusal;
 
 // How much of the stream reached a relay that is fed by deltas.

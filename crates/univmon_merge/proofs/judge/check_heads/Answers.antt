@@ -1,10 +1,10 @@
--- `univmon_merge::judge::heads_refusal` meets its contract.
+-- `univmon_merge::judge::check_heads` meets its contract.
 use mathlib.Core.Path.{◌≡◌, sym, ◌∙◌}
 use mathlib.Core.Bool.{true, false}
 use Rattle.header.specs.Header.{clash}
 use Rattle.header.specs.Shape.{same_shape}
-use Rattle.univmon_merge.proofs.judge.heads_refusal.Goals as goal
-use Rattle.univmon_merge.proofs.judge.heads_refusal.Goals.{Else-clashes, Else-not-same}
+use Rattle.univmon_merge.proofs.judge.check_heads.Goals as goal
+use Rattle.univmon_merge.proofs.judge.check_heads.Goals.{Else-clashes, Else-not-same}
 
 -- the shapes were found the same, and the modes fit
 shapes : (c : Else-not-same) → same_shape c.args.h.shape c.args.other.shape ≡ true
@@ -20,4 +20,4 @@ pub returns-then-clashes : goal.returns-then-clashes
 returns-then-clashes c = simp (shapes (goal.at.returns-then-clashes c).Else-not-same, sym c.clashes.ensures ∙ c.if-clashes.true)
 
 pub returns : goal.returns
-returns c = simp (shapes (goal.at.returns c).Else-not-same, modes (goal.at.returns c).Else-clashes) c.sum_refusal.ensures
+returns c = simp (shapes (goal.at.returns c).Else-not-same, modes (goal.at.returns c).Else-clashes) c.check_sum.ensures

@@ -1,11 +1,11 @@
--- `univmon_merge::judge::layers_refusal` meets its contract.
+-- `univmon_merge::judge::check_layers` meets its contract.
 use mathlib.Core.Path.{◌≡◌, sym, ◌∙◌}
 use mathlib.Core.Bool.{true}
 use Rattle.layout.specs.Slices.{lent, view, Lent}
 use Rattle.layout.specs.State.{all_layers}
 use Rattle.univmon_merge.specs.inner.Pairs.{reads_with}
-use Rattle.univmon_merge.proofs.judge.layers_refusal.Goals as goal
-use Rattle.univmon_merge.proofs.judge.layers_refusal.Goals.{Else-not-all_read, Start}
+use Rattle.univmon_merge.proofs.judge.check_layers.Goals as goal
+use Rattle.univmon_merge.proofs.judge.check_layers.Goals.{Else-not-all_read, Start}
 
 -- the two states that are lent
 abbrev lent_of : Start → Lent

@@ -1,4 +1,4 @@
--- `univmon_delta::judge_delta` meets its contract.
+-- `univmon_delta::check_layer` meets its contract.
 use Prim.Native.Nat.{◌+◌, ◌*◌}
 use mathlib.Core.Path.{◌≡◌, sym, ap, ◌∙◌}
 use mathlib.Core.Bool.{Bool, true, false}
@@ -16,8 +16,8 @@ use Rattle.layout.specs.State.{dims_at, cell_off, norm_off, cand_off, layer_at}
 use Rattle.layout.specs.Records.{item_at}
 use Rattle.layout.proofs.Views.{layer_here, layer-view, housed_here}
 use Rattle.univmon_delta.proofs.Arrivals.{judged_unread, judged_unfit, judged_well, counter_read}
-use Rattle.univmon_delta.proofs.judge_delta.Goals as goal
-use Rattle.univmon_delta.proofs.judge_delta.Goals.{After-delta_fits, After-delta_reads, Else-not-delta_reads, Start}
+use Rattle.univmon_delta.proofs.check_layer.Goals as goal
+use Rattle.univmon_delta.proofs.check_layer.Goals.{After-delta_fits, After-delta_reads, Else-not-delta_reads, Start}
 
 -- the state that is lent, and the layer that is read
 abbrev lent_of : Start → Lent
