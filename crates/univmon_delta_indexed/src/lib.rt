@@ -26,8 +26,8 @@ ghost use Rattle.univmon_delta_indexed.specs.inner.Needs.{PlacedIn, ArrivesIn};
 use header::Header;
 use layout::{dims, item_in, norms_at, span_of, zero_places};
 use layout_index::{check_indexed, table_span};
-use univmon_delta::{Fidelity, begin_delta, every_insert, kept_all};
 use refusal::Refusal;
+use univmon_delta::{Fidelity, begin_delta, every_insert, kept_all};
 
 // Whether a grade is refused.
 fn check_grade(grade: u64) -> Result<(), Refusal>

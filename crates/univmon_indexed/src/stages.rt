@@ -19,8 +19,8 @@ use crate::judge::{all_reach, check_layers};
 use crate::send::{send, send_first};
 use header::Scalars;
 use layout_index::tables_in;
-use univmon::{Kind, bottom_word, first_sent, check_sizes};
 use refusal::Refusal;
+use univmon::{Kind, bottom_word, check_sizes, first_sent};
 
 // Where the list is long enough and the update may be made at every layer, all are sent to; if not, nothing is
 // touched. The layers behind the first are judged, then the first is judged and sent to in one go: half of all

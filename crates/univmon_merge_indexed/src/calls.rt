@@ -12,8 +12,8 @@ ghost use Rattle.univmon_merge_indexed.specs.Merges.{merged_index, indexed_merge
 use crate::layers::merge_layers;
 use header::Header;
 use layout_index::check_indexed;
-use univmon_merge::check_merge;
 use refusal::Refusal;
+use univmon_merge::check_merge;
 
 // A second state merged into a first: 9, 10, 6, 7, 14, 9, 11, 16.
 pub fn merge_indexed(

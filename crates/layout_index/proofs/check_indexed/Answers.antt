@@ -11,7 +11,6 @@ use Rattle.words.proofs.Tests.{Off, off_number, number_first, number-rest}
 use Rattle.layout.specs.Slices.{Lent, lent}
 use Rattle.layout.specs.Outcomes.{lent_tests}
 use Rattle.std.proofs.lemmas.Result.{err_from_is_err_and}
-use Rattle.refusal.specs.Refusals.{number_of, refused}
 use Rattle.refusal.proofs.Numbers.{number-ne0}
 use Rattle.layout_index.proofs.check_indexed.Goals as goal
 use Rattle.layout_index.proofs.check_indexed.Goals.{In_ok-check_lent, Start}

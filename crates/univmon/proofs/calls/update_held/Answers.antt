@@ -41,9 +41,9 @@ left_is : (c : After-update) → let a = c.args in let l = c.update.new in
 left_is c =
     let a = c.args in
     let e : refused c.begins.result ≡ number (begin_tests (scalars_of a.header) a.weight (mode_of a.kind)) =
-        c.begins.ensures
-        ∙ ap (λ (b : Answered). b.refusal) (rw (to_z-of_z c.ranges.weight, c.mode_of.ensures) at c.begin_update-begun.ensures)
-        ∙ header_number a.header a.weight (mode_of a.kind) in
+    c.begins.ensures
+    ∙ ap (λ (b : Answered). b.refusal) (rw (to_z-of_z c.ranges.weight, c.mode_of.ensures) at c.begin_update-begun.ensures)
+    ∙ header_number a.header a.weight (mode_of a.kind) in
     rw (to_z-of_z c.ranges.weight, c.scalars.ensures, e) at c.update.ensures.counts_value
 
 -- the list is that of the whole call
@@ -85,9 +85,9 @@ returns-in_err-begun c =
     let a = c.args in
     let q = call_done a.kind (lent_of (goal.at.returns-in_err-begun c).Start) a.«record».now a.weight (length a.list.now) (refused c.update.result) _ (left_is (goal.at.returns-in_err-begun c).After-update) (ap refused c.in_ok-update.was) in
     let n : number_of c.in_err-begun.field-0.0 ≡ 0 =
-        ap (λ (b : Answered). b.refusal) (rw (to_z-of_z c.ranges.weight, c.mode_of.ensures) at c.in_err-begun.ensures)
-        ∙ header_number a.header a.weight (mode_of a.kind)
-        ∙ q.0 in
+    ap (λ (b : Answered). b.refusal) (rw (to_z-of_z c.ranges.weight, c.mode_of.ensures) at c.in_err-begun.ensures)
+    ∙ header_number a.header a.weight (mode_of a.kind)
+    ∙ q.0 in
     absurd (number-ne0 c.in_err-begun.field-0.0 n)
 
 pub returns : goal.returns

@@ -37,9 +37,9 @@ left_is : (c : After-update) → let a = c.args in let l = c.update.new in
 left_is c =
     let a = c.args in
     let e : refused c.begins.result ≡ number (begin_tests a.scalars a.weight (mode_of a.kind)) =
-        c.begins.ensures
-        ∙ ap (λ (b : AnsweredLent). b.refusal) (rw (to_z-of_z c.ranges.weight, c.mode_of.ensures) at c.begin_update-begun.ensures)
-        ∙ begin-number a.scalars a.weight (mode_of a.kind) in
+    c.begins.ensures
+    ∙ ap (λ (b : AnsweredLent). b.refusal) (rw (to_z-of_z c.ranges.weight, c.mode_of.ensures) at c.begin_update-begun.ensures)
+    ∙ begin-number a.scalars a.weight (mode_of a.kind) in
     rw (to_z-of_z c.ranges.weight, e) at c.update.ensures.counts_value
 
 -- the list is that of the whole call

@@ -1,4 +1,4 @@
--- `indexed_state::building::build_refusal` meets its contract.
+-- `indexed_state::building::check_build` meets its contract.
 use Prim.Native.Nat.{◌*◌}
 use mathlib.Core.Path.{◌≡◌, sym, ◌∙◌}
 use mathlib.Core.Bool.{true}
@@ -10,8 +10,8 @@ use Rattle.header.specs.inner.Accepted.{Accepted}
 use Rattle.header.proofs.Ranges.{ranged_of}
 use Rattle.layout.specs.Slices.{cands_in}
 use Rattle.layout_index.specs.Tables.{tables_in}
-use Rattle.indexed_state.proofs.building.build_refusal.Goals as goal
-use Rattle.indexed_state.proofs.building.build_refusal.Goals.{Else-entries-e, Else-not-in_range}
+use Rattle.indexed_state.proofs.building.check_build.Goals as goal
+use Rattle.indexed_state.proofs.building.check_build.Goals.{Else-entries-e, Else-not-in_range}
 
 -- the header was found in range, so its shape is one that is accepted
 ranged : (c : Else-not-in_range) → header_ok c.args.header ≡ true

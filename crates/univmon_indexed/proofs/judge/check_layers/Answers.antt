@@ -1,4 +1,4 @@
--- `univmon_indexed::judge::judge_layers` meets its contract.
+-- `univmon_indexed::judge::check_layers` meets its contract.
 use Prim.Native.Nat.{ℕ}
 use mathlib.Core.Path.{◌≡◌, sym, ◌∙◌}
 use mathlib.Core.Bool.{Bool, true}
@@ -7,8 +7,8 @@ use Rattle.layout.specs.Slices.{Lent, lent, view}
 use Rattle.layout.specs.State.{all_layers}
 use Rattle.univmon_indexed.specs.inner.Needs.{reaches_at}
 use Rattle.univmon_indexed.proofs.Grades.{judged_unread, judged_unfit, judged_unmoved, judged_fine}
-use Rattle.univmon_indexed.proofs.judge.judge_layers.Goals as goal
-use Rattle.univmon_indexed.proofs.judge.judge_layers.Goals.{After-all_reach, After-all_reach-2, After-all_reach-3, Else-not-all_reach, Else-not-all_reach-2, Start}
+use Rattle.univmon_indexed.proofs.judge.check_layers.Goals as goal
+use Rattle.univmon_indexed.proofs.judge.check_layers.Goals.{After-all_reach, After-all_reach-2, After-all_reach-3, Else-not-all_reach, Else-not-all_reach-2, Start}
 
 -- the state that is lent, and whether its layers come so far
 abbrev lent_of : Start → Lent

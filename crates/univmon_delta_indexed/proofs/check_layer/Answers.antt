@@ -1,4 +1,4 @@
--- `univmon_delta_indexed::judge_delta` meets its contract.
+-- `univmon_delta_indexed::check_layer` meets its contract.
 use Prim.Native.Nat.{◌-◌}
 use mathlib.Core.Path.{◌≡◌, sym, ◌∙◌}
 use mathlib.Core.Bool.{Bool, false}
@@ -17,8 +17,8 @@ use Rattle.layout_index.specs.Tables.{table_at}
 use Rattle.layout_index.proofs.Handed.{Tabled, table_piece}
 use Rattle.univmon_delta_indexed.proofs.Grades.{number_graded}
 use Rattle.univmon_delta_indexed.proofs.Arrivals.{seated, own}
-use Rattle.univmon_delta_indexed.proofs.judge_delta.Goals as goal
-use Rattle.univmon_delta_indexed.proofs.judge_delta.Goals.{After-delta_grade-grade, After-span_of-s, After-table_span-t, Start}
+use Rattle.univmon_delta_indexed.proofs.check_layer.Goals as goal
+use Rattle.univmon_delta_indexed.proofs.check_layer.Goals.{After-delta_grade-grade, After-span_of-s, After-table_span-t, Start}
 
 -- the state that is lent, and where its layer and its table stand
 abbrev lent_of : Start → Lent
@@ -131,7 +131,7 @@ returns c =
     let t = c.table_span-t.result in record {
       value = λ every.
           number_graded (dims_at a.h.shape a.l) (delta a.row a.col a.count (item_at a.«record».now a.l) every) (table_at a.h.shape a.index.now a.l) (layer_at (view (lent_of (goal.at.returns c).Start)) a.l)
-          c.delta_grade-grade.result _ (graded (goal.at.returns c).After-delta_grade-grade every) c.grade_number.ensures;
+          c.delta_grade-grade.result _ (graded (goal.at.returns c).After-delta_grade-grade every) c.check_grade.ensures;
       counters_unchanged = (
         put_back s.cells (s.cells_end - s.cells) a.counters.now _ k.0,
         (

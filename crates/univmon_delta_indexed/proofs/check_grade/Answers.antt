@@ -1,7 +1,7 @@
--- `univmon_delta_indexed::grade_number` meets its contract.
+-- `univmon_delta_indexed::check_grade` meets its contract.
 use mathlib.Core.Path.{refl}
 use borrow.Author.Tests.{eq-eqb, ne_eqb}
-use Rattle.univmon_delta_indexed.proofs.grade_number.Goals as goal
+use Rattle.univmon_delta_indexed.proofs.check_grade.Goals as goal
 
 pub returns-then-grade-eq4 : goal.returns-then-grade-eq4
 returns-then-grade-eq4 c = rw (eq-eqb _ _ c.if-grade-eq4.true) refl
