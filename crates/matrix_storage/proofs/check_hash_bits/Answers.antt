@@ -1,41 +1,21 @@
 -- `matrix_storage::check_hash_bits` meets its contract.
-use Prim.Native.Nat.{◌+◌, ◌*◌}
-use mathlib.Core.Path.{◌≡◌, sym, ◌∙◌}
-use mathlib.Core.Bool.{false}
-use lib.Dec.{ltb}
-use native.Mathlib.Omega.{arith}
-use borrow.Author.Tests.{eq-eqb, ne_eqb, lt-ltb, le-ltb}
-use Rattle.matrix_storage.specs.Bits.{mask_bits, hash_bits}
+use Rattle.std.proofs.Common.{arith}
+use Rattle.std.proofs.lemmas.Grind.{common_steps}
 use Rattle.matrix_storage.specs.Calls.{bits_refusal}
 use Rattle.matrix_storage.proofs.check_hash_bits.Goals as goal
-use Rattle.matrix_storage.proofs.check_hash_bits.Goals.{Else-bits_above}
-
-within : (c : Else-bits_above) → ltb hash_bits ((mask_bits c.args.cols + 1) * c.args.rows) ≡ false
-within c = sym c.bits_above.ensures ∙ c.if-bits_above.false
 
 pub returns-then-rows-eq0 : goal.returns-then-rows-eq0
 unfolding bits_refusal
-returns-then-rows-eq0 c = simp (eq-eqb _ 0 c.if-rows-eq0.true)
-
-pub returns-then-cols-eq0 : goal.returns-then-cols-eq0
-unfolding bits_refusal
-returns-then-cols-eq0 c = simp (ne_eqb _ 0 c.if-rows-eq0.false, eq-eqb _ 0 c.if-cols-eq0.true)
-
-pub bits_above-requires : goal.bits_above-requires
-bits_above-requires c = omega (arith, c.if-cols-eq0.false)
+returns-then-rows-eq0 c = grind (arith, common_steps)
 
 pub returns-then-bits_above : goal.returns-then-bits_above
 unfolding bits_refusal
-returns-then-bits_above c = simp (ne_eqb _ 0 c.if-rows-eq0.false, ne_eqb _ 0 c.if-cols-eq0.false, sym c.bits_above.ensures ∙ c.if-bits_above.true)
+returns-then-bits_above c = grind (arith, common_steps)
 
 pub returns-then-rows-gt-MAX_ROWS : goal.returns-then-rows-gt-MAX_ROWS
 unfolding bits_refusal
-returns-then-rows-gt-MAX_ROWS c = simp (ne_eqb _ 0 c.if-rows-eq0.false, ne_eqb _ 0 c.if-cols-eq0.false, within (goal.at.returns-then-rows-gt-MAX_ROWS c).Else-bits_above, lt-ltb _ _ c.if-rows-gt-MAX_ROWS.true)
-
-pub returns-then-cols-gt-MAX_COLS : goal.returns-then-cols-gt-MAX_COLS
-unfolding bits_refusal
-returns-then-cols-gt-MAX_COLS c = simp (ne_eqb _ 0 c.if-rows-eq0.false, ne_eqb _ 0 c.if-cols-eq0.false, within (goal.at.returns-then-cols-gt-MAX_COLS c).Else-bits_above, le-ltb _ _ c.if-rows-gt-MAX_ROWS.false, lt-ltb _ _ c.if-cols-gt-MAX_COLS.true)
+returns-then-rows-gt-MAX_ROWS c = grind (arith, common_steps)
 
 pub returns : goal.returns
 unfolding bits_refusal
-returns c = simp (ne_eqb _ 0 c.if-rows-eq0.false, ne_eqb _ 0 c.if-cols-eq0.false, within (goal.at.returns c).Else-bits_above, le-ltb _ _ c.if-rows-gt-MAX_ROWS.false, le-ltb _ _ c.if-cols-gt-MAX_COLS.false)
+returns c = grind (arith, common_steps)
