@@ -34,15 +34,16 @@ listed_end f i n h = let e : n - i ≡ 0 = omega arith in rw e
 -- ---- a loop that sums n entries
 
 pub record Summing (r : Rule) (f : ℕ → Entry) (n : ℕ) (acc : Float) (i : ℕ) : Type 0 where
+  pub most : i ≤ n
   pub goes : sum_over r acc (listed f i (n - i)) ≡ sum_over r plus_zero (listed f 0 n)
 
 pub sum-start : (r : Rule) (f : ℕ → Entry) (n : ℕ) → Summing r f n plus_zero 0
-sum-start r f n = record { goes = ap (λ (k : ℕ). sum_over r plus_zero (listed f 0 k)) (sub-zero n) }
+sum-start r f n = record { most = omega arith; goes = ap (λ (k : ℕ). sum_over r plus_zero (listed f 0 k)) (sub-zero n) }
 
 pub sum_on : (r : Rule) (f : ℕ → Entry) (n : ℕ) (acc x : Float) (i : ℕ) → Summing r f n acc i → i < n → x ≡ add_term r acc (f i).bottom (f i).count → Summing r f n x (i + 1)
 unfolding sum_over
 sum_on r f n acc x i s h e =
-    record { goes = ap (λ (y : Float). sum_over r y (listed f (i + 1) (n - (i + 1)))) e ∙ sym (ap (sum_over r acc) (listed-step f i n h)) ∙ s.goes }
+    record { most = omega arith; goes = ap (λ (y : Float). sum_over r y (listed f (i + 1) (n - (i + 1)))) e ∙ sym (ap (sum_over r acc) (listed-step f i n h)) ∙ s.goes }
 
 pub sum_end : (r : Rule) (f : ℕ → Entry) (n : ℕ) (acc : Float) (i : ℕ) → Summing r f n acc i → n ≤ i → acc ≡ sum_over r plus_zero (listed f 0 n)
 unfolding sum_over
