@@ -9,8 +9,7 @@ use crate::judge::judge_layers;
 use crate::keeping::keep_layers;
 use header::{Answered, Header, Shape, Totals};
 use layout::lengths_match;
-use state_lines::cells::Next;
-use state_lines::heads::{FirstLine, HeadLines, first_at, head_at};
+use state_lines::heads::{first_at, head_at};
 
 fn refused(refusal: u64) -> Answered
     ensures { result ≡ record { refusal = refusal; header = zero_header } }
@@ -34,10 +33,15 @@ pub fn read_state(
         ≡ read_call text.now (lent_in zero_header counters norms entries counts) }
 {
     let x = first_at(text, 0);
-    let FirstLine::At(heap, rows, cols, layers, p) = x else {
+    let Some((first, p)) = x else {
         return refused(15);
     };
-    let shape = Shape::one_tier(heap as usize, rows as usize, cols as usize, layers as usize);
+    let shape = Shape::one_tier(
+        first.heap as usize,
+        first.rows as usize,
+        first.cols as usize,
+        first.layers as usize,
+    );
     let n = shape.refusal();
     if n != 0 {
         return refused(n);
@@ -52,19 +56,22 @@ pub fn read_state(
         return refused(16);
     }
     let y = head_at(text, p);
-    let HeadLines::At(weight, updates, mode, q) = y else {
+    let Some((head, q)) = y else {
         return refused(15);
     };
     let z = judge_layers(text, q, shape);
-    let Next::At(end) = z else {
+    let Some(end) = z else {
         return refused(15);
     };
     if end < text.len() {
         return refused(15);
     }
-    let m = header::mode_of(mode);
+    let m = header::mode_of(head.mode);
     let h = Header::fresh(shape)
-        .with_totals(Totals { weight, updates })
+        .with_totals(Totals {
+            weight: head.weight,
+            updates: head.updates,
+        })
         .with_mode(m);
     Answered {
         refusal: 0,
