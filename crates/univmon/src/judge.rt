@@ -90,11 +90,14 @@ pub fn all_ready(
     requires { JudgeReady (lent_now (head_now h lens flags) counters norms entries counts) «record».now weight many first }
     ensures { result ≡ all_layers (ready_at h.shape «record».now weight) many first (view (lent (head_of h lens.now flags.now) counters.now norms.now entries.now counts.now)) }
 {
-    (first..first + many).all(|l| {
-        ready_at(
+    for l in first..first + many {
+        if !ready_at(
             h, lens, flags, counters, norms, entries, counts, record, weight, l,
-        )
-    })
+        ) {
+            return false;
+        }
+    }
+    true
 }
 
 // Whether all that is read of the touched layers is in range.
