@@ -18,12 +18,13 @@ pub fn set_total_weight(header: Header, weight: u64) -> Answered
     if words::MAX_WEIGHT < weight {
         return Answered { refusal: 7, header };
     }
-    let settled = header::join(mode, Mode::Standard);
     Answered {
         refusal: 0,
-        header: header
-            .with_totals(header.totals.with_weight(weight))
-            .with_mode(settled),
+        header: Header {
+            totals: header.totals.with_weight(weight),
+            mode: header::join(mode, Mode::Standard),
+            ..header
+        },
     }
 }
 

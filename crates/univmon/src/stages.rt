@@ -211,10 +211,7 @@ fn send_key(
 pub fn bottom_word(record: &[u64]) -> u64
     ensures { result ≡ bottom_word «record».now }
 {
-    if record.len() < 2 {
-        return 0;
-    }
-    record[1]
+    record.get(1).copied().unwrap_or(0)
 }
 
 // All of an update but its beginning; `begins` is the number that the beginning is refused with, or 0.

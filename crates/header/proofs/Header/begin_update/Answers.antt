@@ -5,5 +5,5 @@ use Rattle.header.proofs.Header.begin_update.Goals as goal
 
 pub returns : goal.returns
 returns c =
-    let b = rw (to_z-of_z c.ranges.weight, c.scalars.ensures) at c.begin_update-begun.ensures in
-    rw (c.with_mode.ensures, c.with_totals.ensures) (header_begins c.args.self c.args.weight c.args.mode c.begin_update-begun.result b)
+    let b = rw (to_z-of_z c.ranges.weight, c.scalars.ensures) at c.begin_update-refusal.ensures in
+    header_begins c.args.self c.args.weight c.args.mode c.begin_update-refusal.result b

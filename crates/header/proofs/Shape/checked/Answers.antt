@@ -1,13 +1,13 @@
 -- `header::Shape::checked` meets its contract.
-use mathlib.Core.Path.{sym, ◌∙◌}
+use Rattle.std.proofs.Common.{◌≢◌, sym, ◌∙◌, arith}
 use borrow.Author.Tests.{eq-eqb, ne_eqb}
 use Rattle.header.specs.Shape.{checked_shape}
 use Rattle.header.proofs.Shape.checked.Goals as goal
 
-pub returns-then-n-ne0 : goal.returns-then-n-ne0
+pub returns-in-0 : goal.returns-in-0
 unfolding checked_shape
-returns-then-n-ne0 c = let e = c.refusal-n.ensures in simp (e, ne_eqb _ 0 (rw e at c.if-n-ne0.true))
+returns-in-0 c = simp (eq-eqb _ 0 (sym c.refusal.ensures ∙ c.in-0.is))
 
-pub returns : goal.returns
+pub returns-in_default : goal.returns-in_default
 unfolding checked_shape
-returns c = let e = c.refusal-n.ensures in simp (eq-eqb _ 0 (sym e ∙ c.if-n-ne0.false))
+returns-in_default c = let n : c.refusal.result ≢ 0 = omega arith in simp (c.refusal.ensures, ne_eqb _ 0 (rw c.refusal.ensures at n))
