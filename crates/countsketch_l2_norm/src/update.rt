@@ -50,12 +50,10 @@ pub fn update_weighted_with_hash(
         ≡ add_rows cols (hash_of high low) weight rows 0 (sketch_of counters.old norms.old rows) }
 {
     let bits = matrix_storage::mask_bits(cols);
-    let mut r = 0;
-    while r < rows {
+    for r in 0..rows {
         let at = place(high, low, bits, cols, r);
         let delta = delta_at(high, low, r, weight);
         add_cell(counters, norms, at, r, delta);
-        r += 1;
     }
 }
 
@@ -98,12 +96,9 @@ fn update_rows(
     ensures buf_after { take rows buf.new ≡ estimates cols (hash_of high low) counters.new rows 0 }
 {
     let bits = matrix_storage::mask_bits(cols);
-    let mut r = 0;
-    while r < rows {
+    for r in 0..rows {
         let at = place(high, low, bits, cols, r);
-        let v = update_row(counters, norms, at, r, high, low, weight);
-        buf[r] = v;
-        r += 1;
+        buf[r] = update_row(counters, norms, at, r, high, low, weight);
     }
 }
 
@@ -150,13 +145,11 @@ pub fn rows_read(
     ensures { result ≡ rows_read cols (hash_of high low) (sketch_of counters.now norms.now rows) rows 0 }
 {
     let bits = matrix_storage::mask_bits(cols);
-    let mut r = 0;
-    while r < rows {
+    for r in 0..rows {
         let at = place(high, low, bits, cols, r);
         if !row_read(counters[at], norm_of(norms, r), cols) {
             return false;
         }
-        r += 1;
     }
     true
 }
@@ -176,15 +169,13 @@ pub fn rows_fit(
     ensures { result ≡ rows_fit cols (hash_of high low) weight counters.now rows 0 }
 {
     let bits = matrix_storage::mask_bits(cols);
-    let mut r = 0;
-    while r < rows {
+    for r in 0..rows {
         let at = place(high, low, bits, cols, r);
         let delta = delta_at(high, low, r, weight);
         let sum = counters[at] + delta;
         if !words::in_range(sum) {
             return false;
         }
-        r += 1;
     }
     true
 }
@@ -232,13 +223,11 @@ pub fn rows_ready(
     ensures { result ≡ rows_ready cols (hash_of high low) weight (sketch_of counters.now norms.now rows) rows 0 }
 {
     let bits = matrix_storage::mask_bits(cols);
-    let mut r = 0;
-    while r < rows {
+    for r in 0..rows {
         let at = place(high, low, bits, cols, r);
         if !row_ready(counters[at], norm_of(norms, r), cols, high, low, r, weight) {
             return false;
         }
-        r += 1;
     }
     true
 }
