@@ -27,23 +27,6 @@ fn held(rows: usize, cols: usize, cells: usize, words: usize) -> bool
     2 * rows <= words
 }
 
-// 1: a fresh layer.
-fn clear(counters: &mut [i64]) {
-    let mut i = 0;
-    while i < counters.len() {
-        counters[i] = 0;
-        i += 1;
-    }
-}
-
-fn clear_norms(norms: &mut [u64]) {
-    let mut i = 0;
-    while i < norms.len() {
-        norms[i] = 0;
-        i += 1;
-    }
-}
-
 // 4: the estimate of a hash's count, as a float and cut.
 fn estimate(
     output: Stdout,
@@ -148,16 +131,10 @@ fn l2(output: Stdout, norms: &[u64], rows: usize, cols: usize) -> io::Result<()>
 
 // A digest of the first n counters.
 fn digest(counters: &[i64], n: usize) -> u64 {
-    let mut d: u64 = 0;
-    let mut i = 0;
-    while i < n {
-        if counters.len() <= i {
-            return d;
-        }
-        d = vectors::mixed(d, vectors::unsigned(counters[i]));
-        i += 1;
-    }
-    d
+    counters
+        .iter()
+        .take(n)
+        .fold(0, |d, x| vectors::mixed(d, vectors::unsigned(*x)))
 }
 
 // 6: the state: a digest of the counters, and each row's norm, low word and high word.
@@ -173,10 +150,8 @@ fn state(
     }
     let n = rows * cols;
     vectors::print(output, digest(counters, n))?;
-    let mut i = 0;
-    while i < 2 * rows {
-        vectors::print(output, norms[i])?;
-        i += 1;
+    for word in &norms[..2 * rows] {
+        vectors::print(output, *word)?;
     }
     Ok(())
 }
@@ -186,15 +161,8 @@ fn keep(op: u64, counters: &[i64], other: &mut [i64]) {
     if op != 7 {
         return;
     }
-    let mut i = 0;
-    while i < other.len() {
-        if counters.len() <= i {
-            return;
-        }
-        let x = counters[i];
-        other[i] = x;
-        i += 1;
-    }
+    let n = other.len().min(counters.len());
+    other[..n].copy_from_slice(&counters[..n]);
 }
 
 // 8: the counters that were set aside are merged in.
@@ -280,12 +248,12 @@ fn ask(
     Ok(())
 }
 
-// The operations that set counters and norms by hand.
+// The operations that set counters and norms by hand. 1: a fresh layer.
 fn set(call: Call, counters: &mut [i64], norms: &mut [u64]) {
     let op = call.op;
     if op == 1 {
-        clear(counters);
-        clear_norms(norms);
+        counters.fill(0);
+        norms.fill(0);
         return;
     }
     if op == 9 {
@@ -340,8 +308,7 @@ fn serve(
 ) -> io::Result<()> {
     let mut rows = 0;
     let mut cols = 0;
-    let mut turns: u64 = 1000000;
-    while 0 < turns {
+    for _ in 0..1000000 {
         let call = next(input);
         let op = call.op;
         if op == 0 {
@@ -355,7 +322,6 @@ fn serve(
         ask(output, call, &*counters, &*norms, rows, cols)?;
         set(call, counters, norms);
         change(output, call, counters, norms, &*other, rows, cols)?;
-        turns -= 1;
     }
     Ok(())
 }
