@@ -21,10 +21,7 @@ fn held(rows: usize, cols: usize, cells: usize, words: usize) -> bool
     if matrix_storage::check_hash_bits(rows, cols) != 0 {
         return false;
     }
-    if cells < rows * cols {
-        return false;
-    }
-    2 * rows <= words
+    rows * cols <= cells && 2 * rows <= words
 }
 
 // 4: the estimate of a hash's count, as a float and cut.
@@ -95,10 +92,7 @@ fn delta(
     if !held(rows, cols, counters.len(), norms.len()) {
         return Ok(());
     }
-    if rows <= row {
-        return vectors::print_refusal(output, 8);
-    }
-    if cols <= col {
+    if rows <= row || cols <= col {
         return vectors::print_refusal(output, 8);
     }
     if !countsketch_l2_norm::cell_read(&*counters, &*norms, rows, cols, row, col) {
@@ -180,10 +174,7 @@ fn merge(
     if counters.len() != other.len() {
         return Ok(());
     }
-    if !countsketch_l2_norm::all_in(&*counters) {
-        return vectors::print_refusal(output, 9);
-    }
-    if !countsketch_l2_norm::all_in(other) {
+    if !countsketch_l2_norm::all_in(&*counters) || !countsketch_l2_norm::all_in(other) {
         return vectors::print_refusal(output, 9);
     }
     if !countsketch_l2_norm::sums_fit(&*counters, other) {
@@ -195,14 +186,14 @@ fn merge(
 
 // 9 and 10: a counter or a word of the norms is set, to meet the refusals of what is read.
 fn set_cell(counters: &mut [i64], i: usize, x: i64) {
-    if i < counters.len() {
-        counters[i] = x;
+    if let Some(cell) = counters.get_mut(i) {
+        *cell = x;
     }
 }
 
 fn set_word(norms: &mut [u64], i: usize, x: u64) {
-    if i < norms.len() {
-        norms[i] = x;
+    if let Some(word) = norms.get_mut(i) {
+        *word = x;
     }
 }
 
@@ -235,33 +226,24 @@ fn ask(
     rows: usize,
     cols: usize,
 ) -> io::Result<()> {
-    let op = call.op;
-    if op == 4 {
-        return estimate(output, counters, rows, cols, call.a, call.b);
+    match call.op {
+        4 => estimate(output, counters, rows, cols, call.a, call.b),
+        5 => l2(output, norms, rows, cols),
+        6 => state(output, counters, norms, rows, cols),
+        _ => Ok(()),
     }
-    if op == 5 {
-        return l2(output, norms, rows, cols);
-    }
-    if op == 6 {
-        return state(output, counters, norms, rows, cols);
-    }
-    Ok(())
 }
 
 // The operations that set counters and norms by hand. 1: a fresh layer.
 fn set(call: Call, counters: &mut [i64], norms: &mut [u64]) {
-    let op = call.op;
-    if op == 1 {
-        counters.fill(0);
-        norms.fill(0);
-        return;
-    }
-    if op == 9 {
-        set_cell(counters, call.a as usize, vectors::signed(call.b));
-        return;
-    }
-    if op == 10 {
-        set_word(norms, call.a as usize, call.b);
+    match call.op {
+        1 => {
+            counters.fill(0);
+            norms.fill(0);
+        }
+        9 => set_cell(counters, call.a as usize, vectors::signed(call.b)),
+        10 => set_word(norms, call.a as usize, call.b),
+        _ => {}
     }
 }
 
@@ -275,28 +257,21 @@ fn change(
     rows: usize,
     cols: usize,
 ) -> io::Result<()> {
-    let op = call.op;
-    if op == 2 {
-        return add(output, counters, norms, rows, cols, call.a, call.b, call.c);
-    }
-    if op == 3 {
-        let row = call.a as usize;
-        let col = call.b as usize;
-        return delta(
+    match call.op {
+        2 => add(output, counters, norms, rows, cols, call.a, call.b, call.c),
+        3 => delta(
             output,
             counters,
             norms,
             rows,
             cols,
-            row,
-            col,
+            call.a as usize,
+            call.b as usize,
             vectors::signed(call.c),
-        );
+        ),
+        8 => merge(output, counters, norms, other, rows, cols),
+        _ => Ok(()),
     }
-    if op == 8 {
-        return merge(output, counters, norms, other, rows, cols);
-    }
-    Ok(())
 }
 
 fn serve(
