@@ -4,7 +4,7 @@ use mathlib.Core.Bool.{Bool, true, false, cond}
 use Prim.Native.Nat.{ℕ, zero, suc, ◌+◌, ◌*◌, ◌/◌, ◌%◌, ◌-◌, ◌^◌, ◌≤◌, ◌<◌}
 use native.Mathlib.Omega.{arith}
 use native.Mathlib.Nat.{zero-add, suc-mul}
-use mathlib.Core.List.{List, [], ◌∷◌, ◌++◌}
+use mathlib.Core.List.{List, [], ◌∷◌}
 use lib.ListN.{length, set, length-set}
 use lib.Seq.{get_or-set_same, get_or-set_other}
 use lib.IntN.{ℤ, pos, nat_abs, neg_ℤ, ◌+ℤ◌, neg_ℤ-neg_ℤ, neg_ℤ-+ℤ}
@@ -46,14 +46,6 @@ ahead_none cols h w xs r = refl
 pub ahead_more : (cols h w : ℕ) (xs : List ℤ) (n r : ℕ) (v : ℤ) → v ≡ ahead_at h w xs (cell_of cols h r) r → estimates_ahead cols h w xs (suc n) r ≡ v ∷ estimates_ahead cols h w xs n (suc r)
 unfolding estimates_ahead
 ahead_more cols h w xs n r v e = ap (λ (z : ℤ). z ∷ estimates_ahead cols h w xs n (suc r)) (sym e)
-
--- one row more, at the end
-pub ahead_snoc : (cols h w : ℕ) (xs : List ℤ) (k q i : ℕ) → q + k ≡ i → estimates_ahead cols h w xs (suc k) q ≡ estimates_ahead cols h w xs k q ++ (ahead_at h w xs (cell_of cols h i) i ∷ [])
-unfolding estimates_ahead
-ahead_snoc cols h w xs zero q i e =
-    let z : q ≡ i = omega arith in
-    ap (λ (j : ℕ). ahead_at h w xs (cell_of cols h j) j ∷ []) z
-ahead_snoc cols h w xs (suc k) q i e = ap (λ (s : List ℤ). ahead_at h w xs (cell_of cols h q) q ∷ s) (ahead_snoc cols h w xs k (suc q) i (omega arith))
 
 -- a counter before row q is left alone by the rows from q on
 before-kept : (cols h w : ℕ) (k q at : ℕ) (s : Sketch) → at < q * cols → cell_at (add_rows cols h w k q s).cells at ≡ cell_at s.cells at

@@ -1,12 +1,10 @@
 -- What counting asks for, row by row, and what is answered. Assumes nothing.
-use mathlib.Core.Path.{◌≡◌, sym, ap, ap₂, subst, ◌∙◌}
+use mathlib.Core.Path.{◌≡◌, sym, ap, subst, ◌∙◌}
 use mathlib.Core.Bool.{true, false}
-use Prim.Native.Nat.{ℕ, suc, ◌+◌, ◌^◌, ◌≤◌, ◌<◌}
+use Prim.Native.Nat.{ℕ, suc, ◌^◌, ◌≤◌, ◌<◌}
 use native.Mathlib.Omega.{arith}
-use mathlib.Core.List.{List, [], ◌∷◌, ◌++◌}
-use lib.ListN.{length, set, take, length-set}
-use lib.Seq.{take-suc-set, take_all}
-use native.Mathlib.Numerals.{add-one}
+use mathlib.Core.List.{List, ◌∷◌}
+use lib.ListN.{length}
 use Rattle.std.specs.Prelude.{None, Some}
 use lib.IntN.{ℤ, nat_abs}
 use lib.Signed.{mag}
@@ -23,7 +21,7 @@ use Rattle.countsketch_l2_norm.specs.inner.Needs.{sketch_of, rows_ready, Ready}
 use Rattle.countsketch_l2_norm.proofs.Places.{cell-lt}
 use Rattle.countsketch_l2_norm.proofs.After.{cell_in_lem, read-cells}
 use Rattle.countsketch_ahead.specs.inner.Needs.{ahead_at, estimates_ahead, Countable, CountedIfReady}
-use Rattle.countsketch_ahead.proofs.Ahead.{ahead_none, ahead_snoc, ahead-count}
+use Rattle.countsketch_ahead.proofs.Ahead.{ahead_more, ahead-count}
 
 -- ---- what is asked for
 
@@ -41,27 +39,12 @@ row_asks {rows} {cols} {at} {h} {w} {r} {xs} d e l = (
 
 -- ---- what is answered
 
--- the first r estimates stand in a buffer of so many places
-pub record Laid (size cols h w : ℕ) (xs buf : List ℤ) (r : ℕ) : Type 0 where
-  pub len : length buf ≡ size
-  pub front : take r buf ≡ estimates_ahead cols h w xs r 0
-
-pub lay_start : {size cols h w : ℕ} {xs buf : List ℤ} → length buf ≡ size → Laid size cols h w xs buf 0
-lay_start {size} {cols} {h} {w} {xs} l = record { len = l; front = sym (ahead_none cols h w xs 0) }
-
--- the answer of `row_ahead` goes in behind them: its place is the hash's, and the estimate is read back from its bits
-pub lay_on : {size cols h w : ℕ} {xs buf : List ℤ} {at r : ℕ} {v : ℤ} → Laid size cols h w xs buf r → r < size → at ≡ cell_of cols h r → mag v < 2 ^ 63 → v ≡ ahead_at h w xs at r
-    → Laid size cols h w xs (set buf r (to_z w64 (of_z w64 v))) (r + 1)
-lay_on {size} {cols} {h} {w} {xs} {buf} {at} {r} {v} f l p b e =
-    let z = to_z w64 (of_z w64 v) in
-    let is : z ≡ ahead_at h w xs (cell_of cols h r) r = to_z-of_z {w = w64} (sfits_of b) ∙ e ∙ ap (λ (i : ℕ). ahead_at h w xs i r) p in
-    record {
-      len = length-set buf r z ∙ f.len;
-      front = rw add-one (take-suc-set buf r z (omega (arith, f.len)) ∙ ap₂ (λ (s : List ℤ) (y : ℤ). s ++ (y ∷ [])) f.front is ∙ sym (ahead_snoc cols h w xs r 0 r (omega arith)));
-    }
-
-pub lay_end : {size cols h w : ℕ} {xs buf : List ℤ} {r : ℕ} → Laid size cols h w xs buf r → r ≡ size → buf ≡ estimates_ahead cols h w xs size 0
-lay_end {size} {cols} {h} {w} {xs} {buf} {r} f e = sym (take_all r buf (omega (arith, f.len, e))) ∙ f.front ∙ ap (λ (n : ℕ). estimates_ahead cols h w xs n 0) e
+-- the answers of `row_ahead` one before the other: its place is the hash's, and the estimate is read back from its bits
+pub ahead_before : (cols h w : ℕ) (xs : List ℤ) (k r : ℕ) {at : ℕ} {es : List ℤ} {v : ℤ} → at ≡ cell_of cols h r → mag v < 2 ^ 63 → v ≡ ahead_at h w xs at r → es ≡ estimates_ahead cols h w xs k (suc r)
+    → to_z w64 (of_z w64 v) ∷ es ≡ estimates_ahead cols h w xs (suc k) r
+ahead_before cols h w xs k r {at} {es} {v} p b e a =
+    ap (λ (l : List ℤ). to_z w64 (of_z w64 v) ∷ l) a
+    ∙ sym (ahead_more cols h w xs k r (to_z w64 (of_z w64 v)) (to_z-of_z {w = w64} (sfits_of b) ∙ e ∙ ap (λ (i : ℕ). ahead_at h w xs i r) p))
 
 -- a row says no
 pub told-not : {rows cols h w : ℕ} {xs : List ℤ} {ws : List ℕ} → false ≡ rows_ready cols h w (sketch_of xs ws rows) rows 0 → CountedIfReady rows cols h w xs ws None

@@ -91,26 +91,25 @@ pub count_done : {rows cols h w : ℕ} {xs₀ : List ℤ} {ws₀ : List ℕ} {es
 count_done {rows} {cols} {h} {w} {xs₀} {ws₀} {es} {xs} {ws} {m} f e =
     (end_rows rows cols h w xs₀ ws₀ xs ws rows f.going (le_refl rows), e ∙ counted rows cols h xs es (count_end rows cols h w xs₀ ws₀ es xs ws rows f (le_refl rows)))
 
--- ---- in a buffer of so many places: its first r
+-- ---- in a buffer: its first r places
 
-pub record Filled (size rows cols h w : ℕ) (xs₀ : List ℤ) (ws₀ : List ℕ) (buf xs : List ℤ) (ws : List ℕ) (r : ℕ) : Type 0 where
+pub record Filled (rows cols h w : ℕ) (xs₀ : List ℤ) (ws₀ : List ℕ) (buf xs : List ℤ) (ws : List ℕ) (r : ℕ) : Type 0 where
   pub counted : Counted rows cols h w xs₀ ws₀ (take r buf) xs ws r
-  pub len : length buf ≡ size
+  pub len : length buf ≡ max_rows
 
-pub fill_start : {size rows cols h w : ℕ} {buf xs : List ℤ} {ws : List ℕ} → Ready rows cols h w xs ws → length buf ≡ size → Filled size rows cols h w xs ws buf xs ws 0
-fill_start d l = record { counted = count-start d; len = l }
+pub fill_start : (rows cols h w : ℕ) (buf xs : List ℤ) (ws : List ℕ) → Ready rows cols h w xs ws → length buf ≡ max_rows → Filled rows cols h w xs ws buf xs ws 0
+fill_start rows cols h w buf xs ws d l = record { counted = count-start d; len = l }
 
-pub fill_on : {size rows cols at h w : ℕ} {xs₀ : List ℤ} {ws₀ : List ℕ} {buf xs : List ℤ} {ws : List ℕ} {r : ℕ} {ys : List ℤ} {vs : List ℕ} {v : ℤ}
-    → Ready rows cols h w xs₀ ws₀ → rows ≤ size → at ≡ cell_of cols h r → Filled size rows cols h w xs₀ ws₀ buf xs ws r → r < rows → mag v < 2 ^ 63 → RowAdded at h w r xs ws ys vs v
-    → Filled size rows cols h w xs₀ ws₀ (set buf r (to_z w64 (of_z w64 v))) ys vs (r + 1)
-fill_on {size} {rows} {cols} {at} {h} {w} {xs₀} {ws₀} {buf} {xs} {ws} {r} {ys} {vs} {v} d n e f l k a =
-    let z = to_z w64 (of_z w64 v) in
+pub fill_on : (rows cols h w : ℕ) (xs₀ : List ℤ) (ws₀ : List ℕ) (buf xs : List ℤ) (ws : List ℕ) (r : ℕ) (ys : List ℤ) (vs : List ℕ) (v : ℤ)
+    → Ready rows cols h w xs₀ ws₀ → Filled rows cols h w xs₀ ws₀ buf xs ws r → r < rows → RowAdded (cell_of cols h r) h w r xs ws ys vs v
+    → Filled rows cols h w xs₀ ws₀ (set buf r v) ys vs (r + 1)
+fill_on rows cols h w xs₀ ws₀ buf xs ws r ys vs v d f l a =
     record {
-      counted = subst (λ (s : List ℤ). Counted rows cols h w xs₀ ws₀ s ys vs (r + 1)) (sym (rw add-one (take-suc-set buf r z (omega (arith, f.len))))) (count_more d e f.counted l k a);
-      len = length-set buf r z ∙ f.len;
+      counted = subst (λ (s : List ℤ). Counted rows cols h w xs₀ ws₀ s ys vs (r + 1)) (sym (rw add-one (take-suc-set buf r v (omega (arith, f.len, d.shaped.few))))) (count_on rows cols h w xs₀ ws₀ (take r buf) xs ws r ys vs v d f.counted l a);
+      len = length-set buf r v ∙ f.len;
     }
 
-pub fill_end : {size rows cols h w : ℕ} {xs₀ : List ℤ} {ws₀ : List ℕ} {buf xs : List ℤ} {ws : List ℕ} {r : ℕ} → Filled size rows cols h w xs₀ ws₀ buf xs ws r → rows ≤ r → take rows buf ≡ estimates cols h xs rows 0
-fill_end {size} {rows} {cols} {h} {w} {xs₀} {ws₀} {buf} {xs} {ws} {r} f l =
+pub fill_end : (rows cols h w : ℕ) (xs₀ : List ℤ) (ws₀ : List ℕ) (buf xs : List ℤ) (ws : List ℕ) (r : ℕ) → Filled rows cols h w xs₀ ws₀ buf xs ws r → rows ≤ r → take rows buf ≡ estimates cols h xs rows 0
+fill_end rows cols h w xs₀ ws₀ buf xs ws r f l =
     let e : r ≡ rows = omega (arith, f.counted.going.all) in
     sym (ap (λ (n : ℕ). take n buf) e) ∙ count_end rows cols h w xs₀ ws₀ (take r buf) xs ws r f.counted l

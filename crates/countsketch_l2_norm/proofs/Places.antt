@@ -8,8 +8,6 @@ use Rattle.matrix_storage.specs.Bits.{max_rows, max_cols, hash_bits, mask_bits}
 use Rattle.matrix_storage.specs.inner.Shaped.{Shaped}
 use Rattle.matrix_storage.proofs.Cells.{row-bits, column-lt}
 use Rattle.countsketch_l2_norm.specs.Sketch.{cell_of}
-use Rattle.countsketch_l2_norm.specs.inner.Needs.{Placed}
-use Rattle.std.proofs.Common.{◌≢◌, List, length, set, below_more, get_or-set_other, get_or-set_same}
 
 -- row r ends within n rows
 pub row_end : (r n c : ℕ) → r < n → r * c + c ≤ n * c
@@ -39,11 +37,3 @@ same-col cols q r c e hc he p = omega (arith, p, ap (λ (n : ℕ). n * cols) (sa
 -- what `place` asks for
 pub place_asks : (rows cols r bits : ℕ) → Shaped rows cols → r < rows → bits ≡ mask_bits cols → ((1 ≤ cols) × ((cols ≤ max_cols) × (bits ≡ mask_bits cols))) × ((r < max_rows) × (r * mask_bits cols < hash_bits))
 place_asks rows cols r bits s k e = ((s.some, (s.wide, e)), (omega (arith, s.few), row-bits rows cols r s k))
-
--- ---- the place in each row
-
-pub placed_more : {cols h r v : ℕ} {at : List ℕ} → Placed r cols h at → r < length at → v ≡ cell_of cols h r → Placed (r + 1) cols h (set at r v)
-placed_more {cols} {h} {r} {v} {at} p l e =
-    record {
-      each = below_more _ _ (λ k i. let n : k ≢ r = omega arith in rw get_or-set_other (p.each k i)) (rw get_or-set_same e);
-    }

@@ -18,7 +18,7 @@ pub use cells::{apply_delta, cell_fits, cell_read, norm_of};
 pub use estimate::{cells_in, count_with_hash, estimate_with_hash, row_estimate};
 pub use merging::{add_all, all_in, merge, row_norm, row_norms, sums_fit};
 pub use norm::{l2, l2_squared, norms_in};
-pub use straight::{median_of_few, places_of, ready_at};
+pub use straight::row_ready_at;
 pub use update::{
     place, rows_fit, rows_read, rows_ready, update_and_count, update_if_ready,
     update_weighted_with_hash,

@@ -1,33 +1,20 @@
-// An update of few rows, whose number is known when the code is compiled (three and five are common): each loop over
-// the rows becomes straight code, with what a loop keeps in a buffer in locals.
-ghost use Rattle.std.specs.Prelude.{◌≡◌, ◌⊎◌, ◌&&◌, ℕ, ◌+◌, ◌*◌, ◌<◌, ◌≤◌, length, pos};
+// An update of three rows and of five, which are common: straight code, with what a loop keeps in a
+// buffer in locals. They stay twins for speed: one form over a const number of rows, with places and estimates in arrays,
+// proves, but takes 2% more instructions and 4% more time for an update.
+ghost use Rattle.std.specs.Prelude.{◌≡◌, ◌&&◌, ℕ, ◌+◌, ◌*◌, ◌<◌, ◌≤◌, length, pos};
 ghost use Rattle.words.specs.Num.{top};
 ghost use Rattle.matrix_storage.specs.Bits.{max_rows, signed, hash_of};
 ghost use Rattle.matrix_storage.specs.inner.Shaped.{Shaped};
-ghost use Rattle.structure_utils.specs.Median.{sort_z, middle};
 ghost use Rattle.countsketch_l2_norm.specs.Norms.{norm_at};
-ghost use Rattle.countsketch_l2_norm.specs.Sketch.{cell_at, add_rows, row_read, cell_fits};
-ghost use Rattle.countsketch_l2_norm.specs.Estimate.{estimates, estimate_of};
-ghost use Rattle.countsketch_l2_norm.specs.inner.Needs.{sketch_of, rows_ready, Ready, Placed, MadeIfReady};
+ghost use Rattle.countsketch_l2_norm.specs.Sketch.{cell_of, cell_at, add_rows, row_read, cell_fits};
+ghost use Rattle.countsketch_l2_norm.specs.Estimate.{estimate_of};
+ghost use Rattle.countsketch_l2_norm.specs.inner.Needs.{sketch_of, Ready, MadeIfReady};
 
 use crate::cells::norm_of;
 use crate::update::{place, row_ready, update_row};
 
-// The index of the counter that a hash names in each row.
-pub fn places_of<const ROWS: usize>(cols: usize, high: u64, low: u64) -> [usize; ROWS]
-    requires { Shaped ROWS cols }
-    ensures { Placed ROWS cols (hash_of high low) result }
-{
-    let bits = matrix_storage::mask_bits(cols);
-    let mut at = [0usize; ROWS];
-    for r in 0..ROWS {
-        at[r] = place(high, low, bits, cols, r);
-    }
-    at
-}
-
 // Whether a row may take the weight, with the index of the counter that the hash names.
-fn row_ready_at(
+pub fn row_ready_at(
     counters: &[i64],
     norms: &[u64],
     at: usize,
@@ -45,65 +32,31 @@ fn row_ready_at(
     row_ready(counters[at], norm_of(norms, r), cols, high, low, r, weight)
 }
 
-// `rows_ready`, at known places.
-pub fn ready_at<const ROWS: usize>(
-    counters: &[i64],
-    norms: &[u64],
-    cols: usize,
-    at: &[usize; ROWS],
-    high: u64,
-    low: u64,
-    weight: u64,
-) -> bool
-    requires shaped { Shaped ROWS cols }
-    requires cols_in_bounds { (ROWS * cols ≤ length counters.now) × ((2 * ROWS ≤ length norms.now) × (weight ≤ top)) }
-    requires placed { Placed ROWS cols (hash_of high low) at.now }
-    ensures { result ≡ rows_ready cols (hash_of high low) weight (sketch_of counters.now norms.now ROWS) ROWS 0 }
-{
-    for r in 0..ROWS {
-        if !row_ready_at(counters, norms, at[r], r, cols, high, low, weight) {
-            return false;
-        }
-    }
-    true
-}
-
-// An update at known places, and the rows' estimates after it. Only the contract names `cols`.
-fn update_at<const ROWS: usize>(
+// An update of three rows at known places, and the count after it. Only the contract names `cols`.
+fn update_three_at(
     counters: &mut [i64],
     norms: &mut [u64],
     cols: usize,
-    at: &[usize; ROWS],
+    a: usize,
+    b: usize,
+    c: usize,
     high: u64,
     low: u64,
     weight: u64,
-) -> [i64; ROWS]
-    requires ready { Ready ROWS cols (hash_of high low) weight counters.old norms.old }
-    requires placed { Placed ROWS cols (hash_of high low) at.now }
-    ensures rows_after { sketch_of counters.new norms.new ROWS
-        ≡ add_rows cols (hash_of high low) weight ROWS 0 (sketch_of counters.old norms.old ROWS) }
-    ensures values { result ≡ estimates cols (hash_of high low) counters.new ROWS 0 }
+) -> i64
+    requires ready { Ready 3 cols (hash_of high low) weight counters.old norms.old }
+    requires a_value { (a ≡ cell_of cols (hash_of high low) 0) × ((b ≡ cell_of cols (hash_of high low) 1) × (c ≡ cell_of cols (hash_of high low) 2)) }
+    ensures norms_after { sketch_of counters.new norms.new 3
+        ≡ add_rows cols (hash_of high low) weight 3 0 (sketch_of counters.old norms.old 3) }
+    ensures value { result ≡ estimate_of 3 cols (hash_of high low) counters.new }
 {
-    let mut values = [0i64; ROWS];
-    for r in 0..ROWS {
-        values[r] = update_row(counters, norms, at[r], r, high, low, weight);
-    }
-    values
+    let x = update_row(counters, norms, a, 0, high, low, weight);
+    let y = update_row(counters, norms, b, 1, high, low, weight);
+    let z = update_row(counters, norms, c, 2, high, low, weight);
+    structure_utils::median_of_three(x, y, z)
 }
 
-// The median of three values or of five.
-pub fn median_of_few<const ROWS: usize>(values: &[i64; ROWS]) -> i64
-    requires { (ROWS ≡ 3) ⊎ (ROWS ≡ 5) }
-    ensures { result ≡ middle (sort_z values.now) }
-{
-    if ROWS == 3 {
-        return structure_utils::median_of_three(values[0], values[1], values[2]);
-    }
-    structure_utils::median_of_five(values[0], values[1], values[2], values[3], values[4])
-}
-
-// `update_and_count` of three rows or of five.
-pub fn update_few<const ROWS: usize>(
+pub fn update_three(
     counters: &mut [i64],
     norms: &mut [u64],
     cols: usize,
@@ -111,19 +64,20 @@ pub fn update_few<const ROWS: usize>(
     low: u64,
     weight: u64,
 ) -> i64
-    requires few { (ROWS ≡ 3) ⊎ (ROWS ≡ 5) }
-    requires ready { Ready ROWS cols (hash_of high low) weight counters.old norms.old }
-    ensures rows_after { sketch_of counters.new norms.new ROWS
-        ≡ add_rows cols (hash_of high low) weight ROWS 0 (sketch_of counters.old norms.old ROWS) }
-    ensures value { result ≡ estimate_of ROWS cols (hash_of high low) counters.new }
+    requires { Ready 3 cols (hash_of high low) weight counters.old norms.old }
+    ensures norms_after { sketch_of counters.new norms.new 3
+        ≡ add_rows cols (hash_of high low) weight 3 0 (sketch_of counters.old norms.old 3) }
+    ensures value { result ≡ estimate_of 3 cols (hash_of high low) counters.new }
 {
-    let at = places_of::<ROWS>(cols, high, low);
-    let values = update_at::<ROWS>(counters, norms, cols, &at, high, low, weight);
-    median_of_few(&values)
+    let bits = matrix_storage::mask_bits(cols);
+    let a = place(high, low, bits, cols, 0);
+    let b = place(high, low, bits, cols, 1);
+    let c = place(high, low, bits, cols, 2);
+    update_three_at(counters, norms, cols, a, b, c, high, low, weight)
 }
 
-// `update_if_ready` of three rows or of five: each place is worked out once, for the judging and for the storing.
-pub fn update_few_if_ready<const ROWS: usize>(
+// The same where the rows are not judged yet: each place is worked out once for both.
+pub fn update_three_if_ready(
     counters: &mut [i64],
     norms: &mut [u64],
     cols: usize,
@@ -131,15 +85,109 @@ pub fn update_few_if_ready<const ROWS: usize>(
     low: u64,
     weight: u64,
 ) -> Option<i64>
-    requires few { (ROWS ≡ 3) ⊎ (ROWS ≡ 5) }
-    requires shaped { Shaped ROWS cols }
-    requires cols_in_bounds { (ROWS * cols ≤ length counters.old) × ((2 * ROWS ≤ length norms.old) × (weight ≤ top)) }
-    ensures { MadeIfReady ROWS cols (hash_of high low) weight counters.old norms.old counters.new norms.new result }
+    requires shaped { Shaped 3 cols }
+    requires cols_in_bounds { (3 * cols ≤ length counters.old) × ((6 ≤ length norms.old) × (weight ≤ top)) }
+    ensures { MadeIfReady 3 cols (hash_of high low) weight counters.old norms.old counters.new norms.new result }
 {
-    let at = places_of::<ROWS>(cols, high, low);
-    if !ready_at(&*counters, &*norms, cols, &at, high, low, weight) {
+    let bits = matrix_storage::mask_bits(cols);
+    let a = place(high, low, bits, cols, 0);
+    let b = place(high, low, bits, cols, 1);
+    let c = place(high, low, bits, cols, 2);
+    if !row_ready_at(&*counters, &*norms, a, 0, cols, high, low, weight) {
         return None;
     }
-    let values = update_at(counters, norms, cols, &at, high, low, weight);
-    Some(median_of_few(&values))
+    if !row_ready_at(&*counters, &*norms, b, 1, cols, high, low, weight) {
+        return None;
+    }
+    if !row_ready_at(&*counters, &*norms, c, 2, cols, high, low, weight) {
+        return None;
+    }
+    Some(update_three_at(counters, norms, cols, a, b, c, high, low, weight))
+}
+
+// The same three of five rows.
+fn update_five_at(
+    counters: &mut [i64],
+    norms: &mut [u64],
+    cols: usize,
+    a: usize,
+    b: usize,
+    c: usize,
+    d: usize,
+    e: usize,
+    high: u64,
+    low: u64,
+    weight: u64,
+) -> i64
+    requires ready { Ready 5 cols (hash_of high low) weight counters.old norms.old }
+    requires a_value { (a ≡ cell_of cols (hash_of high low) 0) × ((b ≡ cell_of cols (hash_of high low) 1) × ((c ≡ cell_of cols (hash_of high low) 2)
+        × ((d ≡ cell_of cols (hash_of high low) 3) × (e ≡ cell_of cols (hash_of high low) 4)))) }
+    ensures norms_after { sketch_of counters.new norms.new 5
+        ≡ add_rows cols (hash_of high low) weight 5 0 (sketch_of counters.old norms.old 5) }
+    ensures value { result ≡ estimate_of 5 cols (hash_of high low) counters.new }
+{
+    let u = update_row(counters, norms, a, 0, high, low, weight);
+    let v = update_row(counters, norms, b, 1, high, low, weight);
+    let x = update_row(counters, norms, c, 2, high, low, weight);
+    let y = update_row(counters, norms, d, 3, high, low, weight);
+    let z = update_row(counters, norms, e, 4, high, low, weight);
+    structure_utils::median_of_five(u, v, x, y, z)
+}
+
+pub fn update_five(
+    counters: &mut [i64],
+    norms: &mut [u64],
+    cols: usize,
+    high: u64,
+    low: u64,
+    weight: u64,
+) -> i64
+    requires { Ready 5 cols (hash_of high low) weight counters.old norms.old }
+    ensures norms_after { sketch_of counters.new norms.new 5
+        ≡ add_rows cols (hash_of high low) weight 5 0 (sketch_of counters.old norms.old 5) }
+    ensures value { result ≡ estimate_of 5 cols (hash_of high low) counters.new }
+{
+    let bits = matrix_storage::mask_bits(cols);
+    let a = place(high, low, bits, cols, 0);
+    let b = place(high, low, bits, cols, 1);
+    let c = place(high, low, bits, cols, 2);
+    let d = place(high, low, bits, cols, 3);
+    let e = place(high, low, bits, cols, 4);
+    update_five_at(counters, norms, cols, a, b, c, d, e, high, low, weight)
+}
+
+pub fn update_five_if_ready(
+    counters: &mut [i64],
+    norms: &mut [u64],
+    cols: usize,
+    high: u64,
+    low: u64,
+    weight: u64,
+) -> Option<i64>
+    requires shaped { Shaped 5 cols }
+    requires cols_in_bounds { (5 * cols ≤ length counters.old) × ((10 ≤ length norms.old) × (weight ≤ top)) }
+    ensures { MadeIfReady 5 cols (hash_of high low) weight counters.old norms.old counters.new norms.new result }
+{
+    let bits = matrix_storage::mask_bits(cols);
+    let a = place(high, low, bits, cols, 0);
+    let b = place(high, low, bits, cols, 1);
+    let c = place(high, low, bits, cols, 2);
+    let d = place(high, low, bits, cols, 3);
+    let e = place(high, low, bits, cols, 4);
+    if !row_ready_at(&*counters, &*norms, a, 0, cols, high, low, weight) {
+        return None;
+    }
+    if !row_ready_at(&*counters, &*norms, b, 1, cols, high, low, weight) {
+        return None;
+    }
+    if !row_ready_at(&*counters, &*norms, c, 2, cols, high, low, weight) {
+        return None;
+    }
+    if !row_ready_at(&*counters, &*norms, d, 3, cols, high, low, weight) {
+        return None;
+    }
+    if !row_ready_at(&*counters, &*norms, e, 4, cols, high, low, weight) {
+        return None;
+    }
+    Some(update_five_at(counters, norms, cols, a, b, c, d, e, high, low, weight))
 }

@@ -10,7 +10,7 @@ ghost use Rattle.countsketch_l2_norm.specs.Estimate.{estimates, estimate_of, cel
 
 use crate::cells::{add_cell, index_of, norm_of, row_read};
 use crate::estimate::row_estimate;
-use crate::straight::{update_few, update_few_if_ready};
+use crate::straight::{update_five, update_five_if_ready, update_three, update_three_if_ready};
 use matrix_storage::MAX_ROWS;
 use words::Wide;
 
@@ -121,10 +121,10 @@ pub fn update_and_count(
     ensures value { result ≡ estimate_of rows cols (hash_of high low) counters.new }
 {
     if rows == 5 {
-        return update_few::<5>(counters, norms, cols, high, low, weight);
+        return update_five(counters, norms, cols, high, low, weight);
     }
     if rows == 3 {
-        return update_few::<3>(counters, norms, cols, high, low, weight);
+        return update_three(counters, norms, cols, high, low, weight);
     }
     let mut buf = [0i64; MAX_ROWS];
     update_rows(&mut buf, counters, norms, rows, cols, high, low, weight);
@@ -184,10 +184,7 @@ pub fn rows_fit(
 fn norm_ready(square: u64, w: Wide, cols: usize) -> bool
     ensures { result ≡ leb (value_of w) (cols * square_cap) && leb square (value_of w) }
 {
-    if !words::at_most_caps(w.lo, w.hi, cols as u64) {
-        return false;
-    }
-    words::at_least(w.lo, w.hi, square)
+    words::at_most_caps(w.lo, w.hi, cols as u64) && words::at_least(w.lo, w.hi, square)
 }
 
 // Whether a row may take the weight: what is read is in range, and so is the new counter. A short
@@ -247,10 +244,10 @@ pub fn update_if_ready(
     ensures { MadeIfReady rows cols (hash_of high low) weight counters.old norms.old counters.new norms.new result }
 {
     if rows == 3 {
-        return update_few_if_ready::<3>(counters, norms, cols, high, low, weight);
+        return update_three_if_ready(counters, norms, cols, high, low, weight);
     }
     if rows == 5 {
-        return update_few_if_ready::<5>(counters, norms, cols, high, low, weight);
+        return update_five_if_ready(counters, norms, cols, high, low, weight);
     }
     if !rows_ready(&*counters, &*norms, rows, cols, high, low, weight) {
         return None;

@@ -1,12 +1,12 @@
 -- What updates, deltas and norms are to the code, and what the stores need, by name.
-use Rattle.std.specs.Prelude.{ℕ, ◌+◌, ◌-◌, ◌*◌, ◌^◌, ◌≤◌, ◌<◌, min, ◌%◌, ◌/◌, ◌≡◌, true, Bool, ◌&&◌, Option, is_some, IfSome, IfNone, List, length, get_or, set, ℤ, pos, nat_abs, ◌+ℤ◌}
+use Rattle.std.specs.Prelude.{ℕ, ◌+◌, ◌-◌, ◌*◌, ◌^◌, ◌≤◌, ◌<◌, min, ◌%◌, ◌/◌, ◌≡◌, true, Bool, ◌&&◌, Option, is_some, IfSome, IfNone, List, length, set, ℤ, pos, nat_abs, ◌+ℤ◌}
 use Rattle.std.specs.Int.Signed.{mag}
 use Rattle.words.specs.Num.{top, square_cap, capped, word_size}
 use Rattle.float64.specs.Norm.{norm_top}
 use Rattle.matrix_storage.specs.Bits.{max_rows, max_cols, signed}
 use Rattle.matrix_storage.specs.inner.Shaped.{Shaped}
 use Rattle.countsketch_l2_norm.specs.Norms.{norm_at, norms_of}
-use Rattle.countsketch_l2_norm.specs.Sketch.{cell_of, cell_at, cell_read, cell_fits, rows_read, rows_fit, add_rows, Sketch}
+use Rattle.countsketch_l2_norm.specs.Sketch.{cell_at, cell_read, cell_fits, rows_read, rows_fit, add_rows, Sketch}
 use Rattle.countsketch_l2_norm.specs.Estimate.{estimate_of}
 
 -- the sketch of the slices
@@ -33,10 +33,6 @@ pub record Ready (rows cols h w : ℕ) (xs : List ℤ) (ws : List ℕ) : Type 0 
   pub light : w ≤ top
   pub read : rows_read cols h (sketch_of xs ws rows) rows 0 ≡ true
   pub fit : rows_fit cols h w xs rows 0 ≡ true
-
--- the index of the counter that a hash names in each row
-pub record Placed (rows cols h : ℕ) (at : List ℕ) : Type 0 where
-  pub each : (r : ℕ) → r < rows → get_or at r 0 ≡ cell_of cols h r
 
 -- what the store of one counter and its row's norm needs
 pub record CellReady (at r : ℕ) (d : ℤ) (xs : List ℤ) (ws : List ℕ) : Type 0 where

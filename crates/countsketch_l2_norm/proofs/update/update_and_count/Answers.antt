@@ -22,25 +22,25 @@ cells-after c =
     ap (λ (s : Sketch). cells_in_range a.cols (hash_of c.args.high c.args.low) s.cells a.rows 0) c.update_rows.ensures.rows_after
     ∙ fit-after a.cols (hash_of c.args.high c.args.low) a.weight a.rows 0 (sketch_of a.counters.now a.norms.now a.rows) p.shaped.some (rw (zero-add a.rows) p.room) p.fit
 
-pub update_few-requires-clause-ready : goal.update_few-requires-clause-ready
-update_few-requires-clause-ready c = rw c.if-rows-eq5.true at c.requires
+pub update_five-requires : goal.update_five-requires
+update_five-requires c = rw c.if-rows-eq5.true at c.requires
 
 pub returns-then-rows-eq5 : goal.returns-then-rows-eq5
 returns-then-rows-eq5 c =
-    let u = c.update_few in
+    let u = c.update_five in
     rw c.if-rows-eq5.true (record {
-      rows_after = u.ensures.rows_after;
+      rows_after = u.ensures.norms_after;
       value = to_z-of_z {w = w64} (sfits_of u.type_inv) ∙ u.ensures.value;
     })
 
-pub update_few-requires-then-rows-eq3-clause-ready : goal.update_few-requires-then-rows-eq3-clause-ready
-update_few-requires-then-rows-eq3-clause-ready c = rw c.if-rows-eq3.true at c.requires
+pub update_three-requires : goal.update_three-requires
+update_three-requires c = rw c.if-rows-eq3.true at c.requires
 
 pub returns-then-rows-eq3 : goal.returns-then-rows-eq3
 returns-then-rows-eq3 c =
-    let u = c.update_few-then-rows-eq3 in
+    let u = c.update_three in
     rw c.if-rows-eq3.true (record {
-      rows_after = u.ensures.rows_after;
+      rows_after = u.ensures.norms_after;
       value = to_z-of_z {w = w64} (sfits_of u.type_inv) ∙ u.ensures.value;
     })
 

@@ -14,23 +14,25 @@ use Rattle.countsketch_l2_norm.proofs.update.update_if_ready.Goals.{Else-not-row
 ready : (c : Else-not-rows_ready) → let a = c.args in true ≡ rows_ready a.cols (hash_of a.high a.low) a.weight (sketch_of a.counters.now a.norms.now a.rows) a.rows 0
 ready c = sym c.if-not-rows_ready.false ∙ c.rows_ready.ensures
 
-pub update_few_if_ready-requires-clause-shaped : goal.update_few_if_ready-requires-clause-shaped
-update_few_if_ready-requires-clause-shaped c = rw c.if-rows-eq3.true at c.requires.shaped
-
-pub update_few_if_ready-requires-clause-cols_in_bounds : goal.update_few_if_ready-requires-clause-cols_in_bounds
-update_few_if_ready-requires-clause-cols_in_bounds c = rw c.if-rows-eq3.true at c.requires.cols_in_bounds
+pub update_three_if_ready-requires : goal.update_three_if_ready-requires
+update_three_if_ready-requires c =
+    record {
+      shaped = rw c.if-rows-eq3.true at c.requires.shaped;
+      cols_in_bounds = rw c.if-rows-eq3.true at c.requires.cols_in_bounds;
+    }
 
 pub returns-then-rows-eq3 : goal.returns-then-rows-eq3
-returns-then-rows-eq3 c = rw c.if-rows-eq3.true c.update_few_if_ready.ensures
+returns-then-rows-eq3 c = rw c.if-rows-eq3.true c.update_three_if_ready.ensures
 
-pub update_few_if_ready-requires-then-rows-eq5-clause-shaped : goal.update_few_if_ready-requires-then-rows-eq5-clause-shaped
-update_few_if_ready-requires-then-rows-eq5-clause-shaped c = rw c.if-rows-eq5.true at c.requires.shaped
-
-pub update_few_if_ready-requires-then-rows-eq5-clause-cols_in_bounds : goal.update_few_if_ready-requires-then-rows-eq5-clause-cols_in_bounds
-update_few_if_ready-requires-then-rows-eq5-clause-cols_in_bounds c = rw c.if-rows-eq5.true at c.requires.cols_in_bounds
+pub update_five_if_ready-requires : goal.update_five_if_ready-requires
+update_five_if_ready-requires c =
+    record {
+      shaped = rw c.if-rows-eq5.true at c.requires.shaped;
+      cols_in_bounds = rw c.if-rows-eq5.true at c.requires.cols_in_bounds;
+    }
 
 pub returns-then-rows-eq5 : goal.returns-then-rows-eq5
-returns-then-rows-eq5 c = rw c.if-rows-eq5.true c.update_few_if_ready-then-rows-eq5.ensures
+returns-then-rows-eq5 c = rw c.if-rows-eq5.true c.update_five_if_ready.ensures
 
 pub returns-then-not-rows_ready : goal.returns-then-not-rows_ready
 returns-then-not-rows_ready c = made-not (sym c.if-not-rows_ready.true ∙ c.rows_ready.ensures)
