@@ -40,11 +40,15 @@ pub fn from_bits(b: u64) -> f64
 
 // ---- whole numbers as floats
 
-// The f64 nearest to n, ties to even.
+// The f64 nearest to n, ties to even. Both halves have 32 digits, so each cast and the product are
+// exact, and the sum is the one rounding. The contract with the user names this form, so it stays beside
+// the library's `nearest_u64_to_f64`.
 pub fn norm_to_f64(n: u64) -> f64
     ensures { result ≡ round binary64 false n 1 }
 {
-    std::num::nearest_u64_to_f64(n)
+    let high = (n >> 32) as f64;
+    let low = (n & 0xffff_ffff) as f64;
+    high * 4294967296.0 + low
 }
 
 // A norm of two words, clamped to 2^63 - 1.

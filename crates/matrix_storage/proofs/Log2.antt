@@ -5,7 +5,7 @@ use Prim.Native.Nat.{ℕ, zero, suc, ◌+◌, ◌-◌, ◌*◌, ◌/◌, ◌%◌
 use native.Mathlib.Nat.{pow-suc, lt_of_not-le, le_antisymm}
 use native.Mathlib.Omega.{arith}
 use native.Mathlib.Numerals.{add-one}
-use borrow.Author.Tests.{lt-ltb, le-ltb, eq-eqb, ne_eqb, eqb-false, eqb-true}
+use borrow.Author.Tests.{lt-ltb, le-ltb, eq-eqb, ne_eqb, eqb-false}
 use lib.Dec.{eqb}
 use lib.Pow.{pow_pos, pow_mono, pow-lt}
 use lib.Count.{ones, ones_step, ones_cat, count_leading_zeros, leading_top}
@@ -67,19 +67,18 @@ top n h u =
     let t = leading_top 64 n h u in
     record { j = t.0; zeros = t.1; lower = t.2; upper = t.3; is = log2_of n t.0 (omega (arith, t.1)) t.2 t.3 }
 
--- j is the floor of log2: the mask bits are j for a power of two, and else one more
-pub mask_power : (n j : ℕ) → 2 ^ j ≤ n → n < 2 * 2 ^ j → j < 64 → eqb (ones n) 1 ≡ true → j ≡ mask_bits n
+pub mask_power : (n : ℕ) → 1 ≤ n → n < 2 ^ 64 → ones n ≡ 1 → 63 - count_leading_zeros 64 n ≡ mask_bits n
 unfolding mask_bits
-mask_power n j l u h e =
-    let f : log2 n ≡ j = log2_of n j (omega arith) l (omega (arith, pow-suc 2 j)) in
-    let i : n ≡ 2 ^ log2 n = one_only n j l (omega (arith, pow-suc 2 j)) (eqb-true (ones n) 1 e) ∙ ap (λ (k : ℕ). 2 ^ k) (sym f) in
-    rw (eq-eqb n (2 ^ log2 n) i) (sym f)
+mask_power n h u e =
+    let t = top n h u in
+    let i : n ≡ 2 ^ log2 n = one_only n t.j t.lower t.upper e ∙ ap (λ (k : ℕ). 2 ^ k) (sym t.is) in
+    rw (eq-eqb n (2 ^ log2 n) i) (omega (arith, t.zeros, t.is))
 
-pub mask_other : (n j : ℕ) → 2 ^ j ≤ n → n < 2 * 2 ^ j → j < 64 → eqb (ones n) 1 ≡ false → j + 1 ≡ mask_bits n
+pub mask_other : (n : ℕ) → 1 ≤ n → n < 2 ^ 64 → (ones n ≡ 1 → ⊥) → 63 - count_leading_zeros 64 n + 1 ≡ mask_bits n
 unfolding mask_bits
-mask_other n j l u h e =
-    let f : log2 n ≡ j = log2_of n j (omega arith) l (omega (arith, pow-suc 2 j)) in
-    rw (ne_eqb n (2 ^ log2 n) (λ i. eqb-false (ones n) 1 e (power_one n (log2 n) i))) (omega (arith, f))
+mask_other n h u e =
+    let t = top n h u in
+    rw (ne_eqb n (2 ^ log2 n) (λ i. e (power_one n (log2 n) i))) (omega (arith, t.zeros, t.is))
 
 -- the masked bits are below twice the columns
 pub mask_twice : (n : ℕ) → 1 ≤ n → n < 2 ^ 64 → 2 ^ mask_bits n ≤ 2 * n

@@ -1,14 +1,17 @@
 -- `matrix_storage::mask_bits` meets its contract.
-use Rattle.std.proofs.Common.{sym, ◌∙◌}
-use Rattle.matrix_storage.proofs.Log2.{mask_power, mask_other}
+use native.Mathlib.Omega.{arith}
+use borrow.Author.Rules.{rules}
+use Rattle.matrix_storage.proofs.Log2.{top, mask_power, mask_other}
 use Rattle.matrix_storage.proofs.mask_bits.Goals as goal
 
-pub returns-then-is_power_of_two : goal.returns-then-is_power_of_two
-returns-then-is_power_of_two c =
-    let f = c.ilog2-floor.ensures in
-    mask_power c.args.cols c.ilog2-floor.result f.power_le f.next_power_gt f.bound (sym c.is_power_of_two.ensures ∙ c.if-is_power_of_two.true)
+pub overflow_cast-floor : goal.overflow_cast-floor
+overflow_cast-floor c = let n = c.args.cols in record { fits = omega (arith, (top n c.requires (search rules)).zeros) }
 
-pub returns-else-is_power_of_two : goal.returns-else-is_power_of_two
-returns-else-is_power_of_two c =
-    let f = c.ilog2-floor.ensures in
-    mask_other c.args.cols c.ilog2-floor.result f.power_le f.next_power_gt f.bound (sym c.is_power_of_two.ensures ∙ c.if-is_power_of_two.false)
+pub overflow_sub-floor : goal.overflow_sub-floor
+overflow_sub-floor c = let n = c.args.cols in omega (arith, (top n c.requires (search rules)).zeros)
+
+pub returns-then-n-eq1 : goal.returns-then-n-eq1
+returns-then-n-eq1 c = mask_power c.args.cols c.requires (search rules) c.if-n-eq1.true
+
+pub returns : goal.returns
+returns c = mask_other c.args.cols c.requires (search rules) c.if-n-eq1.false
