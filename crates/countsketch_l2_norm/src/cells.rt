@@ -64,13 +64,9 @@ pub fn add_cell(counters: &mut [i64], norms: &mut [u64], at: usize, r: usize, de
 pub fn row_read(x: i64, w: Wide, cols: usize) -> bool
     ensures { result ≡ row_read x (value_of w) cols }
 {
-    if !words::in_range(x) {
-        return false;
-    }
-    if !words::at_most_caps(w.lo, w.hi, cols as u64) {
-        return false;
-    }
-    words::at_least(w.lo, w.hi, words::capped_square(x))
+    words::in_range(x)
+        && words::at_most_caps(w.lo, w.hi, cols as u64)
+        && words::at_least(w.lo, w.hi, words::capped_square(x))
 }
 
 // Whether what a delta reads is in range: its counter and its row's norm.

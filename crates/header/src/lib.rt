@@ -22,7 +22,7 @@ use refusal::Refusal;
 // The dimensions of a state: heap size, layers, and rows and columns of two tiers. Layers below
 // `elephant_layers` are of the first, the others of the second. `UnivMon`'s four dimensions are a shape
 // whose tiers are alike (`Shape::one_tier`).
-#[derive(Clone, Copy)]
+#[derive(Clone, Copy, PartialEq, Eq)]
 pub struct Shape {
     pub heap_size: usize,
     pub layers: usize,
@@ -106,18 +106,10 @@ impl Shape {
         requires { (1 ≤ self.elephant_cols) × (1 ≤ self.mouse_cols) }
         ensures { result ≡ bits_above self.elephant_rows self.elephant_cols || bits_above self.mouse_rows self.mouse_cols }
     {
-        if matrix_storage::bits_above(self.mouse_rows, self.mouse_cols) {
-            return true;
-        }
-        if same_tier(
-            self.elephant_rows,
-            self.elephant_cols,
-            self.mouse_rows,
-            self.mouse_cols,
-        ) {
-            return false;
-        }
-        matrix_storage::bits_above(self.elephant_rows, self.elephant_cols)
+        let elephants = (self.elephant_rows, self.elephant_cols);
+        let mice = (self.mouse_rows, self.mouse_cols);
+        matrix_storage::bits_above(mice.0, mice.1)
+            || elephants != mice && matrix_storage::bits_above(elephants.0, elephants.1)
     }
 
     // Whether every dimension is of its usual range, in which nothing is refused and no hash bits need to
@@ -138,10 +130,7 @@ impl Shape {
     pub fn accepted(self) -> bool
         ensures { result ≡ eqb (shape_refusal self) 0 }
     {
-        if self.usual() {
-            return true;
-        }
-        self.check().is_ok()
+        self.usual() || self.check().is_ok()
     }
 
     // The shape itself, if it is accepted.
@@ -220,23 +209,7 @@ impl Shape {
     pub fn same(self, other: Shape) -> bool
         ensures { result ≡ same_shape self other }
     {
-        let elephants = same_tier(
-            self.elephant_rows,
-            self.elephant_cols,
-            other.elephant_rows,
-            other.elephant_cols,
-        );
-        let mice = same_tier(
-            self.mouse_rows,
-            self.mouse_cols,
-            other.mouse_rows,
-            other.mouse_cols,
-        );
-        (self.layers == other.layers)
-            & (self.heap_size == other.heap_size)
-            & (self.elephant_layers == other.elephant_layers)
-            & elephants
-            & mice
+        self == other
     }
 }
 
@@ -261,12 +234,6 @@ fn tier_above(rows: usize, cols: usize) -> bool
     (Shape::MAX_ROWS < rows) | (Shape::MAX_COLS < cols)
 }
 
-fn same_tier(rows: usize, cols: usize, other_rows: usize, other_cols: usize) -> bool
-    ensures { result ≡ same_tier rows cols other_rows other_cols }
-{
-    (rows == other_rows) & (cols == other_cols)
-}
-
 // Whether the four dimensions of `UnivMon` are accepted.
 pub fn check_shape(heap_size: usize, rows: usize, cols: usize, layers: usize) -> Result<(), Refusal>
     ensures { refused result ≡ shape_refusal (one_tier heap_size rows cols layers) }
@@ -281,11 +248,7 @@ pub fn bottom_of(hash: u64, layers: usize) -> usize
     ensures { (result ≡ bottom_of hash layers) × (result < layers) }
 {
     let ones = u64::trailing_zeros(u64::MAX - (hash >> 1)) as usize;
-    let last = layers - 1;
-    if ones < last {
-        return ones;
-    }
-    last
+    ones.min(layers - 1)
 }
 
 // The same for any number of layers: 1 for none, 2 above the domain.
@@ -306,19 +269,10 @@ pub fn bottom_layer_for_hash(hash: u64, layers: usize) -> Result<usize, Refusal>
 pub fn clashes(a: Mode, b: Mode) -> bool
     ensures { result ≡ clash a b }
 {
-    match a {
-        Mode::Unset => false,
-        Mode::Standard => match b {
-            Mode::Unset => false,
-            Mode::Standard => false,
-            Mode::Terminal => true,
-        },
-        Mode::Terminal => match b {
-            Mode::Unset => false,
-            Mode::Standard => true,
-            Mode::Terminal => false,
-        },
-    }
+    matches!(
+        (a, b),
+        (Mode::Standard, Mode::Terminal) | (Mode::Terminal, Mode::Standard)
+    )
 }
 
 pub fn join(a: Mode, b: Mode) -> Mode
@@ -326,8 +280,7 @@ pub fn join(a: Mode, b: Mode) -> Mode
 {
     match a {
         Mode::Unset => b,
-        Mode::Standard => Mode::Standard,
-        Mode::Terminal => Mode::Terminal,
+        Mode::Standard | Mode::Terminal => a,
     }
 }
 
@@ -346,13 +299,11 @@ pub fn mode_number(mode: Mode) -> u64
 pub fn mode_of(n: u64) -> Mode
     ensures { result ≡ mode_by n }
 {
-    if n == 1 {
-        return Mode::Standard;
+    match n {
+        1 => Mode::Standard,
+        2 => Mode::Terminal,
+        _ => Mode::Unset,
     }
-    if n == 2 {
-        return Mode::Terminal;
-    }
-    Mode::Unset
 }
 
 // ---- the header's own steps
@@ -376,13 +327,11 @@ impl Header {
         requires { shape.layers ≤ max_layers }
         ensures { result ≡ fresh_header shape }
     {
-        let layers = shape.layers;
-        let flags = fresh_flags(layers);
         Header {
             shape,
             totals: Totals::zero(),
             mode: Mode::Unset,
-            flags,
+            flags: fresh_flags(shape.layers),
             lens: [0usize; Shape::MAX_LAYERS],
         }
     }
@@ -391,46 +340,23 @@ impl Header {
     pub fn scalars(self) -> Scalars
         ensures { result ≡ scalars_of self }
     {
-        let shape = self.shape;
-        let totals = self.totals;
-        let mode = self.mode;
         Scalars {
-            shape,
-            totals,
-            mode,
+            shape: self.shape,
+            totals: self.totals,
+            mode: self.mode,
         }
     }
 
     pub fn with_totals(self, totals: Totals) -> Self
         ensures { result ≡ with_totals self totals }
     {
-        let shape = self.shape;
-        let mode = self.mode;
-        let flags = self.flags;
-        let lens = self.lens;
-        Header {
-            shape,
-            totals,
-            mode,
-            flags,
-            lens,
-        }
+        Header { totals, ..self }
     }
 
     pub fn with_mode(self, mode: Mode) -> Self
         ensures { result ≡ with_mode self mode }
     {
-        let shape = self.shape;
-        let totals = self.totals;
-        let flags = self.flags;
-        let lens = self.lens;
-        Header {
-            shape,
-            totals,
-            mode,
-            flags,
-            lens,
-        }
+        Header { mode, ..self }
     }
 
     pub fn clear_flag(mut self, layer: usize) -> Self
@@ -497,20 +423,24 @@ impl Header {
         requires { number (totals_tests self.totals totals) ≡ 0 }
         ensures { result ≡ begun self totals mode }
     {
-        let scalars = self.scalars().begin(totals, mode);
-        let sum = scalars.totals;
-        let next = scalars.mode;
-        self.with_totals(sum).with_mode(next)
+        let Scalars { totals, mode, .. } = self.scalars().begin(totals, mode);
+        Header {
+            totals,
+            mode,
+            ..self
+        }
     }
 
     // Totals and mode of an update come in, 5, 6, 7 and 14: the header that the update begins with.
     pub fn begin_update(self, weight: i64, mode: Mode) -> Result<Self, Refusal>
         ensures { answered_by self result ≡ begin_header self weight mode }
     {
-        let scalars = self.scalars().begin_update(weight, mode)?;
-        let totals = scalars.totals;
-        let next = scalars.mode;
-        Ok(self.with_totals(totals).with_mode(next))
+        let Scalars { totals, mode, .. } = self.scalars().begin_update(weight, mode)?;
+        Ok(Header {
+            totals,
+            mode,
+            ..self
+        })
     }
 
     // Whether dimensions, totals, lengths and flags are in range.
@@ -518,12 +448,14 @@ impl Header {
         ensures { result ≡ header_ok self }
     {
         let shape = self.shape;
-        if !shape.accepted() {
-            return false;
-        }
-        let lens = self.lens;
-        let flags = self.flags;
-        rest_in_range(shape.layers, shape.heap_size, self.totals, &lens, &flags)
+        shape.accepted()
+            && rest_in_range(
+                shape.layers,
+                shape.heap_size,
+                self.totals,
+                &self.lens,
+                &self.flags,
+            )
     }
 }
 
@@ -532,10 +464,7 @@ impl Header {
 fn sum_within(a: u64, b: u64) -> bool
     ensures { result ≡ leb (a + b) top }
 {
-    if words::MAX_WEIGHT < b {
-        return false;
-    }
-    a <= words::MAX_WEIGHT - b
+    b <= words::MAX_WEIGHT && a <= words::MAX_WEIGHT - b
 }
 
 impl Totals {
@@ -558,10 +487,7 @@ impl Totals {
     pub fn with_weight(self, weight: u64) -> Self
         ensures { result ≡ set_weight self weight }
     {
-        Totals {
-            weight,
-            updates: self.updates,
-        }
+        Totals { weight, ..self }
     }
 
     // The number of updates has the weight's bound.
@@ -606,8 +532,7 @@ impl Scalars {
         if weight < 0 {
             return Err(Refusal::NegativeWeight);
         }
-        let before = self.mode;
-        if clashes(before, mode) {
+        if clashes(self.mode, mode) {
             return Err(Refusal::MixedModes);
         }
         self.totals
@@ -620,12 +545,10 @@ impl Scalars {
         requires { number (totals_tests self.totals totals) ≡ 0 }
         ensures { result ≡ begun_scalars self totals mode }
     {
-        let shape = self.shape;
-        let before = self.mode;
         Scalars {
-            shape,
             totals: self.totals.plus(totals),
-            mode: join(before, mode),
+            mode: join(self.mode, mode),
+            ..self
         }
     }
 
@@ -645,11 +568,7 @@ fn fresh_flags(layers: usize) -> [bool; Shape::MAX_LAYERS]
     ensures { result ≡ fresh_flags layers }
 {
     let mut flags = [false; Shape::MAX_LAYERS];
-    let mut l = 0;
-    while l < layers {
-        flags[l] = true;
-        l += 1;
-    }
+    flags[..layers].fill(true);
     flags
 }
 
@@ -662,10 +581,8 @@ fn lens_few(lens: &[usize], layers: usize, heap_size: usize) -> bool
     ensures { (flags : List Bool) → result ≡ lens_from layers heap_size lens.now flags layers 0 }
 {
     let mut few = true;
-    let mut l = 0;
-    while l < layers {
-        few = few & (lens[l] <= heap_size);
-        l += 1;
+    for len in &lens[..layers] {
+        few &= *len <= heap_size;
     }
     few
 }
@@ -676,10 +593,8 @@ fn rest_clear(lens: &[usize], flags: &[bool], layers: usize) -> bool
     ensures { (size : ℕ) → result ≡ lens_from layers size lens.now flags.now (max_layers - layers) layers }
 {
     let mut clear = true;
-    let mut l = layers;
-    while l < Shape::MAX_LAYERS {
-        clear = clear & (lens[l] == 0) & !flags[l];
-        l += 1;
+    for l in layers..Shape::MAX_LAYERS {
+        clear &= (lens[l] == 0) & !flags[l];
     }
     clear
 }
@@ -695,12 +610,7 @@ fn rest_in_range(
     requires { (layers ≤ max_layers) × ((length lens.now ≡ max_layers) × (length flags.now ≡ max_layers)) }
     ensures { result ≡ totals_ok totals && lens_from layers heap_size lens.now flags.now max_layers 0 }
 {
-    if !totals.in_range() {
-        return false;
-    }
-    let few = lens_few(lens, layers, heap_size);
-    let clear = rest_clear(lens, flags, layers);
-    few & clear
+    totals.in_range() && lens_few(lens, layers, heap_size) & rest_clear(lens, flags, layers)
 }
 
 // Whether dimensions, totals, lengths and flags are in range; of the mode nothing is asked. For the
@@ -709,8 +619,5 @@ pub fn fields_in_range(shape: Shape, totals: Totals, lens: &[usize], flags: &[bo
     requires { (length lens.now ≡ max_layers) × (length flags.now ≡ max_layers) }
     ensures { (m : Mode) → result ≡ header_ok (head_of (record { shape = shape; totals = totals; mode = m }) lens.now flags.now) }
 {
-    if !shape.accepted() {
-        return false;
-    }
-    rest_in_range(shape.layers, shape.heap_size, totals, lens, flags)
+    shape.accepted() && rest_in_range(shape.layers, shape.heap_size, totals, lens, flags)
 }

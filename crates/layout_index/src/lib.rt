@@ -12,13 +12,7 @@ ghost use Rattle.layout.specs.Slices.{lent};
 
 use header::{Header, Shape};
 use refusal::Refusal;
-
-// Where a layer's table begins and ends.
-#[derive(Clone, Copy)]
-pub struct TableSpan {
-    pub start: usize,
-    pub end: usize,
-}
+use std::ops::Range;
 
 // The places of all tables.
 pub fn tables_in(shape: Shape) -> usize
@@ -28,17 +22,15 @@ pub fn tables_in(shape: Shape) -> usize
     heap_index::index_length(shape.heap_size) * shape.layers
 }
 
-pub fn table_span(shape: Shape, l: usize) -> TableSpan
+// Where a layer's table stands.
+pub fn table_span(shape: Shape, l: usize) -> Range<usize>
     requires accepted { Accepted shape }
     requires l_lt_layers { l < shape.layers }
     ensures { (result.start ≡ table_length shape * l) × (result.end ≡ table_length shape * l + table_length shape) }
 {
     let m = heap_index::index_length(shape.heap_size);
     let start = m * l;
-    TableSpan {
-        start,
-        end: start + m,
-    }
+    start..start + m
 }
 
 // The table of layer l.
@@ -48,10 +40,7 @@ pub fn table_at(shape: Shape, l: usize, index: &[u64]) -> &[u64]
     requires index_len { length index.now ≡ tables_in shape }
     ensures { result.now ≡ table_at shape index.now l }
 {
-    let s = table_span(shape, l);
-    let a = s.start;
-    let e = s.end;
-    &index[a..e]
+    &index[table_span(shape, l)]
 }
 
 // Whether a header is in range, and slices and index are its shape's: 9.

@@ -46,10 +46,7 @@ fn put(buf: &mut [i64; MAX_ROWS], n: usize, v: i64) -> usize
     ensures upper_bound { (result ≤ max_rows) × (length buf.new ≡ max_rows) }
     ensures buf_after { all_in (take result buf.new) ≡ true }
 {
-    if n == MAX_ROWS {
-        return n;
-    }
-    if !words::in_range(v) {
+    if n == MAX_ROWS || !words::in_range(v) {
         return n;
     }
     structure_utils::insert(buf, n, v);
@@ -60,11 +57,9 @@ fn put(buf: &mut [i64; MAX_ROWS], n: usize, v: i64) -> usize
 fn median(output: Stdout, text: &[u8], many: usize) -> io::Result<()> {
     let mut buf = [0i64; MAX_ROWS];
     let mut n = 0;
-    let mut k = 0;
-    while k < many {
+    for k in 0..many {
         let v = vectors::signed(vectors::word(text, k));
         n = put(&mut buf, n, v);
-        k += 1;
     }
     if 0 < n {
         vectors::print(
@@ -92,25 +87,19 @@ fn hash_bits(output: Stdout, rows: usize, cols: usize) -> io::Result<()> {
 fn run(output: Stdout, op: u64, many: usize, text: &[u8]) -> io::Result<()> {
     let a = vectors::word(text, 0);
     let b = vectors::word(text, 1);
-    if op == 1 {
-        mask_bits(output, a as usize)?;
+    match op {
+        1 => mask_bits(output, a as usize),
+        2 => {
+            let row = vectors::word(text, 2) as usize;
+            let rows = vectors::word(text, 3) as usize;
+            let cols = vectors::word(text, 4) as usize;
+            cell(output, a, b, row, rows, cols)
+        }
+        3 => median(output, text, many),
+        4 => square(output, vectors::signed(a)),
+        5 => hash_bits(output, a as usize, b as usize),
+        _ => Ok(()),
     }
-    if op == 2 {
-        let row = vectors::word(text, 2) as usize;
-        let rows = vectors::word(text, 3) as usize;
-        let cols = vectors::word(text, 4) as usize;
-        cell(output, a, b, row, rows, cols)?;
-    }
-    if op == 3 {
-        median(output, text, many)?;
-    }
-    if op == 4 {
-        square(output, vectors::signed(a))?;
-    }
-    if op == 5 {
-        hash_bits(output, a as usize, b as usize)?;
-    }
-    Ok(())
 }
 
 // One line: false at the end of the input.
@@ -127,12 +116,10 @@ fn step(input: Stdin, output: Stdout) -> io::Result<bool> {
 fn main(rt: HostRuntime) -> io::Result<()> {
     let input = rt.stdin();
     let output = rt.stdout();
-    let mut turns: u64 = 1000000;
-    while 0 < turns {
+    for _ in 0..1000000 {
         if !step(input, output)? {
             return Ok(());
         }
-        turns -= 1;
     }
     Ok(())
 }

@@ -31,8 +31,7 @@ use Rattle.state_forms.specs.Whole.{First, Others, wholly, others_r}
 use Rattle.state_lines.specs.inner.Places.{forget}
 use Rattle.state_forms.proofs.Exactness.{goes_on}
 use Rattle.state_forms.proofs.Lines.{pages_exact}
-use Rattle.state_lines.proofs.Known.{known, known_bad}
-use Rattle.state_lines.proofs.LineChain.{stays_bad}
+use Rattle.state_lines.proofs.Known.{known, known_bad, stays_bad}
 use Rattle.state_text.specs.Pages.{frame_of, shape_from, dims_of, no_page, layer_from, head_from, state_from}
 use Rattle.layout.specs.Outcomes.{left}
 use Rattle.state_text.specs.Calls.{unread, after_others, after_first, read_call}

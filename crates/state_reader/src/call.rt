@@ -10,9 +10,8 @@ use crate::judge::judge_layers;
 use crate::keeping::keep_layers;
 use header::{Header, Shape, Totals};
 use layout::lengths_match;
-use state_lines::cells::Next;
-use state_lines::heads::{FirstLine, HeadLines, first_at, head_at};
 use refusal::Refusal;
+use state_lines::heads::{first_at, head_at};
 
 // A state read into the lent slices: 15 for the first line, 1 to 4 for the shape that it says, 16 for the
 // lengths of the slices, 15 for the other lines.
@@ -27,10 +26,15 @@ pub fn read_state(
         ≡ read_call text.now (lent_in zero_header counters norms entries counts) }
 {
     let x = first_at(text, 0);
-    let FirstLine::At(heap, rows, cols, layers, p) = x else {
+    let Some((first, p)) = x else {
         return Err(Refusal::NotAText);
     };
-    let shape = Shape::one_tier(heap as usize, rows as usize, cols as usize, layers as usize);
+    let shape = Shape::one_tier(
+        first.heap as usize,
+        first.rows as usize,
+        first.cols as usize,
+        first.layers as usize,
+    );
     shape.check()?;
     if !lengths_match(
         shape,
@@ -42,19 +46,22 @@ pub fn read_state(
         return Err(Refusal::TooShort);
     }
     let y = head_at(text, p);
-    let HeadLines::At(weight, updates, mode, q) = y else {
+    let Some((head, q)) = y else {
         return Err(Refusal::NotAText);
     };
     let z = judge_layers(text, q, shape);
-    let Next::At(end) = z else {
+    let Some(end) = z else {
         return Err(Refusal::NotAText);
     };
     if end < text.len() {
         return Err(Refusal::NotAText);
     }
-    let m = header::mode_of(mode);
+    let m = header::mode_of(head.mode);
     let h = Header::fresh(shape)
-        .with_totals(Totals { weight, updates })
+        .with_totals(Totals {
+            weight: head.weight,
+            updates: head.updates,
+        })
         .with_mode(m);
     Ok(keep_layers(text, q, h, counters, norms, entries, counts))
 }

@@ -10,7 +10,7 @@ ghost use Rattle.state_forms.specs.Grammar.{Page, page_format, pages_r};
 ghost use Rattle.state_text.specs.Pages.{dims_of, frame_of, layer_from, no_page};
 ghost use Rattle.state_reader.specs.inner.Paged.{Legible};
 
-use crate::page::{PageLines, fill_page};
+use crate::page::fill_page;
 use header::Header;
 use layout::{dims, span_of};
 
@@ -63,7 +63,7 @@ fn keep_layer(
         &mut entries[ea..ee],
         &mut counts[ta..te],
     );
-    let PageLines::At(flag, len, p) = x else {
+    let Some(((flag, len), p)) = x else {
         return Kept { header: h, at };
     };
     Kept {
@@ -90,15 +90,12 @@ pub fn keep_layers(
         ≡ over_layers (λ l y. layer_from (dims_of h.shape) (get_or ps l no_page)) h.shape.layers 0 (view (lent_in h counters norms entries counts)) }
     ensures standing_2 { Standing (lent_out result counters norms entries counts) }
 {
-    let layers = h.shape.layers;
     let mut header = h;
     let mut p = at;
-    let mut l = 0;
-    while l < layers {
+    for l in 0..h.shape.layers {
         let k = keep_layer(s, p, header, counters, norms, entries, counts, l);
         header = k.header;
         p = k.at;
-        l += 1;
     }
     header
 }

@@ -101,12 +101,9 @@ fn lay_layers(
         (pages_text (frame_of (dims_of header.shape)) 0 (pages_of (view (lent header counters.now norms.now entries.now counts.now)) header.shape.layers 0))
         out.new result }
 {
-    let layers = header.shape.layers;
     let mut p = at;
-    let mut l = 0;
-    while l < layers {
+    for l in 0..header.shape.layers {
         p = lay_layer(out, p, header, counters, norms, entries, counts, l);
-        l += 1;
     }
     p
 }

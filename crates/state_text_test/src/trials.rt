@@ -1,7 +1,7 @@
 // One text: read into slices that held something else, and written again.
 ghost use Rattle.std.specs.Prelude.{◌≤◌};
 
-use crate::digest::{bit_of, repeated, whole};
+use crate::digest::{repeated, whole};
 use header::{Answered, Header, Shape, Totals};
 use state_reader::read_state;
 use state_text::write_state;
@@ -28,19 +28,12 @@ const MARK: u8 = b'#';
 pub fn least(n: u64, most: usize) -> usize
     ensures { result ≤ most }
 {
-    let k = n as usize;
-    if k < most {
-        return k;
-    }
-    most
+    most.min(n as usize)
 }
 
 // What has to stand at place i of a space that has the first n bytes of a text.
 fn due(text: &[u8], n: usize, i: usize) -> u8 {
-    if n <= i {
-        return MARK;
-    }
-    if text.len() <= i {
+    if n <= i || text.len() <= i {
         return MARK;
     }
     text[i]
@@ -48,14 +41,7 @@ fn due(text: &[u8], n: usize, i: usize) -> u8 {
 
 // Whether the space has the first n bytes of the text, and is as it was behind them.
 fn holds(out: &[u8], text: &[u8], n: usize) -> bool {
-    let mut i = 0;
-    while i < out.len() {
-        if out[i] != due(text, n, i) {
-            return false;
-        }
-        i += 1;
-    }
-    true
+    out.iter().enumerate().all(|(i, b)| *b == due(text, n, i))
 }
 
 // What the writer answered, and whether the space then holds just so many bytes of the text.
@@ -90,7 +76,7 @@ fn write_in(
 fn say(output: Stdout, a: Answer) -> io::Result<()> {
     let refusal = a.refusal;
     let bytes = a.bytes;
-    let held = bit_of(a.held);
+    let held = u64::from(a.held);
     print!(output; " {refusal} {bytes} {held}")
 }
 
@@ -108,7 +94,7 @@ fn say_accepted(
 ) -> io::Result<()> {
     print!(output; "0 {digest}")?;
     let n = text.len();
-    let less = least(std::num::wrapping_sub_u64(n as u64, 1), n);
+    let less = least((n as u64).wrapping_sub(1), n);
     say(
         output,
         write_in(h, counters, norms, entries, counts, text, less),
@@ -143,19 +129,17 @@ fn accepted(
 ) -> u64 {
     let n = text.len();
     let a = write_in(h, counters, norms, entries, counts, text, n);
-    if a.refusal != 0 {
-        return 2;
+    if a.refusal == 0 && a.bytes == n && a.held {
+        1
+    } else {
+        2
     }
-    if a.bytes != n {
-        return 2;
-    }
-    if a.held { 1 } else { 2 }
 }
 
 // A refused text: 0 where the header is zero and the slices are as they were, else 2.
 fn refused(output: Stdout, n: u64, kept: bool, aloud: bool) -> io::Result<u64> {
     if aloud {
-        let bit = bit_of(kept);
+        let bit = u64::from(kept);
         println!(output; "{n} {bit}")?;
     }
     if kept {

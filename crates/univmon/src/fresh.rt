@@ -18,10 +18,10 @@ fn zero_all(counters: &mut [i64], norms: &mut [u64], entries: &mut [u64], counts
     ensures entries_after { entries.new ≡ replicate (length entries.old) 0 }
     ensures counts_after { counts.new ≡ replicate (length counts.old) (pos 0) }
 {
-    layer::zero_counts(counters);
-    layer::zero_words(norms);
-    layer::zero_words(entries);
-    layer::zero_counts(counts);
+    counters.fill(0);
+    norms.fill(0);
+    entries.fill(0);
+    counts.fill(0);
 }
 
 // A fresh state in lent slices, of a shape that the constructor let pass: 9 for the lengths.

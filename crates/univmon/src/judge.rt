@@ -92,15 +92,12 @@ pub fn all_ready(
     requires { JudgeReady (lent_now (head_now h lens flags) counters norms entries counts) «record».now weight many first }
     ensures { result ≡ all_layers (ready_at h.shape «record».now weight) many first (view (lent (head_of h lens.now flags.now) counters.now norms.now entries.now counts.now)) }
 {
-    let end = first + many;
-    let mut l = first;
-    while l < end {
+    for l in first..first + many {
         if !ready_at(
             h, lens, flags, counters, norms, entries, counts, record, weight, l,
         ) {
             return false;
         }
-        l += 1;
     }
     true
 }
@@ -121,13 +118,10 @@ fn all_read(
     requires { JudgeReady (lent_now (head_now h lens flags) counters norms entries counts) «record».now 0 many first }
     ensures { (w : ℕ) → result ≡ all_layers (reads_at h.shape «record».now w) many first (view (lent (head_of h lens.now flags.now) counters.now norms.now entries.now counts.now)) }
 {
-    let end = first + many;
-    let mut l = first;
-    while l < end {
+    for l in first..first + many {
         if !reads_at(h, lens, flags, counters, norms, entries, counts, record, l) {
             return false;
         }
-        l += 1;
     }
     true
 }

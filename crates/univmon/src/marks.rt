@@ -20,12 +20,11 @@ pub fn set_total_weight(header: Header, weight: u64) -> Result<Header, Refusal>
     if words::MAX_WEIGHT < weight {
         return Err(Refusal::WeightAbove);
     }
-    let settled = header::join(mode, Mode::Standard);
-    Ok(
-        header
-            .with_totals(header.totals.with_weight(weight))
-            .with_mode(settled),
-    )
+    Ok(Header {
+        totals: header.totals.with_weight(weight),
+        mode: header::join(mode, Mode::Standard),
+        ..header
+    })
 }
 
 // Marks every layer's candidates as partial: 9.

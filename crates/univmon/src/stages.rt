@@ -206,10 +206,7 @@ fn send_key(
 pub fn bottom_word(record: &[u64]) -> u64
     ensures { result ≡ bottom_word «record».now }
 {
-    if record.len() < 2 {
-        return 0;
-    }
-    record[1]
+    record.get(1).copied().unwrap_or(0)
 }
 
 // Whether an update begins, without what it begins with.

@@ -39,18 +39,12 @@ fn grade_at(
     let d = dims(shape, l);
     let item = item_in(record, l);
     let len = lens[l];
-    let ea = s.words;
-    let ee = s.words_end;
-    let ta = s.seats;
-    let te = s.seats_end;
-    let ia = t.start;
-    let ie = t.end;
     layer_indexed::add_grade(
         cells_at(shape, l, counters),
         norms_at(shape, l, norms),
-        &mut entries[ea..ee],
-        &mut counts[ta..te],
-        &mut index[ia..ie],
+        &mut entries[s.words],
+        &mut counts[s.seats],
+        &mut index[t],
         d,
         len,
         item,
@@ -78,16 +72,13 @@ pub fn all_reach(
     ensures value { result ≡ all_layers (reaches_at grade h.shape «record».now weight index.old) many first (view (lent (head_of h lens.now flags.now) counters.now norms.now entries.old counts.old)) }
     ensures entries_unchanged { (entries.new ≡ entries.old) × ((counts.new ≡ counts.old) × (index.new ≡ index.old)) }
 {
-    let end = first + many;
-    let mut l = first;
-    while l < end {
+    for l in first..first + many {
         let here = grade_at(
             h, lens, flags, counters, norms, entries, counts, index, record, weight, l,
         );
         if here < grade {
             return false;
         }
-        l += 1;
     }
     true
 }

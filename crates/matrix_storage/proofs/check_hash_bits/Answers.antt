@@ -17,8 +17,8 @@ pub returns-then-rows-eq0 : goal.returns-then-rows-eq0
 unfolding bits_refusal
 returns-then-rows-eq0 c =
     elim c.then-rows-eq0.branch [
-      then-rows-eq0-via-then-rows-eq0 w ↦ simp (eq-eqb _ 0 w.if-rows-eq0.true)
-    | then-rows-eq0-via-else-rows-eq0+then-cols-eq0 w ↦ simp (ne_eqb _ 0 w.if-rows-eq0.false, eq-eqb _ 0 w.if-cols-eq0.true)
+      | then-rows-eq0-via-then-rows-eq0 w ↦ simp (eq-eqb _ 0 w.if-rows-eq0.true)
+      | then-rows-eq0-via-else-rows-eq0+then-cols-eq0 w ↦ simp (ne_eqb _ 0 w.if-rows-eq0.false, eq-eqb _ 0 w.if-cols-eq0.true)
     ]
 
 pub bits_above-requires : goal.bits_above-requires
@@ -33,9 +33,9 @@ unfolding bits_refusal
 returns-then-rows-gt-MAX_ROWS c =
     let fits = within (goal.at.returns-then-rows-gt-MAX_ROWS c).Else-bits_above in
     elim c.then-rows-gt-MAX_ROWS.branch [
-      then-rows-gt-MAX_ROWS-via-then-rows-gt-MAX_ROWS w ↦ simp (ne_eqb _ 0 c.if-rows-eq0.false, ne_eqb _ 0 c.if-cols-eq0.false, fits, lt-ltb _ _ w.if-rows-gt-MAX_ROWS.true)
-    | then-rows-gt-MAX_ROWS-via-else-rows-gt-MAX_ROWS+then-cols-gt-MAX_COLS w ↦
-        simp (ne_eqb _ 0 c.if-rows-eq0.false, ne_eqb _ 0 c.if-cols-eq0.false, fits, le-ltb _ _ w.if-rows-gt-MAX_ROWS.false, lt-ltb _ _ w.if-cols-gt-MAX_COLS.true)
+      | then-rows-gt-MAX_ROWS-via-then-rows-gt-MAX_ROWS w ↦ simp (ne_eqb _ 0 c.if-rows-eq0.false, ne_eqb _ 0 c.if-cols-eq0.false, fits, lt-ltb _ _ w.if-rows-gt-MAX_ROWS.true)
+      | then-rows-gt-MAX_ROWS-via-else-rows-gt-MAX_ROWS+then-cols-gt-MAX_COLS w ↦
+          simp (ne_eqb _ 0 c.if-rows-eq0.false, ne_eqb _ 0 c.if-cols-eq0.false, fits, le-ltb _ _ w.if-rows-gt-MAX_ROWS.false, lt-ltb _ _ w.if-cols-gt-MAX_COLS.true)
     ]
 
 pub returns : goal.returns

@@ -23,7 +23,7 @@ unfolding lents.view
 step c = pages_step (frame_of (dims_of c.args.header.shape)) (state-of c.before.before.before.before.before.before) c.args.header.shape.layers c.loop-l.l c.loop-l-test.true
 
 pub loop-l-init : goal.loop-l-init
-loop-l-init c = let a = c.args in (omega arith, going_start a.out.now a.at _ _ (pages_start (frame_of (dims_of a.header.shape)) (state-of (goal.at.loop-l-init c).Start) a.header.shape.layers))
+loop-l-init c = let a = c.args in going_start a.out.now a.at _ _ (pages_start (frame_of (dims_of a.header.shape)) (state-of (goal.at.loop-l-init c).Start) a.header.shape.layers)
 
 pub lay_layer-p-requires : goal.lay_layer-p-requires
 lay_layer-p-requires c = record {
@@ -31,20 +31,11 @@ lay_layer-p-requires c = record {
   standing = c.requires.standing;
   l_lt_layers = c.loop-l-test.true;
   text_room = going_room ((page_format (frame_of (dims_of c.args.header.shape)) c.loop-l.l).write (page_of (dims_of c.args.header.shape) (layer_at (state-of (goal.at.lay_layer-p-requires c).Start) c.loop-l.l)))
-      (pages_text (frame_of (dims_of c.args.header.shape)) (c.loop-l.l + 1) (pages_of (state-of (goal.at.lay_layer-p-requires c).Start) (c.args.header.shape.layers - (c.loop-l.l + 1)) (c.loop-l.l + 1))) c.loop-l.invariant.1 (step (goal.at.lay_layer-p-requires c).In-loop-l) c.requires.text_room;
+      (pages_text (frame_of (dims_of c.args.header.shape)) (c.loop-l.l + 1) (pages_of (state-of (goal.at.lay_layer-p-requires c).Start) (c.args.header.shape.layers - (c.loop-l.l + 1)) (c.loop-l.l + 1))) c.loop-l.invariant (step (goal.at.lay_layer-p-requires c).In-loop-l) c.requires.text_room;
 }
 
-pub overflow_add-l : goal.overflow_add-l
-overflow_add-l c = omega arith
-
-pub loop-l-smaller : goal.loop-l-smaller
-loop-l-smaller c = omega arith
-
 pub loop-l-preserved : goal.loop-l-preserved
-loop-l-preserved c = (omega arith, going_on c.loop-l.invariant.1 (step (goal.at.loop-l-preserved c).In-loop-l) c.lay_layer-p.ensures)
-
-pub shape_of-out : goal.shape_of-out
-shape_of-out c = c.loop-l.invariant.1.long
+loop-l-preserved c = going_on c.loop-l.invariant (step (goal.at.loop-l-preserved c).In-loop-l) c.lay_layer-p.ensures
 
 pub returns : goal.returns
-returns c = going_end c.loop-l.invariant.1 (pages_none (frame_of (dims_of c.args.header.shape)) (state-of (goal.at.returns c).Start) c.args.header.shape.layers c.loop-l.l c.loop-l-test.false)
+returns c = going_end c.loop-l.invariant (pages_none (frame_of (dims_of c.args.header.shape)) (state-of (goal.at.returns c).Start) c.args.header.shape.layers c.loop-l.l c.loop-l-test.false)
