@@ -10,6 +10,7 @@ use lib.IntN.{ℤ, pos}
 use lib.Seq.{length-take-le}
 use lib.Dec.{eqb}
 use borrow.Author.Tests.{eqb-true}
+use Rattle.std.proofs.lemmas.List.{get_or-take}
 use Rattle.heap_moves.specs.declared.Item.{Item}
 use Rattle.heap_moves.specs.Cands.{Cand}
 use Rattle.heap_moves.specs.Flat.{item_of, cands_of}
@@ -17,7 +18,7 @@ use Rattle.heap_moves.proofs.Views.{item-drop, item_path, length-cands}
 use Rattle.heap.specs.Offer.{find}
 use Rattle.heap.specs.inner.Slices.{table_of}
 use Rattle.layer.specs.Merge.{has_key, firsts, items}
-use Rattle.layer.specs.inner.Gather.{item_keys, items_from, items_of, keys_of, Front}
+use Rattle.layer.specs.inner.Gather.{item_keys, items_from, items_of, keys_of}
 
 -- ---- or
 
@@ -138,13 +139,17 @@ pub items-table : (es : List ℕ) (ns : List ℤ) (n : ℕ) → n ≤ length ns 
 unfolding items
 items-table es ns n h = sym (items-of es ns n h)
 
-pub front_items : (es fs : List ℕ) (k n i : ℕ) → Front k es fs → 4 * (i + n) ≤ k → items_from fs n i ≡ items_from es n i
+-- entries in words that two slices begin with
+pub front_items : (es fs : List ℕ) (k n i : ℕ) → take k fs ≡ take k es → 4 * (i + n) ≤ k → items_from fs n i ≡ items_from es n i
 unfolding items_from
 front_items es fs k zero i f h = refl
 front_items es fs k (suc n) i f h =
     ap₂ (λ (x : Item) (z : List Item). x ∷ z)
-    (item_path (f.at (4 * i) (omega arith)) (f.at (4 * i + 1) (omega arith)) (f.at (4 * i + 2) (omega arith)) (f.at (4 * i + 3) (omega arith)))
+    (item_path (at (4 * i) (omega arith)) (at (4 * i + 1) (omega arith)) (at (4 * i + 2) (omega arith)) (at (4 * i + 3) (omega arith)))
     (front_items es fs k n (suc i) f (omega arith))
+  where
+    at : (j : ℕ) → j < k → get_or fs j 0 ≡ get_or es j 0
+    at j b = sym (get_or-take k fs j 0 b) ∙ ap (λ (l : List ℕ). get_or l j 0) f ∙ get_or-take k es j 0 b
 
 -- ---- a search says whether a key was seen
 

@@ -8,14 +8,6 @@ returns-then-there-m c = first_there _ _ _ _ _ _ _ c.item_at-w.ensures _ c.find-
 pub returns-then-known : goal.returns-then-known
 returns-then-known c = first_here _ _ _ _ _ _ _ c.item_at-w.ensures _ c.find-there.ensures.0 _ c.if-there-m.false _ c.find-here.ensures.0 c.if-known.true
 
-pub offer_one-requires : goal.offer_one-requires
-offer_one-requires c = record {
-  seats = c.requires.seats;
-  sofar = c.requires.sofar;
-  counters_read = c.requires.counters_read;
-  keys_in_bounds = c.requires.keys_in_bounds;
-}
-
 pub returns : goal.returns
 returns c =
     first_new _ _ _ _ _ _ _ c.item_at-w.ensures _ c.find-there.ensures.0 _ c.if-there-m.false _ c.find-here.ensures.0 c.if-known.false _
