@@ -10,6 +10,7 @@ use lib.IntN.{ℤ, pos}
 use lib.Seq.{length-take-le}
 use lib.Dec.{eqb}
 use borrow.Author.Tests.{eqb-true}
+use Rattle.std.specs.Prelude.{Option, None, Some, is_some, unwrap_or, IfSome}
 use Rattle.std.proofs.lemmas.List.{get_or-take}
 use Rattle.heap_moves.specs.declared.Item.{Item}
 use Rattle.heap_moves.specs.Cands.{Cand}
@@ -173,8 +174,8 @@ missed_has k (c ∷ cs) h = go (eqb c.item.key k) h (missed_has k cs)
     go true h i = absurd (omega arith)
     go false h i = i (omega arith)
 
--- what `find` ensures
-abbrev pub Finds : List ℕ → ℕ → ℕ → ℕ → Type 0
+-- where a search ends: n if no entry has the key
+abbrev Finds : List ℕ → ℕ → ℕ → ℕ → Type 0
 Finds es n k r = (ns : List ℤ) → n ≤ length ns → r ≡ find k (take n (cands_of es ns))
 
 module _ (es : List ℕ) (n k r : ℕ) (f : Finds es n k r) where
@@ -191,11 +192,16 @@ module _ (es : List ℕ) (n k r : ℕ) (f : Finds es n k r) where
   long : length (take n (cands_of es zeros)) ≡ n
   long = length-take-le n (cands_of es zeros) (omega (arith, length-cands es zeros, enough))
 
-  pub find-has : r < n → has_key k (keys_of es n) ≡ true
+  find-has : r < n → has_key k (keys_of es n) ≡ true
   find-has h = rw (items-of es zeros n enough) (found-has k (take n (cands_of es zeros)) (omega (arith, at, long)))
 
-  pub find_hasnt : n ≤ r → has_key k (keys_of es n) ≡ false
+  find_hasnt : n ≤ r → has_key k (keys_of es n) ≡ false
   find_hasnt h = rw (items-of es zeros n enough) (missed_has k (take n (cands_of es zeros)) (omega (arith, at, long)))
+
+-- what `find` ensures says whether an entry has the key
+pub found_is : (es : List ℕ) (n k : ℕ) (r : Option ℕ) → Finds es n k (unwrap_or r n) → IfSome r (λ i. i < n) → is_some r ≡ has_key k (keys_of es n)
+found_is es n k None f w = sym (find_hasnt es n k n f (omega arith))
+found_is es n k (Some i) f w = sym (find-has es n k i f w)
 
 -- one entry more
 has-next : (es : List ℕ) (k n i : ℕ) → has_key k (item_keys (items_from es (suc n) i)) ≡ (has_key k (item_keys (items_from es n i)) || eqb (get_or es (4 * (i + n)) 0) k)

@@ -3,7 +3,7 @@ use mathlib.Core.Path.{◌≡◌, refl, sym, ap, ap₂, ◌∙◌}
 use Prim.Native.Nat.{ℕ, zero, suc, ◌+◌, ◌-◌, ◌*◌, ◌≤◌, ◌<◌}
 use native.Mathlib.Omega.{arith}
 use native.Mathlib.Numerals.{add-one}
-use mathlib.Core.Bool.{Bool, true, false, cond}
+use mathlib.Core.Bool.{Bool, true, false}
 use mathlib.Core.List.{List, [], ◌∷◌, ◌++◌}
 use lib.ListN.{length, get_or, take, replicate, length-append}
 use lib.IntN.{ℤ, pos}
@@ -24,7 +24,7 @@ use Rattle.layer.specs.Layer.{hash_by, count_of, offer_to}
 use Rattle.layer.specs.Merge.{has_key, firsts, offer_all, offer_answers}
 use Rattle.layer.specs.inner.Gather.{Gathered, merge_table, offer_one, gather, items_from, items_of, keys_of, first_at, gathered_of}
 use Rattle.layer.proofs.Steps.{offer-few}
-use Rattle.layer.proofs.Firsts.{firsts-append, firsts-few, front_items, items-many, Finds, find-has, find_hasnt, Seen, seen_none, seen_known, seen_new}
+use Rattle.layer.proofs.Firsts.{firsts-append, firsts-few, front_items, items-many, Seen, seen_none, seen_known, seen_new}
 
 pub gathered_path : {a b : Table} {m n : ℕ} {xs ys : List ℕ} → a ≡ b → m ≡ n → xs ≡ ys → ◌≡◌ {A = Gathered} (record { table = a; keys = m; list = xs }) (record { table = b; keys = n; list = ys })
 gathered_path p q r = λ i. record { table = p i; keys = q i; list = r i }
@@ -45,24 +45,24 @@ one-view d cells w es es' ns ns' list list' g a v r ev words counts said e told 
 
 -- ---- an entry, if it is the first of its key
 
-module _ (d : Dims) (cells : List ℤ) (bef : List ℕ) (m : ℕ) (src : List ℕ) (i : ℕ) (w : Item) (is : w ≡ item_of src i) (r : ℕ) (there : Finds bef m w.key r) (g : Gathered) where
+module _ (d : Dims) (cells : List ℤ) (bef : List ℕ) (m : ℕ) (src : List ℕ) (i : ℕ) (w : Item) (is : w ≡ item_of src i) (a : Bool) (there : a ≡ has_key w.key (keys_of bef m)) (g : Gathered) where
   key : w.key ≡ get_or src (4 * i) 0
   key = ap (λ (x : Item). x.key) is
 
-  pub first_there : r < m → g ≡ first_at d cells bef m src i g
+  pub first_there : a ≡ true → g ≡ first_at d cells bef m src i g
   unfolding first_at
-  first_there h = rw (← key, find-has bef m w.key r there h)
+  first_there h = rw (← key, ← there, h)
 
-  pub first_here : m ≤ r → (q : ℕ) → Finds src i w.key q → q < i → g ≡ first_at d cells bef m src i g
+  pub first_here : a ≡ false → (b : Bool) → b ≡ has_key w.key (keys_of src i) → b ≡ true → g ≡ first_at d cells bef m src i g
   unfolding first_at
-  first_here h q here k = rw (← key, find_hasnt bef m w.key r there h, find-has src i w.key q here k)
+  first_here h b here k = rw (← key, ← there, h, ← here, k)
 
-  pub first_new : m ≤ r → (q : ℕ) → Finds src i w.key q → i ≤ q → (g' : Gathered) → g' ≡ offer_one d cells w g → g' ≡ first_at d cells bef m src i g
+  pub first_new : a ≡ false → (b : Bool) → b ≡ has_key w.key (keys_of src i) → b ≡ false → (g' : Gathered) → g' ≡ offer_one d cells w g → g' ≡ first_at d cells bef m src i g
   unfolding first_at
-  first_new h q here k g' e =
-      e ∙ ap (λ (x : Item). offer_one d cells x g) is
-      ∙ sym (ap (λ (b : Bool). cond b g (cond (has_key (get_or src (4 * i) 0) (keys_of src i)) g (offer_one d cells (item_of src i) g))) (rw key at (find_hasnt bef m w.key r there h))
-      ∙ ap (λ (b : Bool). cond b g (offer_one d cells (item_of src i) g)) (rw key at (find_hasnt src i w.key q here k)))
+  first_new h b here k g' e =
+      let p : has_key (get_or src (4 * i) 0) (keys_of bef m) ≡ false = rw key at (sym there ∙ h) in
+      let q : has_key (get_or src (4 * i) 0) (keys_of src i) ≡ false = rw key at (sym here ∙ k) in
+      rw (p, q) (e ∙ ap (λ (x : Item). offer_one d cells x g) is)
 
 -- ---- the loop
 

@@ -57,13 +57,7 @@ fn offer_first(
         ≡ first_at d counters.now before.now m source.now i (gathered_in entries counts list g) }
 {
     let w = heap_moves::item_at(source, i);
-    let there = heap::find(before, m, w.key);
-    if there < m {
-        return g;
-    }
-    let here = heap::find(source, i, w.key);
-    let known = here < i;
-    if known {
+    if heap::find(before, m, w.key).is_some() || heap::find(source, i, w.key).is_some() {
         return g;
     }
     offer_one(entries, counts, list, d, g, w, counters)

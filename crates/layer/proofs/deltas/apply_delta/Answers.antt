@@ -2,7 +2,7 @@
 use Prim.Native.Nat.{◌+◌, ◌*◌}
 use mathlib.Core.Path.{◌≡◌, sym, ap, ◌∙◌}
 use mathlib.Core.Bool.{true, false, ◌&&◌}
-use lib.ListN.{length, set, take, length-set}
+use lib.ListN.{length, set, take}
 use lib.IntN.{◌+ℤ◌}
 use native.Mathlib.Omega.{arith}
 use borrow.Author.Rules.{sfits_of}
@@ -74,22 +74,15 @@ apply_delta-requires c =
       fit = cell-fits (goal.at.apply_delta-requires c).Start;
     })
 
-pub count_with_hash-n-requires : goal.count_with_hash-n-requires
-count_with_hash-n-requires c =
+pub count_with_hash-n-requires-clause-rows_value : goal.count_with_hash-n-requires-clause-rows_value
+count_with_hash-n-requires-clause-rows_value c =
     let a = c.args in
     let p = c.requires in
-    let at = a.row * a.d.cols + a.col in record {
-      shaped = p.housed.shaped;
-      cols_in_bounds = omega (arith, p.housed.cells, ap length (cells-now (goal.at.count_with_hash-n-requires c).After-apply_delta) ∙ length-set a.counters.now at (cell_at a.counters.now at +ℤ a.count));
-      rows_value = rw (cells-now (goal.at.count_with_hash-n-requires c).After-apply_delta)
-          (cells-set a.d.cols (hash_by a.item) a.counters.now at (cell_at a.counters.now at +ℤ a.count) a.d.rows 0
-          (place-lt a.d.rows a.d.cols a.row a.col (length a.counters.now) p.below p.inside (omega (arith, p.housed.cells))) (cell-fits (goal.at.count_with_hash-n-requires c).Start) (cells-read (goal.at.count_with_hash-n-requires c).Start));
-    }
-
-pub offer-requires : goal.offer-requires
-offer-requires c =
-    let p = c.requires in
-    record { words = p.words; counts = p.housed.seats; some = p.housed.some; used = p.housed.used }
+    let at = a.row * a.d.cols + a.col in
+    rw (cells-now (goal.at.count_with_hash-n-requires-clause-rows_value c).After-apply_delta)
+    (cells-set a.d.cols (hash_by a.item) a.counters.now at (cell_at a.counters.now at +ℤ a.count) a.d.rows 0
+    (place-lt a.d.rows a.d.cols a.row a.col (length a.counters.now) p.below p.inside (omega (arith, p.housed.cells)))
+    (cell-fits (goal.at.count_with_hash-n-requires-clause-rows_value c).Start) (cells-read (goal.at.count_with_hash-n-requires-clause-rows_value c).Start))
 
 pub returns : goal.returns
 returns c = by_clause (let a = c.args in
