@@ -10,6 +10,7 @@ use heap::Answer;
 use heap_moves::Item;
 
 // Whether all that an update reads of the layer is in range.
+#[tactic(auto, using(crate::proofs::Tests::reads_are))]
 pub fn add_reads(
     counters: &[i64],
     norms: &[u64],
@@ -26,6 +27,7 @@ pub fn add_reads(
 }
 
 // Whether an update may be made: what it reads is in range, and no counter leaves the range.
+#[tactic(auto, using(crate::proofs::Tests::ready_are))]
 pub fn add_ready(
     counters: &[i64],
     norms: &[u64],

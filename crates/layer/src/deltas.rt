@@ -13,6 +13,7 @@ use heap::Answer;
 use heap_moves::Item;
 
 // Whether all that a delta reads of the layer is in range.
+#[tactic(auto, using(crate::proofs::Tests::delta_reads_are))]
 pub fn delta_reads(
     counters: &[i64],
     norms: &[u64],
@@ -33,6 +34,7 @@ pub fn delta_reads(
 }
 
 // Whether the counter, which is in range, stays so, whatever the count.
+#[tactic(auto, unfolding(crate::specs::Delta::delta_fits))]
 pub fn delta_fits(counters: &[i64], d: Dims, row: usize, col: usize, count: i64) -> bool
     requires row_lt_rows { (row < d.rows) × (col < d.cols) }
     requires shaped { Shaped d.rows d.cols }

@@ -12,6 +12,7 @@ use crate::candidates::merge_candidates;
 use crate::{Dims, Merged};
 
 // Whether all that a merge reads of the two layers is in range: every counter and every candidate.
+#[tactic(auto, using(crate::proofs::Merges::merge_reads_are))]
 pub fn merge_reads(
     counters: &[i64],
     counts: &[i64],
@@ -31,6 +32,7 @@ pub fn merge_reads(
 }
 
 // Whether every sum of two counters is in range, of counters that are in range.
+#[tactic(auto, using(crate::proofs::Merges::merge_fits_are))]
 pub fn merge_fits(counters: &[i64], other_counters: &[i64]) -> bool
     requires counters_len { length counters.now ≡ length other_counters.now }
     requires counters_value { (all_in counters.now ≡ true) × (all_in other_counters.now ≡ true) }

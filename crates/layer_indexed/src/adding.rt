@@ -13,6 +13,7 @@ use heap_moves::Item;
 use layer::Dims;
 
 // 1 where what an update reads first is out of range, else 2: of an update whose rows are not ready, why.
+#[tactic(auto, unfolding(crate::specs::Adding::add_reads_in))]
 fn unready_grade(
     counters: &[i64],
     norms: &[u64],

@@ -35,6 +35,7 @@ fn count_behind(
 
 // Whether what a delta reads first is in range: its cell and norm, the cells of the key's estimate, and what
 // the key's own lookup visits.
+#[tactic(auto, unfolding(crate::specs::Adding::delta_reads_in))]
 fn delta_reads(
     counters: &[i64],
     norms: &[u64],
