@@ -8,14 +8,15 @@ use native.Mathlib.Omega.{arith}
 use native.Mathlib.Nat.{pow-suc, mul_assoc, mul_comm, mul-le-mul, le_refl, lt_of_not-le, one-mul}
 use native.Mathlib.Numerals.{add-one}
 use lib.ListN.{length, set, replicate, length-set, length-replicate}
-use lib.Seq.{set_out}
 use lib.Dec.{eqb, leb, ltb}
 use lib.Pow.{pow_pos, pow_mono, shl_exact}
 use lib.Count.{count_leading_zeros, leading_top}
-use borrow.Author.Tests.{eq-eqb, ne_eqb, le-leb, lt-leb, leb-true}
+use borrow.Author.Tests.{eq-eqb, ne_eqb, le-leb, lt-leb, leb-true, lt-ltb, le-ltb}
+use Rattle.std.specs.Option.{option_eq}
+use Rattle.std.proofs.Common.{Option, Some, None, IfSome, is_some, unwrap_or}
 use Rattle.heap_moves.specs.Cands.{Cand}
 use Rattle.heap_index.specs.declared.Lookup.{Lookup}
-use Rattle.heap_index.specs.declared.Lookup.TheVariants.{Met, Vacant, Refused}
+use Rattle.heap_index.specs.declared.Lookup.TheVariants.{Met, Vacant}
 use Rattle.heap_index.specs.Index.{word, key_at, look, found_under, round_up, index_length, entries_ok, place_ok, places_ok, index_ok, enter_by, enter_all, build}
 
 -- ---- the check
@@ -56,6 +57,16 @@ module _ (xs : List ℕ) (n : ℕ) (cs : List Cand) where
   pub index_by : (b : Bool) → entries_ok n xs n cs 0 ≡ true → b ≡ places_ok (length xs) xs n cs 0 → b ≡ index_ok xs n cs
   unfolding index_ok
   index_by b e q = rw e q
+
+-- a place that was found is one of m
+pub some_below : (o : Option ℕ) (m : ℕ) (b : Bool) → IfSome o (λ p. p < m) → is_some o ≡ b → ltb (unwrap_or o m) m ≡ b
+some_below None m b h e = le-ltb m m (omega arith) ∙ e
+some_below (Some p) m b h e = lt-ltb p m h ∙ e
+
+-- and whether it is the place p
+pub same_some : (o : Option ℕ) (m p : ℕ) → p < m → option_eq eqb o (Some p) ≡ eqb (unwrap_or o m) p
+same_some None m p h = sym (ne_eqb m p (λ y. omega (arith, y)))
+same_some (Some q) m p h = refl
 
 -- ---- the length of an index
 
@@ -158,10 +169,10 @@ unfolding build
 enter-start m n xs cs e = record { long = ap length e ∙ length-replicate {A = ℕ} m 0; left = n; all = omega arith; goes = ap (λ (x : List ℕ). enter_all n x cs 0) e }
 
 -- an entry that comes in leaves the table as long as it was
-enter-long : (xs : List ℕ) (i : ℕ) (l : Lookup) → length (enter_by xs i l) ≡ length xs
-enter-long xs i (Met p d) = refl
-enter-long xs i (Vacant p d) = length-set xs p (suc i)
-enter-long xs i Refused = refl
+enter-long : (xs : List ℕ) (i : ℕ) (l : Option Lookup) → length (enter_by xs i l) ≡ length xs
+enter-long xs i (Some (Met p d)) = refl
+enter-long xs i (Some (Vacant p d)) = length-set xs p (suc i)
+enter-long xs i None = refl
 
 enter_all-long : (k : ℕ) (xs : List ℕ) (cs : List Cand) (i : ℕ) → length (enter_all k xs cs i) ≡ length xs
 unfolding enter_all
@@ -196,19 +207,17 @@ enter_end goal m n xs cs i v h = go v.left v.all v.goes
     go zero a g = g
     go (suc f) a g = absurd (omega (arith, a))
 
-pub enter_is : (xs : List ℕ) (cs : List Cand) (i k : ℕ) (l : Lookup) → key_at cs i ≡ k → look xs i cs k ≡ l → enter_by xs i l ≡ enter_by xs i (look xs i cs (key_at cs i))
+pub enter_is : (xs : List ℕ) (cs : List Cand) (i k : ℕ) (l : Option Lookup) → key_at cs i ≡ k → look xs i cs k ≡ l → enter_by xs i l ≡ enter_by xs i (look xs i cs (key_at cs i))
 enter_is xs cs i k l e q = ap (enter_by xs i) (sym (ap (look xs i cs) e ∙ q))
 
--- where it comes in, of a table of m places: a store past its end changes nothing
-module _ (m : ℕ) (l : Lookup) (xs : List ℕ) (i : ℕ) (long : length xs ≡ m) where
-  past_end : enter_by xs i l ≡ xs → set xs m (i + 1) ≡ enter_by xs i l
-  past_end e = set_out xs m (i + 1) (omega (arith, long)) ∙ sym e
+-- where it comes in
+module _ (xs : List ℕ) (cs : List Cand) (i k : ℕ) (q : key_at cs i ≡ k) where
+  pub enter_vacant : (p d : ℕ) → look xs i cs k ≡ Some (Vacant p d) → set xs p (i + 1) ≡ enter_by xs i (look xs i cs (key_at cs i))
+  enter_vacant p d e = ap (set xs p) (add-one i) ∙ enter_is xs cs i k (Some (Vacant p d)) q e
 
-  pub enter_met : (p d : ℕ) → l ≡ Met p d → set xs m (i + 1) ≡ enter_by xs i l
-  enter_met p d e = past_end (ap (enter_by xs i) e)
+  pub enter_met : (l : Lookup) → look xs i cs k ≡ Some l → ((p d : ℕ) → l ≡ Vacant p d → ⊥) → xs ≡ enter_by xs i (look xs i cs (key_at cs i))
+  enter_met (Met p d) e h = enter_is xs cs i k (Some (Met p d)) q e
+  enter_met (Vacant p d) e h = absurd (h p d refl)
 
-  pub enter_vacant : (p d : ℕ) → l ≡ Vacant p d → set xs p (i + 1) ≡ enter_by xs i l
-  enter_vacant p d e = ap (set xs p) (add-one i) ∙ sym (ap (enter_by xs i) e)
-
-  pub enter-refused : l ≡ Refused → set xs m (i + 1) ≡ enter_by xs i l
-  enter-refused e = past_end (ap (enter_by xs i) e)
+  pub enter-refused : look xs i cs k ≡ None → xs ≡ enter_by xs i (look xs i cs (key_at cs i))
+  enter-refused e = enter_is xs cs i k None q e

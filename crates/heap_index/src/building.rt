@@ -1,5 +1,5 @@
 // A new index.
-ghost use Rattle.std.specs.Prelude.{◌≡◌, List, ℕ, ◌+◌, ◌≤◌, ◌<◌, length, set};
+ghost use Rattle.std.specs.Prelude.{◌≡◌, ℕ, ◌≤◌, ◌<◌, length};
 ghost use Rattle.heap_moves.specs.Cands.{most_cands};
 ghost use Rattle.heap_moves.specs.Flat.{cands_of};
 ghost use Rattle.heap_index.specs.Index;
@@ -23,28 +23,16 @@ pub fn index_length(size: usize) -> usize
     (1u64 << digits) as usize
 }
 
-// The place where an entry comes in after the lookup of its key in m places: m, where there is none, if its key
-// was met.
-fn place_for(m: usize, l: Lookup) -> usize
-    ensures { (xs : List ℕ) (i : ℕ) → length xs ≡ m → set xs result (i + 1) ≡ enter_by xs i l }
-{
-    match l {
-        Lookup::Met(p, d) => m,
-        Lookup::Vacant(p, d) => p,
-        Lookup::Refused => m,
-    }
-}
-
 // Entry i comes in, where the first i have, unless its key is found.
 fn enter(index: &mut [u64], entries: &[u64], counts: &[i64], i: usize)
     requires cover { Cover (length entries.now) (length counts.now) i }
     requires i_in_bounds { i < length counts.now }
     ensures { index.new ≡ enter_by index.old i (Rattle.heap_index.specs.Index.look index.old i (cands_of entries.now counts.now) (key_at (cands_of entries.now counts.now) i)) }
 {
-    let key = entries[4 * i];
-    let l = look(&*index, entries, counts, i, key);
-    let p = place_for(index.len(), l);
-    if p < index.len() {
+    let Some(l) = look(&*index, entries, counts, i, entries[4 * i]) else {
+        return;
+    };
+    if let Lookup::Vacant(p, _) = l {
         index[p] = i as u64 + 1;
     }
 }
@@ -54,10 +42,8 @@ pub fn build(index: &mut [u64], entries: &[u64], counts: &[i64], n: usize)
     requires { Cover (length entries.now) (length counts.now) n }
     ensures { index.new ≡ Rattle.heap_index.specs.Index.build (length index.old) n (cands_of entries.now counts.now) }
 {
-    words::zero_words(index);
-    let mut i = 0;
-    while i < n {
+    index.fill(0);
+    for i in 0..n {
         enter(index, entries, counts, i);
-        i += 1;
     }
 }
