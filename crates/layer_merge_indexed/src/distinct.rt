@@ -13,15 +13,16 @@ fn take_in(seen: &mut [u64], aside: &mut [u64], zeros: &mut [i64], k: usize, w: 
     ensures result_after { items_of aside.new result ≡ with_firsts (items_of aside.old k) (w ∷ []) }
     ensures apart_2 { Apart seen.new aside.new zeros.new result × (result ≤ k + 1) }
 {
-    let l = heap_index::look(&*seen, &*aside, &*zeros, k, w.key);
+    let Some(l) = heap_index::look(&*seen, &*aside, &*zeros, k, w.key) else {
+        return k;
+    };
     match l {
-        Lookup::Met(p, d) => k,
-        Lookup::Vacant(p, d) => {
+        Lookup::Met(..) => k,
+        Lookup::Vacant(p, _) => {
             seen[p] = k as u64 + 1;
             heap_moves::put_cand(aside, zeros, k, w, 0);
             k + 1
         }
-        Lookup::Refused => k,
     }
 }
 
