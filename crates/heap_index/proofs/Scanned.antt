@@ -3,14 +3,14 @@ use mathlib.Core.Path.{◌≡◌, refl, sym, ap, ◌∙◌, subst}
 use mathlib.Core.Logic.{◌≢◌}
 use mathlib.Core.Bool.{Bool, true, false, cond, ◌&&◌}
 use mathlib.Core.List.{List}
-use Prim.Native.Nat.{ℕ, zero, suc, ◌+◌, ◌-◌, ◌*◌, ◌%◌, ◌^◌, ◌≤◌, ◌<◌}
+use Prim.Native.Nat.{ℕ, zero, suc, ◌+◌, ◌-◌, ◌*◌, ◌/◌, max, ◌^◌, ◌≤◌, ◌<◌}
 use native.Mathlib.Omega.{arith}
-use native.Mathlib.Nat.{pow-suc, mul_assoc, mul_comm, mul-le-mul, le_refl, lt_of_not-le, one-mul}
+use native.Mathlib.Nat.{pow-suc, mul_assoc, mul_comm, mul-le-mul, le_refl, lt_of_not-le}
 use native.Mathlib.Numerals.{add-one}
 use lib.ListN.{length, set, replicate, length-set, length-replicate}
+use native.Mathlib.Decide.{ℕ_discrete}
 use lib.Dec.{eqb, leb, ltb}
-use lib.Pow.{pow_pos, pow_mono, shl_exact}
-use lib.Count.{count_leading_zeros, leading_top}
+use lib.Pow.{pow_pos, pow_mono}
 use borrow.Author.Tests.{eq-eqb, ne_eqb, le-leb, lt-leb, leb-true, lt-ltb, le-ltb}
 use Rattle.std.specs.Option.{option_eq}
 use Rattle.std.proofs.Common.{Option, Some, None, IfSome, is_some, unwrap_or}
@@ -95,35 +95,17 @@ round_at (suc k) (suc f) p n h a b =
 pub none-length : (size : ℕ) → size ≡ 0 → 1 ≡ index_length size
 none-length size e = sym (round_first 11 1 (2 * size) (omega (arith, e)))
 
--- the number of binary digits of the number before twice the size, and two to it
-pub record Digits (size : ℕ) : Type 0 where
-  pub digits : ℕ
-  pub zeros : count_leading_zeros 64 (2 * size - 1) + digits ≡ 64
-  pub few : digits ≤ 11
-  pub is : 2 ^ digits ≡ index_length size
-
-pub length_digits : (size : ℕ) → size ≢ 0 → size ≤ 1024 → Digits size
-length_digits size z h = go (leading_top 64 (2 * size - 1) (omega (arith, z)) (omega (arith, h)))
+-- the first power of two that is not below twice the size
+pub length_power : (size r : ℕ) → size ≤ 1024 → (k : ℕ) × (r ≡ 2 ^ k) → 2 * size ≤ r → r / 2 < max 1 (2 * size) → r ≡ index_length size
+length_power size r h p low high = go (ℕ_discrete size 0) p.0 p.1
   where
-    go : (j : ℕ) × (count_leading_zeros 64 (2 * size - 1) + suc j ≡ 64) × (2 ^ j ≤ 2 * size - 1) × (2 * size - 1 < 2 ^ suc j) → Digits size
-    go t =
-        let few : t.0 < 11 = lt_of_not-le (λ (g : 11 ≤ t.0). omega (arith, h, t.2, pow_mono g)) in
-        let twice : 2 ^ suc t.0 ≡ 2 ^ t.0 * 2 = pow-suc 2 t.0 in
-        record {
-          digits = suc t.0;
-          zeros = t.1;
-          few = few;
-          is = let e = round_at (suc t.0) 11 1 (2 * size) few (omega (arith, z, t.3)) (omega (arith, z, t.2, twice)) in omega (arith, e);
-        }
-
--- what the code makes of the leading zeros
-pub length_shift : (size d : ℕ) → size ≢ 0 → size ≤ 1024 → d ≡ 64 - count_leading_zeros 64 (2 * size - 1) → (1 * 2 ^ d) % 2 ^ 64 ≡ index_length size
-length_shift size d z h e = go (length_digits size z h)
-  where
-    go : Digits size → (1 * 2 ^ d) % 2 ^ 64 ≡ index_length size
-    go g =
-        let q : d ≡ g.digits = omega (arith, e, g.zeros) in
-        shl_exact 1 d 64 (omega arith) (omega (arith, q, g.few)) ∙ ap (λ (x : ℕ). 1 * 2 ^ x) q ∙ one-mul (2 ^ g.digits) ∙ g.is
+    go : Dec (size ≡ 0) → (k : ℕ) → r ≡ 2 ^ k → r ≡ index_length size
+    go (yes z) k e = let some : 0 < 2 ^ k = pow_pos k in omega (arith, none-length size z, some)
+    go (no z) zero e = let q = round_at 0 11 1 (2 * size) (omega arith) (omega (arith, e)) (omega arith) in omega (arith, e, q)
+    go (no z) (suc k) e =
+        let twice : 2 ^ suc k ≡ 2 ^ k * 2 = pow-suc 2 k in
+        let few : k < 11 = lt_of_not-le (λ (g : 11 ≤ k). omega (arith, h, z, pow_mono g, twice)) in
+        let q = round_at (suc k) 11 1 (2 * size) few (omega (arith, e)) (omega (arith, z, twice, e)) in omega (arith, e, q)
 
 -- there is room for every entry
 round_room : (f p n : ℕ) → n ≤ p * 2 ^ f → n ≤ round_up f p n

@@ -9,18 +9,12 @@ ghost use Rattle.heap_index.specs.inner.Needs.{Cover};
 use crate::Lookup;
 use crate::lookups::look;
 
-// The length of an index for a heap of `size` entries: two to the number of binary digits of the number before
-// twice the size.
+// The length of an index for a heap of `size` entries: the first power of two that is not below twice the size.
 pub fn index_length(size: usize) -> usize
     requires { size ≤ most_cands }
     ensures { result ≡ index_length size }
 {
-    if size == 0 {
-        return 1;
-    }
-    let below = 2 * size as u64 - 1;
-    let digits = 64 - u64::leading_zeros(below) as u64;
-    (1u64 << digits) as usize
+    (2 * size).next_power_of_two()
 }
 
 // Entry i comes in, where the first i have, unless its key is found.
