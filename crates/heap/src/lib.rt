@@ -109,10 +109,8 @@ pub fn len_after(len: usize, a: Answer) -> usize
     ensures { result ≡ len_by a len }
 {
     match a {
-        Answer::Rescored => len,
         Answer::Seated => len + 1,
-        Answer::Displaced(k) => len,
-        Answer::TurnedAway => len,
+        Answer::Rescored | Answer::Displaced(_) | Answer::TurnedAway => len,
     }
 }
 
@@ -120,12 +118,7 @@ pub fn len_after(len: usize, a: Answer) -> usize
 pub fn kept(a: Answer) -> bool
     ensures { result ≡ kept_by a }
 {
-    match a {
-        Answer::Rescored => true,
-        Answer::Seated => true,
-        Answer::Displaced(k) => false,
-        Answer::TurnedAway => false,
-    }
+    matches!(a, Answer::Rescored | Answer::Seated)
 }
 
 // Whether the counts of the first n candidates lie within ±2^52.

@@ -7,6 +7,7 @@ use native.Mathlib.Omega.{arith}
 use lib.ListN.{length, set}
 use lib.Seq.{set-set, set-get_or}
 use lib.IntN.{ℤ, pos, ◌+ℤ◌}
+use Rattle.std.proofs.Common.{Option, Some, None, is_some}
 use Rattle.words.proofs.Bools.{never, and_left, and_right}
 use Rattle.countsketch_l2_norm.specs.Sketch.{cell_at, cell_read, cell_fits, add_cell, add_rows, rows_read, rows_fit}
 use Rattle.countsketch_l2_norm.specs.Estimate.{estimate_of, cells_in_range}
@@ -18,23 +19,21 @@ use Rattle.heap_moves.proofs.Rounds.{entries-cands, counts-cands, entries_are, c
 use Rattle.heap.specs.Offer.{Table}
 use Rattle.heap.specs.inner.Slices.{table_of}
 use Rattle.heap_index.specs.declared.Lookup.{Lookup}
-use Rattle.heap_index.specs.declared.Lookup.TheVariants.{Met, Vacant, Refused}
 use Rattle.heap_indexed.specs.Offers.{offer_in}
 use Rattle.heap_indexed.proofs.Runs.{fine_looked}
 use Rattle.layer.specs.declared.Dims.{Dims}
 use Rattle.layer.specs.Layer.{hash_by, count_of, layer_update, add_sketch, add_fits}
 use Rattle.layer.specs.Delta.{delta_fits}
 use Rattle.layer.specs.inner.Needs.{layer_of, delta}
-use Rattle.layer_indexed.specs.Adding.{is_found, key_looked, add_reads_in, add_moves_in, delta_reads_in, delta_moves_in}
+use Rattle.layer_indexed.specs.Adding.{key_looked, add_reads_in, add_moves_in, delta_reads_in, delta_moves_in}
 use Rattle.layer_indexed.specs.inner.Needs.{grade_by, read_grade, add_grade, delta_grade}
 
 -- ---- lookups
 
 -- a lookup that is not refused ends at the key or at an empty place
-pub not-refused : (l : Lookup) → (l ≡ Refused → ⊥) → is_found l ≡ true
-not-refused (Met p d) f = refl
-not-refused (Vacant p d) f = refl
-not-refused Refused f = absurd (f refl)
+pub not-refused : (l : Option Lookup) → (l ≡ None → ⊥) → is_some l ≡ true
+not-refused (Some l) f = refl
+not-refused None f = absurd (f refl)
 
 -- the key of an offer that is not refused was looked up
 pub offer_looked : (size : ℕ) (xs : List ℕ) (t : Table) (c : Cand) → (offer_in size xs t c).after.fine ≡ true → key_looked xs t c.item.key ≡ true

@@ -12,6 +12,7 @@ use lib.Seq.{take-suc-set}
 use lib.IntN.{ℤ, pos}
 use lib.Dec.{eqb}
 use borrow.Author.Tests.{eqb-true, eqb-false}
+use Rattle.std.proofs.Common.{Option, Some, None}
 use Rattle.words.specs.Num.{in_range}
 use Rattle.heap_moves.specs.declared.Item.{Item}
 use Rattle.heap_moves.specs.Cands.{Cand}
@@ -19,7 +20,7 @@ use Rattle.heap_moves.specs.Flat.{item_of, cands_of, cand_of}
 use Rattle.heap_moves.proofs.Views.{cand_at, length-cands}
 use Rattle.heap_moves.proofs.Moved.{each_next}
 use Rattle.heap_index.specs.declared.Lookup.{Lookup}
-use Rattle.heap_index.specs.declared.Lookup.TheVariants.{Met, Vacant, Refused}
+use Rattle.heap_index.specs.declared.Lookup.TheVariants.{Met, Vacant}
 use Rattle.heap_index.specs.Index.{home, dist, word, key_at, look}
 use Rattle.heap_index.specs.inner.Indexes.{Indexes, Ranged}
 use Rattle.heap_index.proofs.Stands.{stands, other_ends}
@@ -58,30 +59,30 @@ where_key es (suc k) key = go (where_key es k key) (eqb (get_or es (4 * k) 0) ke
 
 -- ---- what the lookup says
 
-abbrev pub is_met : Lookup → Bool
-is_met (Met p d) = true
-is_met (Vacant p d) = false
-is_met Refused = false
+abbrev pub is_met : Option Lookup → Bool
+is_met (Some (Met p d)) = true
+is_met (Some (Vacant p d)) = false
+is_met None = false
 
-abbrev pub is_vacant : Lookup → Bool
-is_vacant (Met p d) = false
-is_vacant (Vacant p d) = true
-is_vacant Refused = false
+abbrev pub is_vacant : Option Lookup → Bool
+is_vacant (Some (Met p d)) = false
+is_vacant (Some (Vacant p d)) = true
+is_vacant None = false
 
-abbrev pub vacant_at : Lookup → ℕ
-vacant_at (Met p d) = 0
-vacant_at (Vacant p d) = p
-vacant_at Refused = 0
+abbrev pub vacant_at : Option Lookup → ℕ
+vacant_at (Some (Met p d)) = 0
+vacant_at (Some (Vacant p d)) = p
+vacant_at None = 0
 
-pub not_vacant : (l : Lookup) → ((p d : ℕ) → l ≡ Vacant p d → ⊥) → is_vacant l ≡ false
-not_vacant (Met p d) f = refl
-not_vacant (Vacant p d) f = absurd (f p d refl)
-not_vacant Refused f = refl
+pub not_vacant : (l : Option Lookup) → ((p d : ℕ) → l ≡ Some (Vacant p d) → ⊥) → is_vacant l ≡ false
+not_vacant (Some (Met p d)) f = refl
+not_vacant (Some (Vacant p d)) f = absurd (f p d refl)
+not_vacant None f = refl
 
-one_of : (l : Lookup) → is_met l ≡ true → is_vacant l ≡ true → ⊥
-one_of (Met p d) a b = true≢false (sym b)
-one_of (Vacant p d) a b = true≢false (sym a)
-one_of Refused a b = true≢false (sym a)
+one_of : (l : Option Lookup) → is_met l ≡ true → is_vacant l ≡ true → ⊥
+one_of (Some (Met p d)) a b = true≢false (sym b)
+one_of (Some (Vacant p d)) a b = true≢false (sym a)
+one_of None a b = true≢false (sym a)
 
 module _ (xs es : List ℕ) (ns : List ℤ) (k : ℕ) (v : Apart xs es ns k) (places : k < length xs) (key : ℕ) where
   abbrev cs : List Cand
@@ -91,7 +92,7 @@ module _ (xs es : List ℕ) (ns : List ℤ) (k : ℕ) (v : Apart xs es ns k) (pl
   at j h = ap (λ (c : Cand). c.item.key) (cand_at es ns j (omega (arith, h, v.used)))
 
   -- the key stands there, and is met; or it does not, and its lookup ends at an empty place
-  pub record ComesIn (l : Lookup) : Type 0 where
+  pub record ComesIn (l : Option Lookup) : Type 0 where
     pub place : ℕ
     pub ends : vacant_at l ≡ place
     pub below : place < length xs
@@ -99,7 +100,7 @@ module _ (xs es : List ℕ) (ns : List ℤ) (k : ℕ) (v : Apart xs es ns k) (pl
     pub before : (q : ℕ) → q < length xs → dist (length xs) (home (length xs) key) q < dist (length xs) (home (length xs) key) place → word xs q ≢ 0
     pub new : (j : ℕ) → j < k → key_at cs j ≢ key
 
-  pub said : (l : Lookup) → l ≡ look xs k cs key → ((has_key key (keys_of es k) ≡ true) × (is_met l ≡ true)) ⊎ ((has_key key (keys_of es k) ≡ false) × ((is_vacant l ≡ true) × ComesIn l))
+  pub said : (l : Option Lookup) → l ≡ look xs k cs key → ((has_key key (keys_of es k) ≡ true) × (is_met l ≡ true)) ⊎ ((has_key key (keys_of es k) ≡ false) × ((is_vacant l ≡ true) × ComesIn l))
   said l e = go (where_key es k key)
     where
       go : (Somewhere es k key × (has_key key (keys_of es k) ≡ true)) ⊎ (Nowhere es k key × (has_key key (keys_of es k) ≡ false))
@@ -115,7 +116,7 @@ module _ (xs es : List ℕ) (ns : List ℤ) (k : ℕ) (v : Apart xs es ns k) (pl
 
 -- ---- an entry comes in, unless its key stands there
 
-module _ (xs es : List ℕ) (ns : List ℤ) (k : ℕ) (v : Apart xs es ns k) (places : k < length xs) (w : Item) (l : Lookup) (e : l ≡ look xs k (cands_of es ns) w.key) where
+module _ (xs es : List ℕ) (ns : List ℤ) (k : ℕ) (v : Apart xs es ns k) (places : k < length xs) (w : Item) (l : Option Lookup) (e : l ≡ look xs k (cands_of es ns) w.key) where
   -- a key that stands there
   known_stays : has_key w.key (keys_of es k) ≡ true → items_of es k ≡ with_firsts (items_of es k) (w ∷ [])
   unfolding firsts

@@ -3,6 +3,7 @@ use Prim.Native.Nat.{◌<◌}
 use mathlib.Core.Path.{◌≡◌, refl, sym, ap, ◌∙◌}
 use lib.ListN.{length}
 use native.Mathlib.Omega.{arith}
+use Rattle.std.proofs.Common.{Some}
 use Rattle.layer_merge_indexed.proofs.Takes.{is_vacant, vacant_at, not_vacant, other_stays, new_items, new_apart}
 use Rattle.heap_index.proofs.Walks.{vacant_place}
 use Rattle.layer_merge_indexed.proofs.distinct.take_in.Goals as goal
@@ -14,7 +15,7 @@ empty_left c = omega (arith, c.requires.behind.places)
 
 -- where the lookup ended is a place
 at-empty : (c : In-Vacant) → c.in-Vacant.p < length c.args.seen.now
-at-empty c = vacant_place _ _ _ _ _ _ (sym c.look.ensures ∙ c.in-Vacant.is)
+at-empty c = vacant_place _ _ _ _ _ _ (sym c.look.ensures ∙ c.in-Some-Vacant.is)
 
 pub returns-in_default : goal.returns-in_default
 returns-in_default c =
@@ -30,10 +31,4 @@ pub bounds-seen-p : goal.bounds-seen-p
 bounds-seen-p c = at-empty (goal.at.bounds-seen-p c).In-Vacant
 
 pub returns : goal.returns
-returns c =
-    let k = c.put_cand.auto in
-    let at : vacant_at c.look.result ≡ c.in-Vacant.p = ap vacant_at c.in-Vacant.is in
-    let room : c.args.k < length c.args.zeros.now = omega (arith, c.requires.behind.counts) in record {
-      result_after = new_items _ _ _ _ c.requires.apart (empty_left (goal.at.returns c).Start) c.args.w _ c.look.ensures room _ (ap is_vacant c.in-Vacant.is) at _ _ _ refl k.entries k.counts c.put_cand.ensures;
-      apart_2 = (new_apart _ _ _ _ c.requires.apart (empty_left (goal.at.returns c).Start) c.args.w _ c.look.ensures room _ (ap is_vacant c.in-Vacant.is) at _ _ _ refl k.entries k.counts c.put_cand.ensures, omega arith);
-    }
+returns c = ?
