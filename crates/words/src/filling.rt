@@ -7,11 +7,7 @@ pub fn copy_words(from: &[u64], to: &mut [u64], n: usize)
     requires { (n ≤ length from.now) × (n ≤ length to.old) }
     ensures { Front 0 n from.now to.new }
 {
-    let mut i = 0;
-    while i < n {
-        to[i] = from[i];
-        i += 1;
-    }
+    to[..n].copy_from_slice(&from[..n]);
 }
 
 // The same of signed numbers.
@@ -19,29 +15,17 @@ pub fn copy_counts(from: &[i64], to: &mut [i64], n: usize)
     requires { (n ≤ length from.now) × (n ≤ length to.old) }
     ensures { Front (pos 0) n from.now to.new }
 {
-    let mut i = 0;
-    while i < n {
-        to[i] = from[i];
-        i += 1;
-    }
+    to[..n].copy_from_slice(&from[..n]);
 }
 
 pub fn zero_words(xs: &mut [u64])
     ensures { xs.new ≡ replicate (length xs.old) 0 }
 {
-    let mut i = 0;
-    while i < xs.len() {
-        xs[i] = 0;
-        i += 1;
-    }
+    xs.fill(0);
 }
 
 pub fn zero_counts(xs: &mut [i64])
     ensures { xs.new ≡ replicate (length xs.old) (pos 0) }
 {
-    let mut i = 0;
-    while i < xs.len() {
-        xs[i] = 0;
-        i += 1;
-    }
+    xs.fill(0);
 }
