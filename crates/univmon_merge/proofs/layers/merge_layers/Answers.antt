@@ -1,7 +1,6 @@
 -- `univmon_merge::layers::merge_layers` meets its contract.
 use native.Mathlib.Omega.{arith}
 use Rattle.layout.specs.Slices.{lent, Lent}
-use Rattle.layout.proofs.InTurn.{in_turn-long}
 use Rattle.layout.proofs.Telling.{told-start, told_end}
 use Rattle.univmon_merge.proofs.Pairings.{merging_start, merging_ready, merging_on, merging_room, merging_told, merging_end}
 use Rattle.univmon_merge.proofs.layers.merge_layers.Goals as goal
