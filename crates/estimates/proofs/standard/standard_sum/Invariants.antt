@@ -1,5 +1,5 @@
 -- `estimates::standard::standard_sum` meets its contract.
-use Prim.Native.Nat.{◌-◌, ◌≤◌}
+use Prim.Native.Nat.{◌-◌}
 use mathlib.Core.Path.{◌≡◌}
 use Rattle.estimates.specs.inner.Slices.{own_in}
 use Rattle.sums.proofs.Steps.{summed}
