@@ -21,4 +21,4 @@ returns-clause-result_value c =
     let a = c.args in
     let lp = c.loop-i in
     take_end (entry_at a.dims a.cells.now a.entries.now) a.n a.have (space a.keys.now a.bottoms.now a.counts.now) (space lp.keys lp.bottoms lp.counts)
-        lp.len lp.i lp.invariant.0 c.loop-i-test.false
+    lp.len lp.i lp.invariant.0 c.loop-i-test.false

@@ -21,8 +21,8 @@ asked c = let a = c.args in reads_are a.terminal a.dims a.cells.now a.norms.now 
 first : (c : Then-all_read) → let a = c.args in (all_in (take a.len a.counts.now) ≡ true) × (items_read a.dims a.cells.now (items_of a.entries.now a.len) ≡ true)
 first c =
     elim c.if-counts_in_range.branch [
-      then-counts_in_range w ↦ (sym c.counts_in_range.ensures ∙ w.if-counts_in_range.true, sym (w.value-is ∙ w.all_read.ensures) ∙ c.if-all_read.true)
-    | else-counts_in_range w ↦ absurd (never (sym (w.value-is ∙ w.if-counts_in_range.false) ∙ c.if-all_read.true))
+      | then-counts_in_range w ↦ (sym c.counts_in_range.ensures ∙ w.if-counts_in_range.true, sym (w.value-is ∙ w.all_read.ensures) ∙ c.if-all_read.true)
+      | else-counts_in_range w ↦ absurd (never (sym (w.value-is ∙ w.if-counts_in_range.false) ∙ c.if-all_read.true))
     ]
 
 pub returns-then-not-terminal : goal.returns-then-not-terminal
@@ -38,8 +38,8 @@ returns-else-not-terminal c =
 pub returns-else-all_read : goal.returns-else-all_read
 returns-else-all_read c =
     elim c.if-counts_in_range.branch [
-      then-counts_in_range w ↦
+      | then-counts_in_range w ↦
           c.if-all_read.false
           ∙ sym (asked (goal.at.returns-else-all_read c).Start ∙ rw (sym c.counts_in_range.ensures ∙ w.if-counts_in_range.true, sym (w.value-is ∙ w.all_read.ensures) ∙ c.if-all_read.false))
-    | else-counts_in_range w ↦ c.if-all_read.false ∙ sym (asked (goal.at.returns-else-all_read c).Start ∙ rw (sym c.counts_in_range.ensures ∙ w.if-counts_in_range.false))
+      | else-counts_in_range w ↦ c.if-all_read.false ∙ sym (asked (goal.at.returns-else-all_read c).Start ∙ rw (sym c.counts_in_range.ensures ∙ w.if-counts_in_range.false))
     ]
