@@ -62,7 +62,7 @@ start_is : (c : After-begin_delta-begun) → let a = c.args in let l = c.delta_r
 start_is c = let k = c.delta_refusal-refusal.ensures.counters_unchanged in same-lent _ _ _ _ _ _ _ _ _ c.begin_delta-begun.ensures k.0 k.1.0 k.1.1.0
 
 delta_is : (c : After-every_insert-every) → let a = c.args in
-    delta a.row a.col (to_z w64 (of_z w64 (to_z w32 (of_z w32 a.count)))) (item_at a.«record».now a.layer) c.every_insert-every.result ≡ delta_by (delta-of (goal.at.After-every_insert-every c).Start) a.«record».now
+    delta a.row a.col (to_z w64 (of_z w64 c.from-n.result)) (item_at a.«record».now a.layer) c.every_insert-every.result ≡ delta_by (delta-of (goal.at.After-every_insert-every c).Start) a.«record».now
 delta_is c = let a = c.args in ap₂ (λ (n : ℤ) (b : Bool). delta a.row a.col n (item_at a.«record».now a.layer) b) (count-is (goal.at.After-every_insert-every c).After-from-n) c.every_insert-every.ensures
 
 pub returns-then-refusal-ne0 : goal.returns-then-refusal-ne0

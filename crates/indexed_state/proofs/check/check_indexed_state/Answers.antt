@@ -20,8 +20,8 @@ lent_of c = lent c.args.header c.args.counters.now c.args.norms.now c.args.entri
 passed : (c : Then-index-tables_in) → (state_ok (lent_of (goal.at.Then-index-tables_in c).Start) ≡ true) × (length c.args.index.now ≡ tables_in c.args.header.shape)
 passed c =
     elim c.if-check_state.branch [
-      then-check_state w ↦ (sym c.check_state.ensures ∙ w.if-check_state.true, eqb-true _ _ (sym w.value-is ∙ c.if-index-tables_in.true) ∙ w.tables_in.ensures)
-    | else-check_state w ↦ absurd (never (sym (w.value-is ∙ w.if-check_state.false) ∙ c.if-index-tables_in.true))
+      | then-check_state w ↦ (sym c.check_state.ensures ∙ w.if-check_state.true, eqb-true _ _ (sym w.value-is ∙ c.if-index-tables_in.true) ∙ w.tables_in.ensures)
+      | else-check_state w ↦ absurd (never (sym (w.value-is ∙ w.if-check_state.false) ∙ c.if-index-tables_in.true))
     ]
 
 pub tables_in-requires : goal.tables_in-requires
@@ -39,8 +39,8 @@ pub returns-else-index-tables_in : goal.returns-else-index-tables_in
 returns-else-index-tables_in c =
     let r = lent_of (goal.at.returns-else-index-tables_in c).Start in
     elim c.if-check_state.branch [
-      then-check_state w ↦
+      | then-check_state w ↦
           c.if-index-tables_in.false
           ∙ indexed_length r c.args.index.now (sym c.check_state.ensures ∙ w.if-check_state.true) (λ z. eqb-false _ _ (sym w.value-is ∙ c.if-index-tables_in.false) (z ∙ sym w.tables_in.ensures))
-    | else-check_state w ↦ c.if-index-tables_in.false ∙ indexed-state r c.args.index.now (sym c.check_state.ensures ∙ w.if-check_state.false)
+      | else-check_state w ↦ c.if-index-tables_in.false ∙ indexed-state r c.args.index.now (sym c.check_state.ensures ∙ w.if-check_state.false)
     ]
