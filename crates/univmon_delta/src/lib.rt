@@ -27,7 +27,7 @@ use heap::Answer;
 use layout::{cells_at, dims, item_in, lent_refusal, norms_at, seats_at, span_of, zero_places};
 
 // How much of the stream reached a relay that is fed by deltas.
-#[derive(Clone, Copy)]
+#[derive(Clone, Copy, Debug, PartialEq, Eq)]
 pub enum Fidelity {
     EveryInsert,
     PromotedOnly,
@@ -37,20 +37,14 @@ pub enum Fidelity {
 pub fn every_insert(f: Fidelity) -> bool
     ensures { result ≡ every_insert f }
 {
-    match f {
-        Fidelity::EveryInsert => true,
-        Fidelity::PromotedOnly => false,
-    }
+    matches!(f, Fidelity::EveryInsert)
 }
 
 // Whether the layer still holds every key: none was lost, and every insert came here.
 pub fn kept_all(a: Answer, every: bool) -> bool
     ensures { result ≡ kept_by a && every }
 {
-    if heap::kept(a) {
-        return every;
-    }
-    false
+    heap::kept(a) && every
 }
 
 // 0 if the delta may be made, 9 if something that it reads is out of range, 11 if its counter would
@@ -228,7 +222,7 @@ pub fn apply_delta(
     ensures list_after { list.new
         ≡ list_left result.refusal (delta_answers (view (lent_in header counters norms entries counts)) «record».now (arrival layer row col count fidelity)) list.old }
 {
-    let n = count as i64;
+    let n = i64::from(count);
     let refusal = delta_refusal(
         header,
         &*counters,

@@ -228,7 +228,7 @@ pub fn apply_delta_indexed(
     ensures list_after { list.new
         ≡ list_left result.refusal (delta_answers_in (view (lent_in header counters norms entries counts)) index.old «record».now (arrival layer row col count fidelity)) list.old }
 {
-    let n = count as i64;
+    let n = i64::from(count);
     let refusal = delta_refusal(
         header,
         counters,

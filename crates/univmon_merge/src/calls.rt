@@ -45,10 +45,8 @@ pub fn merge(
     if refusal != 0 {
         return Answered { refusal, header };
     }
-    let totals = other.totals;
-    let mode = other.mode;
     let layers = header.shape.layers;
-    let begun = header.begin(totals, mode);
+    let begun = header.begin(other.totals, other.mode);
     Answered {
         refusal: 0,
         header: merge_layers(

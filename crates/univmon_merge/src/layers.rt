@@ -15,10 +15,7 @@ use layout::{cells_at, dims, span_of, words_at};
 pub fn seated(flag: bool, keys: usize, size: usize) -> bool
     ensures { result ≡ flag && leb keys size }
 {
-    if !flag {
-        return false;
-    }
-    keys <= size
+    flag && keys <= size
 }
 
 // Merges one layer; its places in the list tell what was done with each key.
@@ -108,8 +105,7 @@ pub fn merge_layers(
         (answers_with (view (lent_in h counters norms entries counts)) (view (lent other other_counters.now other_norms.now other_entries.now other_counts.now))) many 0 list.old }
 {
     let mut header = h;
-    let mut l = 0;
-    while l < many {
+    for l in 0..many {
         header = merge_one(
             header,
             counters,
@@ -124,7 +120,6 @@ pub fn merge_layers(
             l,
             list,
         );
-        l += 1;
     }
     header
 }

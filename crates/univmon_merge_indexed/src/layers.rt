@@ -115,8 +115,7 @@ pub fn merge_layers(
         (answers_with (view (lent_in h counters norms entries counts)) (view (lent other other_counters.now other_norms.now other_entries.now other_counts.now))) many 0 list.old }
 {
     let mut header = h;
-    let mut l = 0;
-    while l < many {
+    for l in 0..many {
         header = merge_one(
             header,
             counters,
@@ -132,7 +131,6 @@ pub fn merge_layers(
             l,
             list,
         );
-        l += 1;
     }
     header
 }
