@@ -19,10 +19,10 @@ use univmon_delta::Fidelity;
 const LONGEST: usize = 2 * RECORD_WORDS;
 
 fn fidelity(n: u64) -> Fidelity {
-    if n == 0 {
-        return Fidelity::EveryInsert;
+    match n {
+        0 => Fidelity::EveryInsert,
+        _ => Fidelity::PromotedOnly,
     }
-    Fidelity::PromotedOnly
 }
 
 // The count of a delta, from its two's complement.
@@ -42,10 +42,8 @@ pub fn record_at(a: u64) -> usize {
 // What a list holds before its call, so that every word that is written or left can be told: the greatest
 // number, and down from it.
 fn mark(list: &mut [u64]) {
-    let mut i = 0;
-    while i < list.len() {
-        list[i] = 0xffff_ffff_ffff_ffff - i as u64;
-        i += 1;
+    for (i, word) in list.iter_mut().enumerate() {
+        *word = u64::MAX - i as u64;
     }
 }
 

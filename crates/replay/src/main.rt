@@ -18,7 +18,7 @@ use crate::shelf::{
 use std::io;
 use std::io::{Stdin, Stdout};
 
-// An operation and its first seven words; operation 0 is the end of the input.
+// An operation and its first seven words.
 #[derive(Clone, Copy)]
 pub struct Call {
     pub op: u64,
@@ -31,16 +31,14 @@ pub struct Call {
     pub g: u64,
 }
 
-// Reads a line, puts its words on the shelf, and answers its operation.
-fn read(input: Stdin, shelf: &mut [u64]) -> u64 {
+// Reads a line and puts its words on the shelf. Operation 0 is the end of the input: then there is no call.
+fn read(input: Stdin, shelf: &mut [u64]) -> Option<Call> {
     let mut text = [0u8; 17 * CALL_WORDS];
     let line = vectors::next(input, &mut text);
-    let mut k = 0;
-    while k < CALL_WORDS {
+    for k in 0..CALL_WORDS {
         set(shelf, WORDS, k, vectors::word(&text, k));
-        k += 1;
     }
-    line.op
+    (line.op != 0).then_some(call_of(line.op, &*shelf))
 }
 
 fn call_of(op: u64, shelf: &[u64]) -> Call {
@@ -97,14 +95,11 @@ fn turn(output: Stdout, call: Call, shelf: &mut [u64]) -> io::Result<()> {
 }
 
 fn serve(input: Stdin, output: Stdout, shelf: &mut [u64]) -> io::Result<()> {
-    let mut turns: u64 = 1000000;
-    while 0 < turns {
-        let op = read(input, shelf);
-        if op == 0 {
-            return Ok(());
-        }
-        turn(output, call_of(op, &*shelf), shelf)?;
-        turns -= 1;
+    for _ in 0..1000000 {
+        let Some(call) = read(input, shelf) else {
+            break;
+        };
+        turn(output, call, shelf)?;
     }
     Ok(())
 }
