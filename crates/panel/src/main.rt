@@ -64,9 +64,8 @@ fn reply(
         counts,
         &mut out[at..],
     );
-    let next = t.header;
     LineAnswered {
-        header: next,
+        header: t.header,
         len: at + t.len,
     }
 }
@@ -196,8 +195,7 @@ fn run(
 {
     let mut header = Header::zero();
     let mut held = 0;
-    let mut turns = u64::MAX;
-    while turns > 0 {
+    for _ in 0..u64::MAX {
         let n = input.read(chunk)?;
         if n == 0 {
             break;
@@ -217,7 +215,6 @@ fn run(
         t.written?;
         header = t.header;
         held = t.held;
-        turns -= 1;
     }
     if held > 0 {
         let t = reply(

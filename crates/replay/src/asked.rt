@@ -56,8 +56,15 @@ fn answers(
     vectors::print(output, float64::to_bits(p.cardinality))
 }
 
-// 11 prints the answers of the relay at work. Any other operation asks whether it passes the state check.
-pub fn ask(output: Stdout, op: u64, shelf: &[u64]) -> io::Result<bool> {
+// What is asked of the relay at work: its answers, or whether it passes the state check.
+#[derive(Clone, Copy)]
+pub enum Question {
+    Answers,
+    Check,
+}
+
+// Prints the answers, and answers false; or answers the check.
+pub fn ask(output: Stdout, question: Question, shelf: &[u64]) -> io::Result<bool> {
     let c = lent(shelf, 0, LENT_COUNTERS, CELLS);
     let w = lent(shelf, 0, LENT_NORMS, NORM_WORDS);
     let e = lent(shelf, 0, LENT_ENTRIES, ENTRY_WORDS);
@@ -75,11 +82,13 @@ pub fn ask(output: Stdout, op: u64, shelf: &[u64]) -> io::Result<bool> {
     let ws = &norms[..w];
     let es = &entries[..e];
     let ks = &counts[..k];
-    if op == 11 {
-        answers(output, h, cs, ws, es, ks)?;
-        return Ok(false);
+    match question {
+        Question::Answers => {
+            answers(output, h, cs, ws, es, ks)?;
+            Ok(false)
+        }
+        Question::Check => Ok(state_check::check_state(h, cs, ws, es, ks)),
     }
-    Ok(state_check::check_state(h, cs, ws, es, ks))
 }
 
 // Whether the n words from place `a` on are those from place `b` on.
