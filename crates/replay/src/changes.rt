@@ -224,5 +224,10 @@ pub fn run(output: Stdout, change: Change, call: Call, shelf: &mut [u64]) -> io:
     let words = words_of(out.header);
     copy(&words, 0, shelf, 0, HEAD_WORDS);
     let digest = of_words(whole(&*shelf), &list, 0, n);
-    say(output, out.refusal, ask(output, Question::Check, &*shelf)?, digest)
+    say(
+        output,
+        out.refusal,
+        ask(output, Question::Check, &*shelf)?,
+        digest,
+    )
 }

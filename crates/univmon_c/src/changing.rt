@@ -91,7 +91,9 @@ pub fn univmon_update_weighted(
     let Some(h) = header_of(header) else {
         return CAnswered { refusal: 9, header };
     };
-    CAnswered::from(univmon::update_weighted(h, counters, norms, entries, counts, record, weight, list))
+    CAnswered::from(univmon::update_weighted(
+        h, counters, norms, entries, counts, record, weight, list,
+    ))
 }
 
 // The key goes to its bottom layer only.

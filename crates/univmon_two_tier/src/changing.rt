@@ -114,7 +114,9 @@ pub extern "C" fn univmon_two_tier_update_weighted(
     let Some(h) = header_of(header) else {
         return CTwoTierAnswered { refusal: 9, header };
     };
-    CTwoTierAnswered::from(univmon::update_weighted(h, counters, norms, entries, counts, record, weight, list))
+    CTwoTierAnswered::from(univmon::update_weighted(
+        h, counters, norms, entries, counts, record, weight, list,
+    ))
 }
 
 // The key goes to its bottom layer only.

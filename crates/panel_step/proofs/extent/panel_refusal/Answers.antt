@@ -48,7 +48,7 @@ returns-else-e-le-MAX_COUNTERS c =
     let p = cells_are (goal.at.returns-else-e-le-MAX_COUNTERS c).After-extent_of-e in
     let q = seats_are (goal.at.returns-else-e-le-MAX_COUNTERS c).After-extent_of-e in
     elim c.else-e-le-MAX_COUNTERS.branch [
-      else-e-le-MAX_COUNTERS-via-then-e-le-MAX_COUNTERS+then-e-le-MAX_CANDIDATES+else-has_room w ↦
+      | else-e-le-MAX_COUNTERS-via-then-e-le-MAX_COUNTERS+then-e-le-MAX_CANDIDATES+else-has_room w ↦
           simp (
             z,
             le-ltb _ _ (rw p at w.if-e-le-MAX_COUNTERS.true),
