@@ -97,6 +97,7 @@ fn take_chunk(
     let mut n = held;
     let mut len = 0;
     let mut head = header;
+    // The place goes on by lines, not by one.
     while at < end {
         let s = take_line(chunk, at, line, n);
         let k = s.held;
@@ -152,6 +153,7 @@ fn take_all(
     let mut n = held;
     let mut head = header;
     let mut written = Ok(());
+    // The start goes on by parts, not by one.
     while from < chunk.len() {
         let t = take_chunk(
             &chunk[from..],

@@ -64,6 +64,8 @@ pub fn fidelity_of(n: u64) -> Option<Fidelity>
 
 // ---- headers
 
+// Where its mode is one. Flags and lengths go through variables here and below: stored straight from a field, an
+// array is not covered by the check.
 pub fn header_of(h: CHeader) -> Option<Header>
     ensures { MatchOption result (2 < h.mode) (λ r. (h.mode ≤ 2) × (r ≡ header_of h)) }
 {

@@ -1,5 +1,4 @@
 -- `univmon_c::answering::univmon_check_state` meets its contract.
-use native.Mathlib.Omega.{arith}
 use Rattle.univmon_c.specs.Calls.{CLent, c_lent}
 use Rattle.univmon_c.proofs.Turning.{check_no_mode, checked}
 use Rattle.state_check.specs.Check.{state_ok}

@@ -1,7 +1,6 @@
 -- `univmon_c::answering::univmon_estimate_cardinality` meets its contract.
 use mathlib.Core.Path.{refl, ◌∙◌}
 use mathlib.Core.Bool.{true}
-use native.Mathlib.Omega.{arith}
 use Rattle.layout.specs.Slices.{Lent}
 use Rattle.estimates.specs.Calls.{cardinality_call}
 use Rattle.univmon_c.specs.Calls.{one_tier_face, CLent, c_lent, lent_of}

@@ -1,6 +1,5 @@
 -- `univmon_c::answering::univmon_estimate_g_sum` meets its contract.
 use mathlib.Core.Path.{◌∙◌}
-use native.Mathlib.Omega.{arith}
 use borrow.Author.Tests.{le-leb, lt-leb}
 use Rattle.layout.specs.Slices.{Lent}
 use Rattle.estimates.specs.Calls.{sum_call}

@@ -1,7 +1,6 @@
 -- `univmon_c::answering::univmon_estimate_l1` meets its contract.
 use mathlib.Core.Path.{refl, ◌∙◌}
 use mathlib.Core.Bool.{true}
-use native.Mathlib.Omega.{arith}
 use Rattle.estimates.specs.Calls.{l1_call}
 use Rattle.univmon_c.specs.Crossing.{header_of}
 use Rattle.univmon_c.proofs.Turning.{answer_no_mode, answers}

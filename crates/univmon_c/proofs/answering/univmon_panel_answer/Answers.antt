@@ -1,6 +1,5 @@
 -- `univmon_c::answering::univmon_panel_answer` meets its contract.
 use mathlib.Core.Path.{◌∙◌}
-use native.Mathlib.Omega.{arith}
 use Rattle.layout.specs.Slices.{Lent}
 use Rattle.estimates.specs.Calls.{panel_call}
 use Rattle.univmon_c.specs.Calls.{one_tier_face, CLent, c_lent, lent_of}

@@ -1,7 +1,6 @@
 -- `univmon_c::changing::univmon_clear` meets its contract.
 use mathlib.Core.Path.{refl}
 use mathlib.Core.Bool.{true}
-use native.Mathlib.Omega.{arith}
 use Rattle.univmon.specs.Calls.{clear_call}
 use Rattle.univmon_c.specs.Calls.{one_tier_face, CLent, c_lent}
 use Rattle.univmon_c.proofs.Turning.{change_no_mode, changed}

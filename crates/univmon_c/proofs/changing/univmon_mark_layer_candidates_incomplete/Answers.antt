@@ -1,6 +1,5 @@
 -- `univmon_c::changing::univmon_mark_layer_candidates_incomplete` meets its contract.
 use mathlib.Core.Path.{◌∙◌}
-use native.Mathlib.Omega.{arith}
 use Rattle.univmon.specs.Calls.{mark_layer_call}
 use Rattle.univmon_c.proofs.Turning.{head_no_mode, headed}
 use Rattle.univmon_c.proofs.changing.univmon_mark_layer_candidates_incomplete.Goals as goal

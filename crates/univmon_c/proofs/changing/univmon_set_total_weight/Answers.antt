@@ -1,6 +1,5 @@
 -- `univmon_c::changing::univmon_set_total_weight` meets its contract.
 use mathlib.Core.Path.{◌∙◌}
-use native.Mathlib.Omega.{arith}
 use Rattle.univmon.specs.Calls.{weight_call}
 use Rattle.univmon_c.proofs.Turning.{head_no_mode, headed}
 use Rattle.univmon_c.proofs.changing.univmon_set_total_weight.Goals as goal

@@ -1,5 +1,4 @@
 -- `univmon_c::texts::univmon_write_state` meets its contract.
-use native.Mathlib.Omega.{arith}
 use Rattle.univmon_c.specs.Calls.{CLent, c_lent}
 use Rattle.univmon_c.proofs.Turning.{write_no_mode, writes}
 use Rattle.state_text.specs.Calls.{copied, write_call}

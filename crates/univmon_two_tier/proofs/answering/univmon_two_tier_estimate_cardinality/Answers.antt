@@ -1,7 +1,6 @@
 -- `univmon_two_tier::answering::univmon_two_tier_estimate_cardinality` meets its contract.
 use mathlib.Core.Path.{refl, ◌∙◌}
 use mathlib.Core.Bool.{true}
-use native.Mathlib.Omega.{arith}
 use Rattle.layout.specs.Slices.{Lent}
 use Rattle.estimates.specs.Calls.{cardinality_call}
 use Rattle.univmon_c.specs.Calls.{CLent, c_lent, lent_of}

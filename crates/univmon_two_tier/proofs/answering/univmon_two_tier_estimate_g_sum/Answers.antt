@@ -1,6 +1,5 @@
 -- `univmon_two_tier::answering::univmon_two_tier_estimate_g_sum` meets its contract.
 use mathlib.Core.Path.{◌∙◌}
-use native.Mathlib.Omega.{arith}
 use borrow.Author.Tests.{le-leb, lt-leb}
 use Rattle.layout.specs.Slices.{Lent}
 use Rattle.estimates.specs.Calls.{sum_call}

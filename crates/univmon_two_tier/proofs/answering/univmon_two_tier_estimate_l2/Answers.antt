@@ -1,7 +1,6 @@
 -- `univmon_two_tier::answering::univmon_two_tier_estimate_l2` meets its contract.
 use mathlib.Core.Path.{refl, ◌∙◌}
 use mathlib.Core.Bool.{true}
-use native.Mathlib.Omega.{arith}
 use Rattle.estimates.specs.Calls.{l2_call}
 use Rattle.univmon_c.proofs.Turning.{answer_no_mode, answers}
 use Rattle.univmon_two_tier.specs.Crossing.{header_of}

@@ -1,7 +1,6 @@
 -- `univmon_two_tier::changing::univmon_two_tier_clear` meets its contract.
 use mathlib.Core.Path.{refl}
 use mathlib.Core.Bool.{true}
-use native.Mathlib.Omega.{arith}
 use Rattle.univmon.specs.Calls.{clear_call}
 use Rattle.univmon_c.specs.Calls.{CLent, c_lent}
 use Rattle.univmon_c.proofs.Turning.{change_no_mode, changed}
