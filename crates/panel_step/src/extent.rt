@@ -11,19 +11,11 @@ pub const MAX_COUNTERS: usize = 4096;
 pub const MAX_CANDIDATES: usize = 512;
 
 // Whether slices of these lengths have room.
+#[tactic(auto, unfolding(crate::specs::Panel::roomy))]
 fn has_room(e: Extent, counters: usize, norms: usize, entries: usize, counts: usize) -> bool
     ensures { result ≡ roomy e counters norms entries counts }
 {
-    if counters < e.cells {
-        return false;
-    }
-    if norms < e.norms {
-        return false;
-    }
-    if entries < e.words {
-        return false;
-    }
-    e.seats <= counts
+    e.cells <= counters && e.norms <= norms && e.words <= entries && e.seats <= counts
 }
 
 // 0, or the refusal of a shape in slices of these lengths.
@@ -41,14 +33,12 @@ pub fn panel_refusal(
         return own;
     }
     let e = extent_of(shape);
-    if MAX_COUNTERS < e.cells {
-        return 4;
+    if e.cells <= MAX_COUNTERS
+        && e.seats <= MAX_CANDIDATES
+        && has_room(e, counters, norms, entries, counts)
+    {
+        0
+    } else {
+        4
     }
-    if MAX_CANDIDATES < e.seats {
-        return 4;
-    }
-    if has_room(e, counters, norms, entries, counts) {
-        return 0;
-    }
-    4
 }

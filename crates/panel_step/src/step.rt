@@ -51,8 +51,10 @@ fn answer_shape(
 {
     let a = start(header, counters, norms, entries, counts, shape);
     let len = put_reply(out, a.refusal);
-    let next = a.header;
-    LineAnswered { header: next, len }
+    LineAnswered {
+        header: a.header,
+        len,
+    }
 }
 
 fn answer_add(
@@ -72,8 +74,10 @@ fn answer_add(
 {
     let a = add(header, counters, norms, entries, counts, record, weight);
     let len = put_reply(out, a.refusal);
-    let next = a.header;
-    LineAnswered { header: next, len }
+    LineAnswered {
+        header: a.header,
+        len,
+    }
 }
 
 fn answer_show(

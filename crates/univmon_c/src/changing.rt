@@ -13,11 +13,8 @@ ghost use Rattle.univmon_c.specs.Crossing.{is_fidelity, fidelity_of, c_bottom};
 ghost use Rattle.univmon_c.specs.Calls.{one_tier_face, lent_of, c_left, crossed, change_by, merge_by, head_by, c_lent};
 ghost use Rattle.univmon_c.specs.Lending.{c_lent_in, c_lent_out};
 
-use crate::crossing::{LAST_MODE, c_answered, c_bottom, fidelity_of, header_of};
+use crate::crossing::{fidelity_of, header_of};
 use crate::{CAnswered, CBottom, CHeader};
-
-// The greatest number that is a fidelity.
-const LAST_FIDELITY: u64 = 1;
 
 // ---- shapes
 
@@ -32,7 +29,7 @@ pub fn univmon_check_shape(heap_size: usize, rows: usize, cols: usize, layers: u
 pub fn univmon_bottom_layer_for_hash(hash: u64, layers: usize) -> CBottom
     ensures { result ≡ c_bottom (bottom_layer hash layers) }
 {
-    c_bottom(header::bottom_layer_for_hash(hash, layers))
+    CBottom::from(header::bottom_layer_for_hash(hash, layers))
 }
 
 // ---- whole states
@@ -51,7 +48,7 @@ pub fn univmon_new(
     ensures { c_left result.refusal (c_lent_out result.header counters norms entries counts)
         ≡ crossed one_tier_face (new_call (one_tier heap_size rows cols layers) counters.old norms.old entries.old counts.old) }
 {
-    c_answered(univmon::new(
+    CAnswered::from(univmon::new(
         heap_size, rows, cols, layers, counters, norms, entries, counts,
     ))
 }
@@ -67,11 +64,10 @@ pub fn univmon_clear(
     ensures { c_left result.refusal (c_lent_out result.header counters norms entries counts)
         ≡ change_by one_tier_face true clear_call (c_lent_in header counters norms entries counts) }
 {
-    if LAST_MODE < header.mode {
+    let Some(h) = header_of(header) else {
         return CAnswered { refusal: 9, header };
-    }
-    let h = header_of(header);
-    c_answered(univmon::clear(h, counters, norms, entries, counts))
+    };
+    CAnswered::from(univmon::clear(h, counters, norms, entries, counts))
 }
 
 // ---- updates
@@ -92,11 +88,12 @@ pub fn univmon_update_weighted(
     ensures list_after { list.new
         ≡ list_left result.refusal (update_answers kind.Standard (view (lent_of one_tier_face (c_lent_in header counters norms entries counts))) «record».now weight) list.old }
 {
-    if LAST_MODE < header.mode {
+    let Some(h) = header_of(header) else {
         return CAnswered { refusal: 9, header };
-    }
-    let h = header_of(header);
-    c_answered(univmon::update_weighted(h, counters, norms, entries, counts, record, weight, list))
+    };
+    CAnswered::from(univmon::update_weighted(
+        h, counters, norms, entries, counts, record, weight, list,
+    ))
 }
 
 // The key goes to its bottom layer only.
@@ -115,11 +112,10 @@ pub fn univmon_update_weighted_terminal(
     ensures list_after { list.new
         ≡ list_left result.refusal (update_answers kind.Terminal (view (lent_of one_tier_face (c_lent_in header counters norms entries counts))) «record».now weight) list.old }
 {
-    if LAST_MODE < header.mode {
+    let Some(h) = header_of(header) else {
         return CAnswered { refusal: 9, header };
-    }
-    let h = header_of(header);
-    c_answered(univmon::update_weighted_terminal(
+    };
+    CAnswered::from(univmon::update_weighted_terminal(
         h, counters, norms, entries, counts, record, weight, list,
     ))
 }
@@ -146,15 +142,13 @@ pub fn univmon_apply_delta(
     ensures list_after { list.new
         ≡ list_left result.refusal (delta_answers (view (lent_of one_tier_face (c_lent_in header counters norms entries counts))) «record».now (arrival layer row col count (fidelity_of fidelity))) list.old }
 {
-    if LAST_MODE < header.mode {
+    let Some(h) = header_of(header) else {
         return CAnswered { refusal: 9, header };
-    }
-    if LAST_FIDELITY < fidelity {
+    };
+    let Some(f) = fidelity_of(fidelity) else {
         return CAnswered { refusal: 9, header };
-    }
-    let h = header_of(header);
-    let f = fidelity_of(fidelity);
-    c_answered(univmon_delta::apply_delta(
+    };
+    CAnswered::from(univmon_delta::apply_delta(
         h, counters, norms, entries, counts, record, layer, row, col, count, f, list,
     ))
 }
@@ -182,15 +176,13 @@ pub fn univmon_merge(
         ≡ list_left result.refusal (merge_answers (view (lent_of one_tier_face (c_lent_in header counters norms entries counts)))
         (view (lent_of one_tier_face (c_lent other other_counters.now other_norms.now other_entries.now other_counts.now)))) list.old }
 {
-    if LAST_MODE < header.mode {
+    let Some(h) = header_of(header) else {
         return CAnswered { refusal: 9, header };
-    }
-    if LAST_MODE < other.mode {
+    };
+    let Some(o) = header_of(other) else {
         return CAnswered { refusal: 9, header };
-    }
-    let h = header_of(header);
-    let o = header_of(other);
-    c_answered(univmon_merge::merge(
+    };
+    CAnswered::from(univmon_merge::merge(
         h,
         counters,
         norms,
@@ -211,31 +203,28 @@ pub fn univmon_merge(
 pub fn univmon_set_total_weight(header: CHeader, weight: u64) -> CAnswered
     ensures { result ≡ head_by (λ h. weight_call h weight) header }
 {
-    if LAST_MODE < header.mode {
+    let Some(h) = header_of(header) else {
         return CAnswered { refusal: 9, header };
-    }
-    let h = header_of(header);
-    c_answered(univmon::set_total_weight(h, weight))
+    };
+    CAnswered::from(univmon::set_total_weight(h, weight))
 }
 
 // Marks every layer's candidates as partial.
 pub fn univmon_mark_candidates_incomplete(header: CHeader) -> CAnswered
     ensures { result ≡ head_by mark_call header }
 {
-    if LAST_MODE < header.mode {
+    let Some(h) = header_of(header) else {
         return CAnswered { refusal: 9, header };
-    }
-    let h = header_of(header);
-    c_answered(univmon::mark_candidates_incomplete(h))
+    };
+    CAnswered::from(univmon::mark_candidates_incomplete(h))
 }
 
 // Marks one layer's candidates as partial.
 pub fn univmon_mark_layer_candidates_incomplete(header: CHeader, layer: usize) -> CAnswered
     ensures { result ≡ head_by (λ h. mark_layer_call h layer) header }
 {
-    if LAST_MODE < header.mode {
+    let Some(h) = header_of(header) else {
         return CAnswered { refusal: 9, header };
-    }
-    let h = header_of(header);
-    c_answered(univmon::mark_layer_candidates_incomplete(h, layer))
+    };
+    CAnswered::from(univmon::mark_layer_candidates_incomplete(h, layer))
 }

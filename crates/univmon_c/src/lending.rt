@@ -9,7 +9,7 @@ ghost use Rattle.univmon.specs.Calls.{lent_update_list_call};
 ghost use Rattle.univmon_c.specs.Calls.{one_tier_face, lent_of, c_left, change_by};
 ghost use Rattle.univmon_c.specs.Lending.{c_head_in, c_head_out, c_lent_in, c_lent_out};
 
-use crate::crossing::{LAST_MODE, c_step, scalars_of};
+use crate::crossing::scalars_of;
 use crate::{CShape, CStep};
 
 // The key goes to layers 0 to its bottom layer.
@@ -33,16 +33,15 @@ pub fn univmon_update_weighted_lent(
     ensures list_after { list.new
         ≡ list_left result.refusal (update_answers kind.Standard (view (lent_of one_tier_face (c_lent_in (c_head_in shape total_weight total_updates mode lens flags) counters norms entries counts))) «record».now weight) list.old }
 {
-    if LAST_MODE < mode {
+    let Some(scalars) = scalars_of(shape, total_weight, total_updates, mode) else {
         return CStep {
             refusal: 9,
             weight: total_weight,
             updates: total_updates,
             mode,
         };
-    }
-    let scalars = scalars_of(shape, total_weight, total_updates, mode);
-    c_step(univmon::update_weighted_lent(
+    };
+    CStep::from(univmon::update_weighted_lent(
         scalars, lens, flags, counters, norms, entries, counts, record, weight, list,
     ))
 }
@@ -68,16 +67,15 @@ pub fn univmon_update_weighted_terminal_lent(
     ensures list_after { list.new
         ≡ list_left result.refusal (update_answers kind.Terminal (view (lent_of one_tier_face (c_lent_in (c_head_in shape total_weight total_updates mode lens flags) counters norms entries counts))) «record».now weight) list.old }
 {
-    if LAST_MODE < mode {
+    let Some(scalars) = scalars_of(shape, total_weight, total_updates, mode) else {
         return CStep {
             refusal: 9,
             weight: total_weight,
             updates: total_updates,
             mode,
         };
-    }
-    let scalars = scalars_of(shape, total_weight, total_updates, mode);
-    c_step(univmon::update_weighted_terminal_lent(
+    };
+    CStep::from(univmon::update_weighted_terminal_lent(
         scalars, lens, flags, counters, norms, entries, counts, record, weight, list,
     ))
 }

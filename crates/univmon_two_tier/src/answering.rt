@@ -8,19 +8,17 @@ ghost use Rattle.univmon_two_tier.specs.Crossing.{header_of, two_tier_face};
 use crate::CTwoTier;
 use crate::crossing::header_of;
 use univmon_c::CAnswer;
-use univmon_c::answering::LAST_G;
-use univmon_c::crossing::{LAST_MODE, c_answer, g_of, no_answer};
+use univmon_c::crossing::{g_of, no_answer};
 
 // L1: the exact weight.
 #[unsafe(no_mangle)]
 pub extern "C" fn univmon_two_tier_estimate_l1(header: CTwoTier) -> CAnswer
     ensures { result ≡ answer_by true header.mode (l1_call (header_of header)) }
 {
-    if LAST_MODE < header.mode {
+    let Some(h) = header_of(header) else {
         return no_answer();
-    }
-    let h = header_of(header);
-    c_answer(estimates::estimate_l1(h))
+    };
+    CAnswer::from(estimates::estimate_l1(h))
 }
 
 // L2, from the norms.
@@ -28,11 +26,10 @@ pub extern "C" fn univmon_two_tier_estimate_l1(header: CTwoTier) -> CAnswer
 pub extern "C" fn univmon_two_tier_estimate_l2(header: CTwoTier, norms: &[u64]) -> CAnswer
     ensures { result ≡ answer_by true header.mode (l2_call (header_of header) norms.now) }
 {
-    if LAST_MODE < header.mode {
+    let Some(h) = header_of(header) else {
         return no_answer();
-    }
-    let h = header_of(header);
-    c_answer(estimates::estimate_l2(h, norms))
+    };
+    CAnswer::from(estimates::estimate_l2(h, norms))
 }
 
 // The sum of g over the candidates: g 0 is one, 1 value, 2 square; another number is refused with 9.
@@ -48,15 +45,13 @@ pub extern "C" fn univmon_two_tier_estimate_g_sum(
 ) -> CAnswer
     ensures { result ≡ answer_by (is_g g) header.mode (sum_call (g_by g) count_every_key (lent_of two_tier_face (c_lent header counters.now norms.now entries.now counts.now))) }
 {
-    if LAST_MODE < header.mode {
+    let Some(h) = header_of(header) else {
         return no_answer();
-    }
-    if LAST_G < g {
+    };
+    let Some(choice) = g_of(g) else {
         return no_answer();
-    }
-    let h = header_of(header);
-    let choice = g_of(g);
-    c_answer(estimates::estimate_g_sum(
+    };
+    CAnswer::from(estimates::estimate_g_sum(
         h,
         counters,
         norms,
@@ -78,9 +73,8 @@ pub extern "C" fn univmon_two_tier_estimate_cardinality(
 ) -> CAnswer
     ensures { result ≡ answer_by true header.mode (cardinality_call (lent_of two_tier_face (c_lent header counters.now norms.now entries.now counts.now))) }
 {
-    if LAST_MODE < header.mode {
+    let Some(h) = header_of(header) else {
         return no_answer();
-    }
-    let h = header_of(header);
-    c_answer(estimates::estimate_cardinality(h, counters, norms, entries, counts))
+    };
+    CAnswer::from(estimates::estimate_cardinality(h, counters, norms, entries, counts))
 }

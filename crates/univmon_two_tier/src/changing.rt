@@ -11,10 +11,9 @@ ghost use Rattle.univmon_c.specs.Calls.{lent_of, c_left, crossed, change_by, mer
 ghost use Rattle.univmon_c.specs.Lending.{c_lent_in, c_lent_out};
 ghost use Rattle.univmon_two_tier.specs.Crossing.{two_tier_face};
 
-use crate::crossing::{c_answered, header_of};
+use crate::crossing::header_of;
 use crate::{CTwoTier, CTwoTierAnswered};
 use header::{CheckedShape, Shape};
-use univmon_c::crossing::LAST_MODE;
 
 // 0, or the refusal of these dimensions.
 #[unsafe(no_mangle)]
@@ -62,7 +61,7 @@ pub extern "C" fn univmon_two_tier_new(
     ensures { c_left result.refusal (c_lent_out result.header counters norms entries counts)
         ≡ crossed two_tier_face (new_call (two_tier heap_size elephant_layers elephant_rows elephant_cols mouse_rows mouse_cols layers) counters.old norms.old entries.old counts.old) }
 {
-    c_answered(univmon::new_two_tier(
+    CTwoTierAnswered::from(univmon::new_two_tier(
         heap_size,
         elephant_layers,
         elephant_rows,
@@ -89,11 +88,10 @@ pub extern "C" fn univmon_two_tier_clear(
     ensures { c_left result.refusal (c_lent_out result.header counters norms entries counts)
         ≡ change_by two_tier_face true clear_call (c_lent_in header counters norms entries counts) }
 {
-    if LAST_MODE < header.mode {
+    let Some(h) = header_of(header) else {
         return CTwoTierAnswered { refusal: 9, header };
-    }
-    let h = header_of(header);
-    c_answered(univmon::clear(h, counters, norms, entries, counts))
+    };
+    CTwoTierAnswered::from(univmon::clear(h, counters, norms, entries, counts))
 }
 
 // The key goes to layers 0 to its bottom layer.
@@ -113,11 +111,12 @@ pub extern "C" fn univmon_two_tier_update_weighted(
     ensures list_after { list.new
         ≡ list_left result.refusal (update_answers kind.Standard (view (lent_of two_tier_face (c_lent_in header counters norms entries counts))) «record».now weight) list.old }
 {
-    if LAST_MODE < header.mode {
+    let Some(h) = header_of(header) else {
         return CTwoTierAnswered { refusal: 9, header };
-    }
-    let h = header_of(header);
-    c_answered(univmon::update_weighted(h, counters, norms, entries, counts, record, weight, list))
+    };
+    CTwoTierAnswered::from(univmon::update_weighted(
+        h, counters, norms, entries, counts, record, weight, list,
+    ))
 }
 
 // The key goes to its bottom layer only.
@@ -137,11 +136,10 @@ pub extern "C" fn univmon_two_tier_update_weighted_terminal(
     ensures list_after { list.new
         ≡ list_left result.refusal (update_answers kind.Terminal (view (lent_of two_tier_face (c_lent_in header counters norms entries counts))) «record».now weight) list.old }
 {
-    if LAST_MODE < header.mode {
+    let Some(h) = header_of(header) else {
         return CTwoTierAnswered { refusal: 9, header };
-    }
-    let h = header_of(header);
-    c_answered(univmon::update_weighted_terminal(
+    };
+    CTwoTierAnswered::from(univmon::update_weighted_terminal(
         h, counters, norms, entries, counts, record, weight, list,
     ))
 }
@@ -168,15 +166,13 @@ pub extern "C" fn univmon_two_tier_merge(
         ≡ list_left result.refusal (merge_answers (view (lent_of two_tier_face (c_lent_in header counters norms entries counts)))
         (view (lent_of two_tier_face (c_lent other other_counters.now other_norms.now other_entries.now other_counts.now)))) list.old }
 {
-    if LAST_MODE < header.mode {
+    let Some(h) = header_of(header) else {
         return CTwoTierAnswered { refusal: 9, header };
-    }
-    if LAST_MODE < other.mode {
+    };
+    let Some(o) = header_of(other) else {
         return CTwoTierAnswered { refusal: 9, header };
-    }
-    let h = header_of(header);
-    let o = header_of(other);
-    c_answered(univmon_merge::merge(
+    };
+    CTwoTierAnswered::from(univmon_merge::merge(
         h,
         counters,
         norms,

@@ -14,7 +14,6 @@ ghost use Rattle.univmon_two_tier.specs.Lending.{c_head_in, c_head_out};
 use crate::CTwoTierShape;
 use crate::crossing::scalars_of;
 use univmon_c::CStep;
-use univmon_c::crossing::{LAST_MODE, c_step};
 
 // The key goes to layers 0 to its bottom layer.
 #[unsafe(no_mangle)]
@@ -38,16 +37,15 @@ pub extern "C" fn univmon_two_tier_update_weighted_lent(
     ensures list_after { list.new
         ≡ list_left result.refusal (update_answers kind.Standard (view (lent_of two_tier_face (c_lent_in (c_head_in shape total_weight total_updates mode lens flags) counters norms entries counts))) «record».now weight) list.old }
 {
-    if LAST_MODE < mode {
+    let Some(scalars) = scalars_of(shape, total_weight, total_updates, mode) else {
         return CStep {
             refusal: 9,
             weight: total_weight,
             updates: total_updates,
             mode,
         };
-    }
-    let scalars = scalars_of(shape, total_weight, total_updates, mode);
-    c_step(univmon::update_weighted_lent(
+    };
+    CStep::from(univmon::update_weighted_lent(
         scalars, lens, flags, counters, norms, entries, counts, record, weight, list,
     ))
 }
@@ -74,16 +72,15 @@ pub extern "C" fn univmon_two_tier_update_weighted_terminal_lent(
     ensures list_after { list.new
         ≡ list_left result.refusal (update_answers kind.Terminal (view (lent_of two_tier_face (c_lent_in (c_head_in shape total_weight total_updates mode lens flags) counters norms entries counts))) «record».now weight) list.old }
 {
-    if LAST_MODE < mode {
+    let Some(scalars) = scalars_of(shape, total_weight, total_updates, mode) else {
         return CStep {
             refusal: 9,
             weight: total_weight,
             updates: total_updates,
             mode,
         };
-    }
-    let scalars = scalars_of(shape, total_weight, total_updates, mode);
-    c_step(univmon::update_weighted_terminal_lent(
+    };
+    CStep::from(univmon::update_weighted_terminal_lent(
         scalars, lens, flags, counters, norms, entries, counts, record, weight, list,
     ))
 }

@@ -1,6 +1,5 @@
 -- `univmon_c::answering::univmon_estimate_g_sum` meets its contract.
 use mathlib.Core.Path.{◌∙◌}
-use native.Mathlib.Omega.{arith}
 use borrow.Author.Tests.{le-leb, lt-leb}
 use Rattle.layout.specs.Slices.{Lent}
 use Rattle.estimates.specs.Calls.{sum_call}
@@ -19,16 +18,16 @@ here c = c_lent c.args.header c.args.counters.now c.args.norms.now c.args.entrie
 abbrev stood : Start → Lent
 stood c = lent_of one_tier_face (here c)
 
-pub returns-then-header-gt-LAST_MODE : goal.returns-then-header-gt-LAST_MODE
-returns-then-header-gt-LAST_MODE c = c.no_answer.ensures ∙ answer_no_mode (is_g c.args.g) c.args.header.mode (sum_call (g_by c.args.g) c.args.count_every_key (stood (goal.at.returns-then-header-gt-LAST_MODE c).Start)) (omega (arith, c.if-header-gt-LAST_MODE.true))
+pub returns-in_default : goal.returns-in_default
+returns-in_default c = c.no_answer.ensures ∙ answer_no_mode (is_g c.args.g) c.args.header.mode (sum_call (g_by c.args.g) c.args.count_every_key (stood (goal.at.returns-in_default c).Start)) c.in_default.ensures
 
-pub returns-then-g-gt-LAST_G : goal.returns-then-g-gt-LAST_G
-returns-then-g-gt-LAST_G c =
-    c.no_answer-then-g-gt-LAST_G.ensures
-    ∙ answer_no_choice (is_g c.args.g) c.args.header.mode (sum_call (g_by c.args.g) c.args.count_every_key (stood (goal.at.returns-then-g-gt-LAST_G c).Start)) (omega (arith, c.if-header-gt-LAST_MODE.false)) (lt-leb _ _ c.if-g-gt-LAST_G.true)
+pub returns-in_default-g_of : goal.returns-in_default-g_of
+returns-in_default-g_of c =
+    c.no_answer-in_default-g_of.ensures
+    ∙ answer_no_choice (is_g c.args.g) c.args.header.mode (sum_call (g_by c.args.g) c.args.count_every_key (stood (goal.at.returns-in_default-g_of c).Start)) c.in-Some.ensures.0 (lt-leb _ _ c.in_default-g_of.ensures)
 
 pub returns : goal.returns
 returns c =
-    c.c_answer.ensures
-    ∙ answers (is_g c.args.g) c.args.header.mode (sum_call (g_by c.args.g) c.args.count_every_key (stood (goal.at.returns c).Start)) _ (omega (arith, c.if-header-gt-LAST_MODE.false)) (le-leb _ _ c.if-g-gt-LAST_G.false)
-    (rw (c.header_of-h.ensures, c.g_of-choice.ensures) at c.estimate_g_sum.ensures)
+    c.from.ensures
+    ∙ answers (is_g c.args.g) c.args.header.mode (sum_call (g_by c.args.g) c.args.count_every_key (stood (goal.at.returns c).Start)) _ c.in-Some.ensures.0 (le-leb _ _ c.in-Some-g_of.ensures.0)
+    (rw (c.in-Some.ensures.1, c.in-Some-g_of.ensures.1) at c.estimate_g_sum.ensures)

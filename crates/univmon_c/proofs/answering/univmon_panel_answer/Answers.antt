@@ -1,6 +1,5 @@
 -- `univmon_c::answering::univmon_panel_answer` meets its contract.
 use mathlib.Core.Path.{◌∙◌}
-use native.Mathlib.Omega.{arith}
 use Rattle.layout.specs.Slices.{Lent}
 use Rattle.estimates.specs.Calls.{panel_call}
 use Rattle.univmon_c.specs.Calls.{one_tier_face, CLent, c_lent, lent_of}
@@ -17,10 +16,10 @@ here c = c_lent c.args.header c.args.counters.now c.args.norms.now c.args.entrie
 abbrev stood : Start → Lent
 stood c = lent_of one_tier_face (here c)
 
-pub returns-then-header-gt-LAST_MODE : goal.returns-then-header-gt-LAST_MODE
-returns-then-header-gt-LAST_MODE c = c.no_panel.ensures ∙ panel_no_mode c.args.header (panel_call (stood (goal.at.returns-then-header-gt-LAST_MODE c).Start)) (omega (arith, c.if-header-gt-LAST_MODE.true))
+pub returns-in_default : goal.returns-in_default
+returns-in_default c = c.no_panel.ensures ∙ panel_no_mode c.args.header (panel_call (stood (goal.at.returns-in_default c).Start)) c.in_default.ensures
 
 pub returns : goal.returns
 returns c =
-    c.c_panel.ensures
-    ∙ panelled c.args.header (panel_call (stood (goal.at.returns c).Start)) _ (omega (arith, c.if-header-gt-LAST_MODE.false)) (rw c.header_of-h.ensures at c.panel_answer.ensures)
+    c.from.ensures
+    ∙ panelled c.args.header (panel_call (stood (goal.at.returns c).Start)) _ c.in-Some.ensures.0 (rw c.in-Some.ensures.1 at c.panel_answer.ensures)

@@ -22,23 +22,23 @@ here c = c_lent c.args.header c.args.counters.now c.args.norms.now c.args.entrie
 abbrev call : Start → Lent → Outcome
 call c s = delta_list_call s c.args.«record».now (arrival c.args.layer c.args.row c.args.col c.args.count (fidelity_of c.args.fidelity)) (length c.args.list.now)
 
-pub returns-then-header-gt-LAST_MODE : goal.returns-then-header-gt-LAST_MODE
-returns-then-header-gt-LAST_MODE c = record {
-  counts_value = change_no_mode one_tier_face (is_fidelity c.args.fidelity) (call (goal.at.returns-then-header-gt-LAST_MODE c).Start) (here (goal.at.returns-then-header-gt-LAST_MODE c).Start) (omega (arith, c.if-header-gt-LAST_MODE.true));
+pub returns-in_default : goal.returns-in_default
+returns-in_default c = record {
+  counts_value = change_no_mode one_tier_face (is_fidelity c.args.fidelity) (call (goal.at.returns-in_default c).Start) (here (goal.at.returns-in_default c).Start) c.in_default.ensures;
   list_after = list-kept 9 _ _ (λ e. omega (arith, e));
 }
 
-pub returns-then-fidelity-gt-LAST_FIDELITY : goal.returns-then-fidelity-gt-LAST_FIDELITY
-returns-then-fidelity-gt-LAST_FIDELITY c = record {
-  counts_value = change_no_choice one_tier_face (is_fidelity c.args.fidelity) (call (goal.at.returns-then-fidelity-gt-LAST_FIDELITY c).Start) (here (goal.at.returns-then-fidelity-gt-LAST_FIDELITY c).Start) (omega (arith, c.if-header-gt-LAST_MODE.false)) (lt-leb _ _ c.if-fidelity-gt-LAST_FIDELITY.true);
+pub returns-in_default-fidelity_of : goal.returns-in_default-fidelity_of
+returns-in_default-fidelity_of c = record {
+  counts_value = change_no_choice one_tier_face (is_fidelity c.args.fidelity) (call (goal.at.returns-in_default-fidelity_of c).Start) (here (goal.at.returns-in_default-fidelity_of c).Start) c.in-Some.ensures.0 (lt-leb _ _ c.in_default-fidelity_of.ensures);
   list_after = list-kept 9 _ _ (λ e. omega (arith, e));
 }
 
 pub returns : goal.returns
 returns c =
     record {
-      counts_value = rw c.c_answered.ensures
-          (changed one_tier_face (is_fidelity c.args.fidelity) (call (goal.at.returns c).Start) (here (goal.at.returns c).Start) (omega (arith, c.if-header-gt-LAST_MODE.false)) (le-leb _ _ c.if-fidelity-gt-LAST_FIDELITY.false) _ _
-          (rw (c.header_of-h.ensures, c.fidelity_of-f.ensures, to_z-of_z c.ranges.count) at c.apply_delta.ensures.counts_value));
-      list_after = rw c.c_answered.ensures (rw (c.header_of-h.ensures, c.fidelity_of-f.ensures, to_z-of_z c.ranges.count) at c.apply_delta.ensures.list_after);
+      counts_value = rw c.from.ensures
+          (changed one_tier_face (is_fidelity c.args.fidelity) (call (goal.at.returns c).Start) (here (goal.at.returns c).Start) c.in-Some.ensures.0 (le-leb _ _ c.in-Some-fidelity_of.ensures.0) _ _
+          (rw (c.in-Some.ensures.1, c.in-Some-fidelity_of.ensures.1, to_z-of_z c.ranges.count) at c.apply_delta.ensures.counts_value));
+      list_after = rw c.from.ensures (rw (c.in-Some.ensures.1, c.in-Some-fidelity_of.ensures.1, to_z-of_z c.ranges.count) at c.apply_delta.ensures.list_after);
     }

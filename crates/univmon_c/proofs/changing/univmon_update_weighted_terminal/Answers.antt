@@ -23,16 +23,16 @@ here c = c_lent c.args.header c.args.counters.now c.args.norms.now c.args.entrie
 abbrev call : Start → Lent → Outcome
 call c s = update_list_call kind.Terminal s c.args.«record».now c.args.weight (length c.args.list.now)
 
-pub returns-then-header-gt-LAST_MODE : goal.returns-then-header-gt-LAST_MODE
-returns-then-header-gt-LAST_MODE c = record {
-  counts_value = change_no_mode one_tier_face true (call (goal.at.returns-then-header-gt-LAST_MODE c).Start) (here (goal.at.returns-then-header-gt-LAST_MODE c).Start) (omega (arith, c.if-header-gt-LAST_MODE.true));
+pub returns-in_default : goal.returns-in_default
+returns-in_default c = record {
+  counts_value = change_no_mode one_tier_face true (call (goal.at.returns-in_default c).Start) (here (goal.at.returns-in_default c).Start) c.in_default.ensures;
   list_after = list-kept 9 _ _ (λ e. omega (arith, e));
 }
 
 pub returns : goal.returns
 returns c =
     record {
-      counts_value = rw c.c_answered.ensures
-          (changed one_tier_face true (call (goal.at.returns c).Start) (here (goal.at.returns c).Start) (omega (arith, c.if-header-gt-LAST_MODE.false)) refl _ _ (rw (c.header_of-h.ensures, to_z-of_z c.ranges.weight) at c.update_weighted_terminal.ensures.counts_value));
-      list_after = rw c.c_answered.ensures (rw (c.header_of-h.ensures, to_z-of_z c.ranges.weight) at c.update_weighted_terminal.ensures.list_after);
+      counts_value = rw c.from.ensures
+          (changed one_tier_face true (call (goal.at.returns c).Start) (here (goal.at.returns c).Start) c.in-Some.ensures.0 refl _ _ (rw (c.in-Some.ensures.1, to_z-of_z c.ranges.weight) at c.update_weighted_terminal.ensures.counts_value));
+      list_after = rw c.from.ensures (rw (c.in-Some.ensures.1, to_z-of_z c.ranges.weight) at c.update_weighted_terminal.ensures.list_after);
     }

@@ -1,5 +1,4 @@
 -- `univmon_c::texts::univmon_write_state` meets its contract.
-use native.Mathlib.Omega.{arith}
 use Rattle.univmon_c.specs.Calls.{CLent, c_lent}
 use Rattle.univmon_c.proofs.Turning.{write_no_mode, writes}
 use Rattle.state_text.specs.Calls.{copied, write_call}
@@ -11,10 +10,10 @@ use Rattle.univmon_c.proofs.texts.univmon_write_state.Goals.{Start}
 abbrev here : Start → CLent CHeader
 here c = c_lent c.args.header c.args.counters.now c.args.norms.now c.args.entries.now c.args.counts.now
 
-pub returns-then-header-gt-LAST_MODE : goal.returns-then-header-gt-LAST_MODE
-returns-then-header-gt-LAST_MODE c = write_no_mode write_call (here (goal.at.returns-then-header-gt-LAST_MODE c).Start) c.args.out.now (omega (arith, c.if-header-gt-LAST_MODE.true))
+pub returns-in_default : goal.returns-in_default
+returns-in_default c = write_no_mode write_call (here (goal.at.returns-in_default c).Start) c.args.out.now c.in_default.ensures
 
 pub returns : goal.returns
 returns c =
-    rw c.c_written.ensures
-    (writes write_call (here (goal.at.returns c).Start) c.args.out.now (omega (arith, c.if-header-gt-LAST_MODE.false)) (copied c.write_state.result c.write_state.new.out) (rw c.header_of-h.ensures at c.write_state.ensures))
+    rw c.from.ensures
+    (writes write_call (here (goal.at.returns c).Start) c.args.out.now c.in-Some.ensures.0 (copied c.write_state.result c.write_state.new.out) (rw c.in-Some.ensures.1 at c.write_state.ensures))

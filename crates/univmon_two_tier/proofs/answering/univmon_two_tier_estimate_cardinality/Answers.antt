@@ -1,7 +1,6 @@
 -- `univmon_two_tier::answering::univmon_two_tier_estimate_cardinality` meets its contract.
 use mathlib.Core.Path.{refl, ◌∙◌}
 use mathlib.Core.Bool.{true}
-use native.Mathlib.Omega.{arith}
 use Rattle.layout.specs.Slices.{Lent}
 use Rattle.estimates.specs.Calls.{cardinality_call}
 use Rattle.univmon_c.specs.Calls.{CLent, c_lent, lent_of}
@@ -19,10 +18,10 @@ here c = c_lent c.args.header c.args.counters.now c.args.norms.now c.args.entrie
 abbrev stood : Start → Lent
 stood c = lent_of two_tier_face (here c)
 
-pub returns-then-header-gt-LAST_MODE : goal.returns-then-header-gt-LAST_MODE
-returns-then-header-gt-LAST_MODE c = c.no_answer.ensures ∙ answer_no_mode true c.args.header.mode (cardinality_call (stood (goal.at.returns-then-header-gt-LAST_MODE c).Start)) (omega (arith, c.if-header-gt-LAST_MODE.true))
+pub returns-in_default : goal.returns-in_default
+returns-in_default c = c.no_answer.ensures ∙ answer_no_mode true c.args.header.mode (cardinality_call (stood (goal.at.returns-in_default c).Start)) c.in_default.ensures
 
 pub returns : goal.returns
 returns c =
-    c.c_answer.ensures
-    ∙ answers true c.args.header.mode (cardinality_call (stood (goal.at.returns c).Start)) _ (omega (arith, c.if-header-gt-LAST_MODE.false)) refl (rw c.header_of-h.ensures at c.estimate_cardinality.ensures)
+    c.from.ensures
+    ∙ answers true c.args.header.mode (cardinality_call (stood (goal.at.returns c).Start)) _ c.in-Some.ensures.0 refl (rw c.in-Some.ensures.1 at c.estimate_cardinality.ensures)

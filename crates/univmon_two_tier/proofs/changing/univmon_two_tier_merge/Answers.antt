@@ -24,22 +24,22 @@ there c = c_lent c.args.other c.args.other_counters.now c.args.other_norms.now c
 abbrev call : Start → Lent → Lent → Outcome
 call c s t = merge_list_call s t (length c.args.list.now)
 
-pub returns-then-header-gt-LAST_MODE : goal.returns-then-header-gt-LAST_MODE
-returns-then-header-gt-LAST_MODE c = record {
-  counts_value = merge_no_mode two_tier_face (call (goal.at.returns-then-header-gt-LAST_MODE c).Start) (here (goal.at.returns-then-header-gt-LAST_MODE c).Start) (there (goal.at.returns-then-header-gt-LAST_MODE c).Start) (omega (arith, c.if-header-gt-LAST_MODE.true));
+pub returns-in_default : goal.returns-in_default
+returns-in_default c = record {
+  counts_value = merge_no_mode two_tier_face (call (goal.at.returns-in_default c).Start) (here (goal.at.returns-in_default c).Start) (there (goal.at.returns-in_default c).Start) c.in_default.ensures;
   list_after = list-kept 9 _ _ (λ e. omega (arith, e));
 }
 
-pub returns-then-other-gt-LAST_MODE : goal.returns-then-other-gt-LAST_MODE
-returns-then-other-gt-LAST_MODE c = record {
-  counts_value = merge_no_other two_tier_face (call (goal.at.returns-then-other-gt-LAST_MODE c).Start) (here (goal.at.returns-then-other-gt-LAST_MODE c).Start) (there (goal.at.returns-then-other-gt-LAST_MODE c).Start) (omega (arith, c.if-header-gt-LAST_MODE.false)) c.if-other-gt-LAST_MODE.true;
+pub returns-in_default-header_of : goal.returns-in_default-header_of
+returns-in_default-header_of c = record {
+  counts_value = merge_no_other two_tier_face (call (goal.at.returns-in_default-header_of c).Start) (here (goal.at.returns-in_default-header_of c).Start) (there (goal.at.returns-in_default-header_of c).Start) c.in-Some.ensures.0 c.in_default-header_of.ensures;
   list_after = list-kept 9 _ _ (λ e. omega (arith, e));
 }
 
 pub returns : goal.returns
 returns c =
     record {
-      counts_value = rw c.c_answered.ensures
-          (merged two_tier_face (call (goal.at.returns c).Start) (here (goal.at.returns c).Start) (there (goal.at.returns c).Start) (omega (arith, c.if-header-gt-LAST_MODE.false)) c.if-other-gt-LAST_MODE.false _ _ (rw (c.header_of-h.ensures, c.header_of-o.ensures) at c.merge.ensures.counts_value));
-      list_after = rw c.c_answered.ensures (rw (c.header_of-h.ensures, c.header_of-o.ensures) at c.merge.ensures.list_after);
+      counts_value = rw c.from.ensures
+          (merged two_tier_face (call (goal.at.returns c).Start) (here (goal.at.returns c).Start) (there (goal.at.returns c).Start) c.in-Some.ensures.0 c.in-Some-header_of.ensures.0 _ _ (rw (c.in-Some.ensures.1, c.in-Some-header_of.ensures.1) at c.merge.ensures.counts_value));
+      list_after = rw c.from.ensures (rw (c.in-Some.ensures.1, c.in-Some-header_of.ensures.1) at c.merge.ensures.list_after);
     }

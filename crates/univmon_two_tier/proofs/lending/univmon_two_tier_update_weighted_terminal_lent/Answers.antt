@@ -17,10 +17,10 @@ use Rattle.univmon_two_tier.proofs.lending.univmon_two_tier_update_weighted_term
 abbrev here : Start → CLent CTwoTier
 here c = c_lent (c_head c.args.shape c.args.total_weight c.args.total_updates c.args.mode c.args.lens.now c.args.flags.now) c.args.counters.now c.args.norms.now c.args.entries.now c.args.counts.now
 
-pub returns-then-mode-gt-LAST_MODE : goal.returns-then-mode-gt-LAST_MODE
-returns-then-mode-gt-LAST_MODE c =
+pub returns-in_default : goal.returns-in_default
+returns-in_default c =
     let a = c.args in record {
-      counts_value = change_no_mode two_tier_face true (λ s. lent_update_list_call kind.Terminal s a.«record».now a.weight (length a.list.now)) (here (goal.at.returns-then-mode-gt-LAST_MODE c).Start) (omega (arith, c.if-mode-gt-LAST_MODE.true));
+      counts_value = change_no_mode two_tier_face true (λ s. lent_update_list_call kind.Terminal s a.«record».now a.weight (length a.list.now)) (here (goal.at.returns-in_default c).Start) c.in_default.ensures;
       list_after = list-kept 9 _ _ (λ e. omega (arith, e));
     }
 
@@ -28,7 +28,7 @@ pub returns : goal.returns
 returns c =
     let a = c.args in
     record {
-      counts_value = rw c.c_step.ensures
-          (stepped two_tier_face kind.Terminal a.«record».now a.weight (length a.list.now) (here (goal.at.returns c).Start) (omega (arith, c.if-mode-gt-LAST_MODE.false)) _ _ (rw (c.scalars_of-scalars.ensures, to_z-of_z c.ranges.weight) at c.update_weighted_terminal_lent.ensures.counts_value));
-      list_after = rw c.c_step.ensures (rw (c.scalars_of-scalars.ensures, to_z-of_z c.ranges.weight) at c.update_weighted_terminal_lent.ensures.list_after);
+      counts_value = rw c.from.ensures
+          (stepped two_tier_face kind.Terminal a.«record».now a.weight (length a.list.now) (here (goal.at.returns c).Start) c.in-Some.ensures.0 _ _ (rw (c.in-Some.ensures.1, to_z-of_z c.ranges.weight) at c.update_weighted_terminal_lent.ensures.counts_value));
+      list_after = rw c.from.ensures (rw (c.in-Some.ensures.1, to_z-of_z c.ranges.weight) at c.update_weighted_terminal_lent.ensures.list_after);
     }
