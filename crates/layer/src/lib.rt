@@ -9,12 +9,10 @@
 mod adding;
 mod candidates;
 mod deltas;
-mod filling;
 mod merging;
 
 pub use adding::{add, add_if_ready, add_reads, add_ready};
 pub use deltas::{apply_delta, delta_fits, delta_reads};
-pub use filling::{zero_counts, zero_words};
 pub use merging::{merge, merge_fits, merge_reads};
 
 // Rows, columns and heap size of a layer.

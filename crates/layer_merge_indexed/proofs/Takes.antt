@@ -74,11 +74,6 @@ vacant_at (Some (Met p d)) = 0
 vacant_at (Some (Vacant p d)) = p
 vacant_at None = 0
 
-pub not_vacant : (l : Option Lookup) → ((p d : ℕ) → l ≡ Some (Vacant p d) → ⊥) → is_vacant l ≡ false
-not_vacant (Some (Met p d)) f = refl
-not_vacant (Some (Vacant p d)) f = absurd (f p d refl)
-not_vacant None f = refl
-
 one_of : (l : Option Lookup) → is_met l ≡ true → is_vacant l ≡ true → ⊥
 one_of (Some (Met p d)) a b = true≢false (sym b)
 one_of (Some (Vacant p d)) a b = true≢false (sym a)

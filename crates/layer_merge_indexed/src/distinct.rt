@@ -13,7 +13,10 @@ fn take_in(seen: &mut [u64], aside: &mut [u64], zeros: &mut [i64], k: usize, w: 
     ensures result_after { items_of aside.new result ≡ with_firsts (items_of aside.old k) (w ∷ []) }
     ensures apart_2 { Apart seen.new aside.new zeros.new result × (result ≤ k + 1) }
 {
-    let Some(Lookup::Vacant(p, _)) = heap_index::look(&*seen, &*aside, &*zeros, k, w.key) else {
+    let Some(l) = heap_index::look(&*seen, &*aside, &*zeros, k, w.key) else {
+        return k;
+    };
+    let Lookup::Vacant(p, _) = l else {
         return k;
     };
     seen[p] = k as u64 + 1;
