@@ -5,10 +5,9 @@ ghost use Rattle.words.specs.Wide.{value_of};
 ghost use Rattle.matrix_storage.specs.Bits.{max_rows, max_cols, hash_bits, mask_bits, signed, hash_of};
 ghost use Rattle.matrix_storage.specs.inner.Shaped.{Shaped};
 ghost use Rattle.countsketch_l2_norm.specs.Sketch.{cell_of, add_rows, row_read, rows_read, rows_fit};
-ghost use Rattle.countsketch_l2_norm.specs.inner.Needs.{sketch_of, rows_ready, Ready, CellReady, RowAdded, not_made, MadeIfReady};
+ghost use Rattle.countsketch_l2_norm.specs.inner.Needs.{sketch_of, rows_ready, Ready, CellReady, RowAdded, MadeIfReady};
 ghost use Rattle.countsketch_l2_norm.specs.Estimate.{estimates, estimate_of, cells_in_range};
 
-use crate::TriedUpdate;
 use crate::cells::{add_cell, index_of, norm_of, row_read};
 use crate::estimate::row_estimate;
 use crate::straight::{update_five, update_five_if_ready, update_three, update_three_if_ready};
@@ -244,17 +243,7 @@ pub fn rows_ready(
     true
 }
 
-// The answer of an update that may not be made.
-pub fn not_made() -> TriedUpdate
-    ensures { result ≡ not_made }
-{
-    TriedUpdate {
-        made: false,
-        count: 0,
-    }
-}
-
-// `rows_ready`, and where it says yes `update_and_count`; where it says no nothing is touched.
+// `rows_ready`, and where it says yes `update_and_count`; where it says no `None`, and nothing is touched.
 pub fn update_if_ready(
     counters: &mut [i64],
     norms: &mut [u64],
@@ -263,7 +252,7 @@ pub fn update_if_ready(
     high: u64,
     low: u64,
     weight: u64,
-) -> TriedUpdate
+) -> Option<i64>
     requires shaped { Shaped rows cols }
     requires cols_in_bounds { (rows * cols ≤ length counters.old) × ((2 * rows ≤ length norms.old) × (weight ≤ top)) }
     ensures { MadeIfReady rows cols (hash_of high low) weight counters.old norms.old counters.new norms.new result }
@@ -275,10 +264,7 @@ pub fn update_if_ready(
         return update_five_if_ready(counters, norms, cols, high, low, weight);
     }
     if !rows_ready(&*counters, &*norms, rows, cols, high, low, weight) {
-        return not_made();
+        return None;
     }
-    TriedUpdate {
-        made: true,
-        count: update_and_count(counters, norms, rows, cols, high, low, weight),
-    }
+    Some(update_and_count(counters, norms, rows, cols, high, low, weight))
 }

@@ -9,6 +9,7 @@ use lib.ListN.{length, get_or, take}
 use lib.Seq.{get_or-take, length-take-le}
 use lib.IntN.{ℤ}
 use borrow.Author.Tests.{eq-eqb, ne_eqb}
+use Rattle.std.proofs.Common.{Option, Some, None, MatchOption, unwrap_or}
 use Rattle.words.specs.inner.Fours.{four_other}
 use Rattle.words.proofs.Missed.{Missed, missed_four}
 use Rattle.heap_moves.specs.Cands.{Cand, no_cand}
@@ -58,3 +59,13 @@ missed_entries es k i m t =
     let e2 : 4 * (i + 2) ≡ 4 * i + 8 = omega arith in
     let e3 : 4 * (i + 3) ≡ 4 * i + 12 = omega arith in
     missed_four (entry_key es) k i m (rw (e1, e2, e3) t)
+
+missed_on : (key : ℕ → ℕ) (k i n : ℕ) → Missed key k i → ((j : ℕ) → i ≤ j → j < n → key j ≢ k) → Missed key k n
+missed_on key k i n m f = λ j h q. grind (arith, m j, f j)
+
+-- what a search of the places from i on answers, where the first i have not met the key
+pub find_from : (es : List ℕ) (ns : List ℤ) (k n i : ℕ) (r : Option ℕ) → n ≤ length ns → Missed (entry_key es) k i
+    → MatchOption r ((j : ℕ) → i ≤ j → j < n → entry_key es j ≢ k) (λ a. (i ≤ a) × (a < n) × (entry_key es a ≡ k) × ((j : ℕ) → i ≤ j → j < a → entry_key es j ≢ k))
+    → unwrap_or r n ≡ find k (take n (cands_of es ns))
+find_from es ns k n i None l m f = find_end es ns k n l (missed_on (entry_key es) k i n m f)
+find_from es ns k n i (Some a) l m f = find_at es ns k n a f.1 l (missed_on (entry_key es) k i a m f.3) f.2

@@ -82,11 +82,6 @@ ready_by false l f m e = absurd (never e)
 -- ---- an update
 
 module _ (d : Dims) (item : Item) (w : ℕ) (xs : List ℤ) (ws es : List ℕ) (ns : List ℤ) (len : ℕ) (is : List ℕ) (flag : Bool) where
-  pub read-grade : (rows looked : Bool) → rows ≡ rows_read d.cols (hash_by item) (sketch_of xs ws d.rows) d.rows 0 → looked ≡ key_looked is (table_of es ns len) item.key
-      → cond (not (rows && looked)) 1 2 ≡ read_grade d (layer_update item w) is (layer_of d xs ws es ns len flag)
-  unfolding add_reads_in
-  read-grade rows looked p q = ap₂ (λ (a b : Bool). cond (not (a && b)) 1 2) p q
-
   pub unready-grade : rows_ready d.cols (hash_by item) w (sketch_of xs ws d.rows) d.rows 0 ≡ false
       → read_grade d (layer_update item w) is (layer_of d xs ws es ns len flag) ≡ add_grade d (layer_update item w) is (layer_of d xs ws es ns len flag)
   unfolding add_grade add_reads_in add_fits
@@ -113,11 +108,6 @@ module _ (d : Dims) (item : Item) (w : ℕ) (xs : List ℤ) (ws es : List ℕ) (
 -- ---- a delta
 
 module _ (d : Dims) (row col : ℕ) (n : ℤ) (item : Item) (every : Bool) (xs : List ℤ) (ws es : List ℕ) (ns : List ℤ) (len : ℕ) (is : List ℕ) (flag : Bool) where
-  pub delta-reads-in : (cell cells looked : Bool) → cell ≡ cell_read d.cols (row * d.cols + col) row (sketch_of xs ws d.rows) → cells ≡ cells_in_range d.cols (hash_by item) xs d.rows 0
-      → looked ≡ key_looked is (table_of es ns len) item.key → cell && cells && looked ≡ delta_reads_in d (delta row col n item every) is (layer_of d xs ws es ns len flag)
-  unfolding delta_reads_in
-  delta-reads-in cell cells looked p q r = ap₂ (λ (a b : Bool). a && b) (ap₂ (λ (a b : Bool). a && b) p q) r
-
   -- what a delta reads of the counters is in range
   pub delta-tests : delta_reads_in d (delta row col n item every) is (layer_of d xs ws es ns len flag) ≡ true
       → (cell_read d.cols (row * d.cols + col) row (sketch_of xs ws d.rows) ≡ true) × (cells_in_range d.cols (hash_by item) xs d.rows 0 ≡ true)

@@ -11,10 +11,8 @@ pub fn key_looked(index: &[u64], entries: &[u64], counts: &[i64], len: usize, ke
     requires { Cover (length entries.now) (length counts.now) len }
     ensures { result ≡ key_looked index.now (table_of entries.now counts.now len) key }
 {
-    let l = heap_index::look(index, entries, counts, len, key);
-    match l {
-        Lookup::Met(p, d) => true,
-        Lookup::Vacant(p, d) => true,
-        Lookup::Refused => false,
-    }
+    !matches!(
+        heap_index::look(index, entries, counts, len, key),
+        Lookup::Refused
+    )
 }
