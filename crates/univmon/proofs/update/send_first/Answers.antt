@@ -1,16 +1,12 @@
 -- `univmon::update::send_first` meets its contract.
 use Prim.Native.Nat.{◌<◌}
-use mathlib.Core.Path.{◌≡◌, refl, sym, ◌∙◌}
 use mathlib.Core.Bool.{true, false}
 use lib.ListN.{get_or}
 use native.Mathlib.Omega.{arith}
 use borrow.Author.Rules.{rules}
 use Rattle.header.specs.Header.{head_of}
-use Rattle.layout.specs.Slices.{lent, view, Lent}
-use Rattle.univmon.specs.inner.Needs.{ready_at}
-use Rattle.words.proofs.Bools.{never}
-use Rattle.layout.specs.State.{layer_at}
-use Rattle.layout.proofs.Handed.{Spanned, cell_piece, norm_piece, word_piece, seat_piece, housed, word-length, handed_back, Back}
+use Rattle.layout.specs.Slices.{lent}
+use Rattle.layout.proofs.Handed.{Spanned, cell_piece, norm_piece, word_piece, seat_piece, housed, word-length, Back}
 use Rattle.univmon.proofs.Sends.{sent-one, ready_handed, noted}
 use Rattle.univmon.proofs.update.send_first.Goals as goal
 use Rattle.univmon.proofs.update.send_first.Goals.{After-add_if_ready, After-span_of-s}

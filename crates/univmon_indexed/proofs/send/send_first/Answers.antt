@@ -1,22 +1,19 @@
 -- `univmon_indexed::send::send_first` meets its contract.
 use Prim.Native.Nat.{◌-◌, ◌<◌}
-use mathlib.Core.Path.{◌≡◌, refl, sym, ap, ◌∙◌}
+use mathlib.Core.Path.{◌≡◌, refl, ap, ◌∙◌}
 use mathlib.Core.Bool.{true, false}
 use lib.ListN.{length, get_or}
 use native.Mathlib.Omega.{arith}
 use borrow.Author.Rules.{rules}
-use Rattle.words.proofs.Bools.{never}
 use Rattle.words.proofs.Parts.{put_back}
 use Rattle.header.specs.Header.{head_of}
-use Rattle.layout.specs.Slices.{Lent, lent, view}
-use Rattle.layout.specs.State.{layer_at}
+use Rattle.layout.specs.Slices.{Lent, lent}
 use Rattle.layout.proofs.Handed.{Spanned, cell_piece, norm_piece, word_piece, seat_piece, handed_back, Back}
 use Rattle.layout_index.specs.Tables.{tables_in}
 use Rattle.layout_index.proofs.Handed.{Tabled, table_piece, table_is, table-put}
 use Rattle.univmon.specs.inner.Needs.{JudgeReady}
 use Rattle.univmon.proofs.Sends.{noted}
 use Rattle.univmon_indexed.proofs.Sends.{seated_handed, sent-one, made_handed}
-use Rattle.univmon_indexed.specs.inner.Needs.{fine_at}
 use Rattle.univmon_indexed.proofs.send.send_first.Goals as goal
 use Rattle.univmon_indexed.proofs.send.send_first.Goals.{After-add_if_fine, After-span_of-s, After-table_span-t, Start}
 
