@@ -200,6 +200,7 @@ pub fn univmon_merge(
 // ---- the header alone
 
 // Sets the weight that a relay fed by deltas believes it has seen.
+#[tactic(auto, unfolding(crate::specs::Calls::head_by))]
 pub fn univmon_set_total_weight(header: CHeader, weight: u64) -> CAnswered
     ensures { result ≡ head_by (λ h. weight_call h weight) header }
 {
@@ -210,6 +211,7 @@ pub fn univmon_set_total_weight(header: CHeader, weight: u64) -> CAnswered
 }
 
 // Marks every layer's candidates as partial.
+#[tactic(auto, unfolding(crate::specs::Calls::head_by))]
 pub fn univmon_mark_candidates_incomplete(header: CHeader) -> CAnswered
     ensures { result ≡ head_by mark_call header }
 {
@@ -220,6 +222,7 @@ pub fn univmon_mark_candidates_incomplete(header: CHeader) -> CAnswered
 }
 
 // Marks one layer's candidates as partial.
+#[tactic(auto, unfolding(crate::specs::Calls::head_by))]
 pub fn univmon_mark_layer_candidates_incomplete(header: CHeader, layer: usize) -> CAnswered
     ensures { result ≡ head_by (λ h. mark_layer_call h layer) header }
 {
