@@ -31,6 +31,7 @@ pub fn univmon_estimate_l2(header: CHeader, norms: &[u64]) -> CAnswer
 }
 
 // The sum of g over the candidates: g 0 is one, 1 value, 2 square; another number is refused with 9.
+#[tactic(auto, unfolding(crate::specs::Calls::answer_by))]
 pub fn univmon_estimate_g_sum(
     header: CHeader,
     counters: &[i64],
@@ -60,6 +61,7 @@ pub fn univmon_estimate_g_sum(
 }
 
 // The number of keys.
+#[tactic(auto, unfolding(crate::specs::Calls::answer_by))]
 pub fn univmon_estimate_cardinality(
     header: CHeader,
     counters: &[i64],
@@ -76,6 +78,7 @@ pub fn univmon_estimate_cardinality(
 }
 
 // L1, L2 and cardinality.
+#[tactic(auto, unfolding(crate::specs::Calls::panel_by))]
 pub fn univmon_panel_answer(
     header: CHeader,
     counters: &[i64],

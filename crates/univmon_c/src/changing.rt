@@ -54,6 +54,7 @@ pub fn univmon_new(
 }
 
 // Clears a state: header and slices are then as `new` leaves them.
+#[tactic(auto, unfolding(crate::specs::Calls::change_by))]
 pub fn univmon_clear(
     header: CHeader,
     counters: &mut [i64],
@@ -73,6 +74,7 @@ pub fn univmon_clear(
 // ---- updates
 
 // The key goes to layers 0 to its bottom layer.
+#[tactic(auto, unfolding(crate::specs::Calls::change_by, layout::specs::Answers::list_left))]
 pub fn univmon_update_weighted(
     header: CHeader,
     counters: &mut [i64],
@@ -97,6 +99,7 @@ pub fn univmon_update_weighted(
 }
 
 // The key goes to its bottom layer only.
+#[tactic(auto, unfolding(crate::specs::Calls::change_by, layout::specs::Answers::list_left))]
 pub fn univmon_update_weighted_terminal(
     header: CHeader,
     counters: &mut [i64],
@@ -122,6 +125,7 @@ pub fn univmon_update_weighted_terminal(
 
 // A change of one counter that another relay saw: fidelity 0 is every insert, 1 promoted only;
 // another number is refused with 9.
+#[tactic(auto, unfolding(crate::specs::Calls::change_by, layout::specs::Answers::list_left))]
 pub fn univmon_apply_delta(
     header: CHeader,
     counters: &mut [i64],
@@ -156,6 +160,7 @@ pub fn univmon_apply_delta(
 // ---- two states
 
 // Merges the other state into this one.
+#[tactic(auto, unfolding(crate::specs::Calls::merge_by, layout::specs::Answers::list_left))]
 pub fn univmon_merge(
     header: CHeader,
     counters: &mut [i64],
