@@ -9,6 +9,7 @@ use crate::crossing::{g_of, header_of, no_answer, no_panel};
 use crate::{CAnswer, CHeader, CPanel};
 
 // L1: the exact weight.
+#[tactic(auto, unfolding(crate::specs::Calls::answer_by))]
 pub fn univmon_estimate_l1(header: CHeader) -> CAnswer
     ensures { result ≡ answer_by true header.mode (l1_call (header_of header)) }
 {
@@ -19,6 +20,7 @@ pub fn univmon_estimate_l1(header: CHeader) -> CAnswer
 }
 
 // L2, from the norms.
+#[tactic(auto, unfolding(crate::specs::Calls::answer_by))]
 pub fn univmon_estimate_l2(header: CHeader, norms: &[u64]) -> CAnswer
     ensures { result ≡ answer_by true header.mode (l2_call (header_of header) norms.now) }
 {
@@ -29,6 +31,7 @@ pub fn univmon_estimate_l2(header: CHeader, norms: &[u64]) -> CAnswer
 }
 
 // The sum of g over the candidates: g 0 is one, 1 value, 2 square; another number is refused with 9.
+#[tactic(auto, unfolding(crate::specs::Calls::answer_by))]
 pub fn univmon_estimate_g_sum(
     header: CHeader,
     counters: &[i64],
@@ -58,6 +61,7 @@ pub fn univmon_estimate_g_sum(
 }
 
 // The number of keys.
+#[tactic(auto, unfolding(crate::specs::Calls::answer_by))]
 pub fn univmon_estimate_cardinality(
     header: CHeader,
     counters: &[i64],
@@ -74,6 +78,7 @@ pub fn univmon_estimate_cardinality(
 }
 
 // L1, L2 and cardinality.
+#[tactic(auto, unfolding(crate::specs::Calls::panel_by))]
 pub fn univmon_panel_answer(
     header: CHeader,
     counters: &[i64],
@@ -91,6 +96,7 @@ pub fn univmon_panel_answer(
 
 // Whether a header and four slices have what every accepted call keeps: no, where the mode's number
 // stands for no mode.
+#[tactic(auto, unfolding(crate::specs::Calls::check_by))]
 pub fn univmon_check_state(
     header: CHeader,
     counters: &[i64],

@@ -54,6 +54,7 @@ pub fn univmon_new(
 }
 
 // Clears a state: header and slices are then as `new` leaves them.
+#[tactic(auto, unfolding(crate::specs::Calls::change_by))]
 pub fn univmon_clear(
     header: CHeader,
     counters: &mut [i64],
@@ -73,6 +74,7 @@ pub fn univmon_clear(
 // ---- updates
 
 // The key goes to layers 0 to its bottom layer.
+#[tactic(auto, unfolding(crate::specs::Calls::change_by, layout::specs::Answers::list_left))]
 pub fn univmon_update_weighted(
     header: CHeader,
     counters: &mut [i64],
@@ -97,6 +99,7 @@ pub fn univmon_update_weighted(
 }
 
 // The key goes to its bottom layer only.
+#[tactic(auto, unfolding(crate::specs::Calls::change_by, layout::specs::Answers::list_left))]
 pub fn univmon_update_weighted_terminal(
     header: CHeader,
     counters: &mut [i64],
@@ -122,6 +125,7 @@ pub fn univmon_update_weighted_terminal(
 
 // A change of one counter that another relay saw: fidelity 0 is every insert, 1 promoted only;
 // another number is refused with 9.
+#[tactic(auto, unfolding(crate::specs::Calls::change_by, layout::specs::Answers::list_left))]
 pub fn univmon_apply_delta(
     header: CHeader,
     counters: &mut [i64],
@@ -156,6 +160,7 @@ pub fn univmon_apply_delta(
 // ---- two states
 
 // Merges the other state into this one.
+#[tactic(auto, unfolding(crate::specs::Calls::merge_by, layout::specs::Answers::list_left))]
 pub fn univmon_merge(
     header: CHeader,
     counters: &mut [i64],
@@ -200,6 +205,7 @@ pub fn univmon_merge(
 // ---- the header alone
 
 // Sets the weight that a relay fed by deltas believes it has seen.
+#[tactic(auto, unfolding(crate::specs::Calls::head_by))]
 pub fn univmon_set_total_weight(header: CHeader, weight: u64) -> CAnswered
     ensures { result ≡ head_by (λ h. weight_call h weight) header }
 {
@@ -210,6 +216,7 @@ pub fn univmon_set_total_weight(header: CHeader, weight: u64) -> CAnswered
 }
 
 // Marks every layer's candidates as partial.
+#[tactic(auto, unfolding(crate::specs::Calls::head_by))]
 pub fn univmon_mark_candidates_incomplete(header: CHeader) -> CAnswered
     ensures { result ≡ head_by mark_call header }
 {
@@ -220,6 +227,7 @@ pub fn univmon_mark_candidates_incomplete(header: CHeader) -> CAnswered
 }
 
 // Marks one layer's candidates as partial.
+#[tactic(auto, unfolding(crate::specs::Calls::head_by))]
 pub fn univmon_mark_layer_candidates_incomplete(header: CHeader, layer: usize) -> CAnswered
     ensures { result ≡ head_by (λ h. mark_layer_call h layer) header }
 {

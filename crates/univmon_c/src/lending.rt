@@ -13,6 +13,7 @@ use crate::crossing::scalars_of;
 use crate::{CShape, CStep};
 
 // The key goes to layers 0 to its bottom layer.
+#[tactic(auto, unfolding(crate::specs::Calls::change_by, layout::specs::Answers::list_left))]
 pub fn univmon_update_weighted_lent(
     shape: CShape,
     total_weight: u64,
@@ -47,6 +48,7 @@ pub fn univmon_update_weighted_lent(
 }
 
 // The key goes to its bottom layer only.
+#[tactic(auto, unfolding(crate::specs::Calls::change_by, layout::specs::Answers::list_left))]
 pub fn univmon_update_weighted_terminal_lent(
     shape: CShape,
     total_weight: u64,

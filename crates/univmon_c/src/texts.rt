@@ -11,6 +11,7 @@ use crate::{CAnswered, CHeader, CWritten};
 
 // A state's text at the start of the lent space: 9 for a state that fails the check, 16 for a space that
 // is too short.
+#[tactic(auto, unfolding(crate::specs::Calls::write_by))]
 pub fn univmon_write_state(
     header: CHeader,
     counters: &[i64],

@@ -11,6 +11,7 @@ use univmon_c::CAnswer;
 use univmon_c::crossing::{g_of, no_answer};
 
 // L1: the exact weight.
+#[tactic(auto, unfolding(univmon_c::specs::Calls::answer_by))]
 #[unsafe(no_mangle)]
 pub extern "C" fn univmon_two_tier_estimate_l1(header: CTwoTier) -> CAnswer
     ensures { result ≡ answer_by true header.mode (l1_call (header_of header)) }
@@ -22,6 +23,7 @@ pub extern "C" fn univmon_two_tier_estimate_l1(header: CTwoTier) -> CAnswer
 }
 
 // L2, from the norms.
+#[tactic(auto, unfolding(univmon_c::specs::Calls::answer_by))]
 #[unsafe(no_mangle)]
 pub extern "C" fn univmon_two_tier_estimate_l2(header: CTwoTier, norms: &[u64]) -> CAnswer
     ensures { result ≡ answer_by true header.mode (l2_call (header_of header) norms.now) }
@@ -33,6 +35,7 @@ pub extern "C" fn univmon_two_tier_estimate_l2(header: CTwoTier, norms: &[u64]) 
 }
 
 // The sum of g over the candidates: g 0 is one, 1 value, 2 square; another number is refused with 9.
+#[tactic(auto, unfolding(univmon_c::specs::Calls::answer_by))]
 #[unsafe(no_mangle)]
 pub extern "C" fn univmon_two_tier_estimate_g_sum(
     header: CTwoTier,
@@ -63,6 +66,7 @@ pub extern "C" fn univmon_two_tier_estimate_g_sum(
 }
 
 // The number of keys.
+#[tactic(auto, unfolding(univmon_c::specs::Calls::answer_by))]
 #[unsafe(no_mangle)]
 pub extern "C" fn univmon_two_tier_estimate_cardinality(
     header: CTwoTier,

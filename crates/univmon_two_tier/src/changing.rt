@@ -77,6 +77,7 @@ pub extern "C" fn univmon_two_tier_new(
 }
 
 // Clears a state: header and slices are then as `new` leaves them.
+#[tactic(auto, unfolding(univmon_c::specs::Calls::change_by))]
 #[unsafe(no_mangle)]
 pub extern "C" fn univmon_two_tier_clear(
     header: CTwoTier,
@@ -95,6 +96,7 @@ pub extern "C" fn univmon_two_tier_clear(
 }
 
 // The key goes to layers 0 to its bottom layer.
+#[tactic(auto, unfolding(univmon_c::specs::Calls::change_by, layout::specs::Answers::list_left))]
 #[unsafe(no_mangle)]
 pub extern "C" fn univmon_two_tier_update_weighted(
     header: CTwoTier,
@@ -120,6 +122,7 @@ pub extern "C" fn univmon_two_tier_update_weighted(
 }
 
 // The key goes to its bottom layer only.
+#[tactic(auto, unfolding(univmon_c::specs::Calls::change_by, layout::specs::Answers::list_left))]
 #[unsafe(no_mangle)]
 pub extern "C" fn univmon_two_tier_update_weighted_terminal(
     header: CTwoTier,
@@ -145,6 +148,7 @@ pub extern "C" fn univmon_two_tier_update_weighted_terminal(
 }
 
 // Merges the other state into this one.
+#[tactic(auto, unfolding(univmon_c::specs::Calls::merge_by, layout::specs::Answers::list_left))]
 #[unsafe(no_mangle)]
 pub extern "C" fn univmon_two_tier_merge(
     header: CTwoTier,

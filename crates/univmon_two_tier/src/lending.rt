@@ -16,6 +16,7 @@ use crate::crossing::scalars_of;
 use univmon_c::CStep;
 
 // The key goes to layers 0 to its bottom layer.
+#[tactic(auto, unfolding(univmon_c::specs::Calls::change_by, layout::specs::Answers::list_left))]
 #[unsafe(no_mangle)]
 pub extern "C" fn univmon_two_tier_update_weighted_lent(
     shape: CTwoTierShape,
@@ -51,6 +52,7 @@ pub extern "C" fn univmon_two_tier_update_weighted_lent(
 }
 
 // The key goes to its bottom layer only.
+#[tactic(auto, unfolding(univmon_c::specs::Calls::change_by, layout::specs::Answers::list_left))]
 #[unsafe(no_mangle)]
 pub extern "C" fn univmon_two_tier_update_weighted_terminal_lent(
     shape: CTwoTierShape,
