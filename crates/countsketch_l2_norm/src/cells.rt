@@ -92,6 +92,7 @@ fn sum_in_range(x: i64, d: i64) -> bool
     requires { nat_abs x ≤ top }
     ensures { result ≡ in_range (x +ℤ d) }
 {
+    // two tests: of their conjunction neither outcome was proved, the first test being turned about
     if d < -words::TOP - x {
         return false;
     }

@@ -193,15 +193,10 @@ pub fn row_ready(x: i64, w: Wide, cols: usize, high: u64, low: u64, r: usize, we
     requires { (r < max_rows) × (weight ≤ top) }
     ensures { result ≡ row_read x (value_of w) cols && in_range (x +ℤ signed (hash_of high low) r (pos weight)) }
 {
-    if words::is_short(x) {
-        if weight <= LIGHT_TOP {
-            return norm_ready(words::short_square(x), w, cols);
-        }
+    if words::is_short(x) && weight <= LIGHT_TOP {
+        return norm_ready(words::short_square(x), w, cols);
     }
-    if !row_read(x, w, cols) {
-        return false;
-    }
-    words::in_range(x + delta_at(high, low, r, weight))
+    row_read(x, w, cols) && words::in_range(x + delta_at(high, low, r, weight))
 }
 
 // Whether an update may be made: `rows_read` and `rows_fit` in one pass, where it does not matter which

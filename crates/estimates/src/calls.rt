@@ -43,11 +43,7 @@ fn norms_match(shape: Shape, norms: usize) -> bool
 fn norms_lent(header: Header, norms: &[u64]) -> bool
     ensures { result ≡ norms_lent header norms.now }
 {
-    if !header.in_range() {
-        return false;
-    }
-    let shape = header.shape;
-    norms_match(shape, norms.len())
+    header.in_range() && norms_match(header.shape, norms.len())
 }
 
 // L2: of layer 0, or in terminal mode of all layers.
@@ -68,21 +64,14 @@ pub fn estimate_l2(header: Header, norms: &[u64]) -> Result<f64, Refusal>
 fn is_terminal(mode: Mode) -> bool
     ensures { result ≡ is_terminal mode }
 {
-    match mode {
-        Mode::Unset => false,
-        Mode::Standard => false,
-        Mode::Terminal => true,
-    }
+    matches!(mode, Mode::Terminal)
 }
 
 // Whether a sum is 0.0 by the header alone.
 fn header_alone(weight: u64, every: bool) -> bool
     ensures { result ≡ (eqb weight 0 && not every) }
 {
-    if weight != 0 {
-        return false;
-    }
-    !every
+    weight == 0 && !every
 }
 
 // The sum by the state's mode.

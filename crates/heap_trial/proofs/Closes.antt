@@ -5,17 +5,14 @@ use mathlib.Core.Bool.{Bool, true, false, cond, not, false≢true}
 use mathlib.Core.List.{List}
 use Prim.Native.Nat.{ℕ, suc, ◌-◌, ◌*◌, ◌≤◌, ◌<◌}
 use native.Mathlib.Omega.{arith}
-use lib.ListN.{length, get_or, set, take, length-set}
+use lib.ListN.{length, get_or, set, length-set}
 use lib.Seq.{get_or-set_same}
-use lib.IntN.{ℤ, pos}
+use lib.IntN.{ℤ}
 use borrow.Author.Tests.{eq-eqb, ne_eqb, lt-ltb, le-leb, lt-leb}
-use Rattle.words.specs.inner.Copies.{Front}
-use Rattle.words.proofs.Fills.{front_take}
 use Rattle.heap_moves.specs.declared.Item.{Item}
 use Rattle.heap_moves.specs.Cands.{Cand}
 use Rattle.heap_moves.specs.Flat.{cands_of, cand_of}
 use Rattle.heap.specs.Offer.{Table}
-use Rattle.heap.specs.inner.Slices.{table_of}
 use Rattle.heap_index.specs.inner.Needs.{Cover}
 use Rattle.heap_index.specs.Index.{word, key_at, key_on, home, next_place, dist, is_name, close, remove, remove_at, found_under, IndexStep}
 use Rattle.heap_index.proofs.Checks.{place_at}
@@ -88,18 +85,6 @@ as_then s t w v v' e r q = q ∙ ap (λ (x : ℤ). then_in s t (cand_of w x)) e
 
 pub as_came : (xs : List ℕ) (t : Table) (w : Item) (v v' : ℤ) → v' ≡ v → (r : Bool) → r ≡ (come_in xs t (cand_of w v')).fine → r ≡ (come_in xs t (cand_of w v)).fine
 as_came xs t w v v' e r q = q ∙ ap (λ (x : ℤ). (come_in xs t (cand_of w x)).fine) e
-
--- on a copy of the three slices
-pub on_copy : (xs es xs' es' : List ℕ) (ns ns' : List ℤ) (n g p many : ℕ) (c : Cand) → Front 0 (length xs) xs xs' → Front 0 (length es) es es' → Front (pos 0) (length ns) ns ns'
-    → length xs ≤ length xs' → length es ≤ length es' → length ns ≤ length ns' → (r : Bool)
-    → r ≡ then_in (close many (take (length xs) xs') n (cands_of (take (length es) es') (take (length ns) ns')) g p) (table_of (take (length es) es') (take (length ns) ns') n) c
-    → r ≡ then_in (close many xs n (cands_of es ns) g p) (table_of es ns n) c
-on_copy xs es xs' es' ns ns' n g p many c fx fe fn lx le ln r q =
-    q ∙ ap (λ (x : List ℕ). then_in (close many x n (cands_of (take (length es) es') (take (length ns) ns')) g p) (table_of (take (length es) es') (take (length ns) ns') n) c)
-    (front_take 0 (length xs) xs xs' fx refl lx) ∙ ap (λ (x : List Cand). then_in (close many xs n x g p) (record { cands = x; len = n }) c) same
-  where
-    same : cands_of (take (length es) es') (take (length ns) ns') ≡ cands_of es ns
-    same = ap (λ (x : List ℕ). cands_of x (take (length ns) ns')) (front_take 0 (length es) es es' fe refl le) ∙ ap (cands_of es) (front_take (pos 0) (length ns) ns ns' fn refl ln)
 
 -- ---- tried from a place q that was skipped to, with k places left
 

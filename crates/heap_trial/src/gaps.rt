@@ -10,7 +10,6 @@ ghost use Rattle.heap_trial.specs.inner.Trials.{enter_sink, then_in, Small};
 
 use crate::Spot;
 use crate::paths::try_sink;
-use heap_index::Lookup;
 use heap_moves::Item;
 
 // How many entries may move into a gap before the rest is made on a copy.
@@ -45,12 +44,10 @@ fn try_insert(
     ensures index_unchanged { index.new ≡ index.old }
     ensures counts_unchanged { cands_of entries.new counts.new ≡ cands_of entries.old counts.old }
 {
-    let l = heap_index::look(&*index, &*entries, &*counts, n, key);
-    match l {
-        Lookup::Met(p, d) => try_at(index, entries, counts, n, p),
-        Lookup::Vacant(p, d) => try_at(index, entries, counts, n, p),
-        Lookup::Refused => false,
-    }
+    let Some(l) = heap_index::look(&*index, &*entries, &*counts, n, key) else {
+        return false;
+    };
+    try_at(index, entries, counts, n, l.place())
 }
 
 // Whether a new key could come in for the root's, which is out of the index.
@@ -116,15 +113,16 @@ fn skip(
 {
     let m = index.len();
     let mut place = start;
-    let mut left = many;
-    while left > 0 {
+    for passed in 0..many {
         if !stays(index, entries, counts, n, g, place) {
-            return Spot { place, left };
+            return Spot {
+                place,
+                left: many - passed,
+            };
         }
         place = heap_index::after(m, place);
-        left -= 1;
     }
-    Spot { place, left }
+    Spot { place, left: 0 }
 }
 
 // Whether the place p names a candidate whose lookup passes the gap at g, so that it moves there.
@@ -192,23 +190,13 @@ fn close_on_copy(
     let mut places = [0u64; 2 * heap_moves::MAX_HEAP_SIZE];
     let mut words = [0u64; 4 * heap_moves::MAX_HEAP_SIZE];
     let mut numbers = [0i64; heap_moves::MAX_HEAP_SIZE];
-    let a = index.len();
-    let b = entries.len();
-    let c = counts.len();
-    words::copy_words(index, &mut places, a);
-    words::copy_words(entries, &mut words, b);
-    words::copy_counts(counts, &mut numbers, c);
-    close_and_come_in(
-        &mut places[..a],
-        &mut words[..b],
-        &mut numbers[..c],
-        n,
-        w,
-        v,
-        g,
-        p,
-        many,
-    )
+    let places = &mut places[..index.len()];
+    let words = &mut words[..entries.len()];
+    let numbers = &mut numbers[..counts.len()];
+    places.copy_from_slice(index);
+    words.copy_from_slice(entries);
+    numbers.copy_from_slice(counts);
+    close_and_come_in(places, words, numbers, n, w, v, g, p, many)
 }
 
 // Whether the gap at g could be closed from p on, over at most f places, and the new key come in. Entries that

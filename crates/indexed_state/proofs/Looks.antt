@@ -7,6 +7,7 @@ use native.Mathlib.Omega.{arith}
 use borrow.Author.Tests.{eq-eqb, ne_eqb, le-leb, lt-leb, not-false, eqb-true}
 use lib.ListN.{length}
 use lib.Dec.{leb}
+use Rattle.std.proofs.Common.{Option}
 use Rattle.words.specs.Tests.{number}
 use Rattle.words.proofs.Tests.{off_number, off_first, off_rest, number_off, number_first, number-rest}
 use Rattle.heap_moves.specs.Cands.{Cand}
@@ -22,7 +23,7 @@ use Rattle.indexed_state.specs.declared.LookedUp.{LookedUp}
 use Rattle.indexed_state.specs.Lookups.{looked_up, looked_by, look_in, lookup_tests, lookup_call}
 
 -- the answer that a walk's end gives
-pub looked : (xs : List ℕ) (n : ℕ) (cs : List Cand) (k : ℕ) (l : Lookup) → look xs n cs k ≡ l → looked_by xs l ≡ look_in xs (record { cands = cs; len = n }) k
+pub looked : (xs : List ℕ) (n : ℕ) (cs : List Cand) (k : ℕ) (l : Option Lookup) → look xs n cs k ≡ l → looked_by xs l ≡ look_in xs (record { cands = cs; len = n }) k
 looked xs n cs k l e = ap (looked_by xs) (sym e)
 
 module _ (r : Lent) (xs : List ℕ) where

@@ -37,11 +37,8 @@ fn build_tables(header: Header, entries: &[u64], index: &mut [u64])
     requires { Buildable header (length entries.now) (length index.old) }
     ensures { index.new ≡ built_index header entries.now index.old }
 {
-    let layers = header.shape.layers;
-    let mut l = 0;
-    while l < layers {
+    for l in 0..header.shape.layers {
         build_table(header, entries, index, l);
-        l += 1;
     }
 }
 

@@ -47,15 +47,7 @@ fn tables_ok(
     requires { StandingIn (lent_now header counters norms entries counts) index.now }
     ensures { result ≡ tables_ok (view (lent header counters.now norms.now entries.now counts.now)) index.now }
 {
-    let layers = header.shape.layers;
-    let mut l = 0;
-    while l < layers {
-        if !table_ok(header, counters, norms, entries, counts, index, l) {
-            return false;
-        }
-        l += 1;
-    }
-    true
+    (0..header.shape.layers).all(|l| table_ok(header, counters, norms, entries, counts, index, l))
 }
 
 // Yes exactly if the state passes its check, and each layer's table holds exactly the layer's candidates, each
@@ -70,11 +62,7 @@ pub fn check_indexed_state(
 ) -> bool
     ensures { result ≡ indexed_ok (lent header counters.now norms.now entries.now counts.now) index.now }
 {
-    if !state_check::check_state(header, counters, norms, entries, counts) {
-        return false;
-    }
-    if index.len() != tables_in(header.shape) {
-        return false;
-    }
-    tables_ok(header, counters, norms, entries, counts, index)
+    state_check::check_state(header, counters, norms, entries, counts)
+        && index.len() == tables_in(header.shape)
+        && tables_ok(header, counters, norms, entries, counts, index)
 }

@@ -16,7 +16,9 @@ fn look_in(index: &[u64], entries: &[u64], counts: &[i64], len: usize, key: u64)
     requires { Cover (length entries.now) (length counts.now) len }
     ensures { result ≡ look_in index.now (table_of entries.now counts.now len) key }
 {
-    let l = heap_index::look(index, entries, counts, len, key);
+    let Some(l) = heap_index::look(index, entries, counts, len, key) else {
+        return refused(9);
+    };
     match l {
         Lookup::Met(p, d) => LookedUp {
             refusal: 0,
@@ -24,13 +26,12 @@ fn look_in(index: &[u64], entries: &[u64], counts: &[i64], len: usize, key: u64)
             entry: index[p] as usize - 1,
             probes: d,
         },
-        Lookup::Vacant(p, d) => LookedUp {
+        Lookup::Vacant(_, d) => LookedUp {
             refusal: 0,
             found: false,
             entry: 0,
             probes: d,
         },
-        Lookup::Refused => refused(9),
     }
 }
 

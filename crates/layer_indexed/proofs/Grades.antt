@@ -7,6 +7,7 @@ use native.Mathlib.Omega.{arith}
 use lib.ListN.{length, set}
 use lib.Seq.{set-set, set-get_or}
 use lib.IntN.{ℤ, pos, ◌+ℤ◌}
+use Rattle.std.proofs.Common.{Option, Some, None, is_some}
 use Rattle.words.proofs.Bools.{never, and_left, and_right}
 use Rattle.countsketch_l2_norm.specs.Sketch.{cell_at, cell_read, cell_fits, add_cell, add_rows, rows_read, rows_fit}
 use Rattle.countsketch_l2_norm.specs.Estimate.{estimate_of, cells_in_range}
@@ -18,23 +19,21 @@ use Rattle.heap_moves.proofs.Rounds.{entries-cands, counts-cands, entries_are, c
 use Rattle.heap.specs.Offer.{Table}
 use Rattle.heap.specs.inner.Slices.{table_of}
 use Rattle.heap_index.specs.declared.Lookup.{Lookup}
-use Rattle.heap_index.specs.declared.Lookup.TheVariants.{Met, Vacant, Refused}
 use Rattle.heap_indexed.specs.Offers.{offer_in}
 use Rattle.heap_indexed.proofs.Runs.{fine_looked}
 use Rattle.layer.specs.declared.Dims.{Dims}
 use Rattle.layer.specs.Layer.{hash_by, count_of, layer_update, add_sketch, add_fits}
 use Rattle.layer.specs.Delta.{delta_fits}
 use Rattle.layer.specs.inner.Needs.{layer_of, delta}
-use Rattle.layer_indexed.specs.Adding.{is_found, key_looked, add_reads_in, add_moves_in, delta_reads_in, delta_moves_in}
+use Rattle.layer_indexed.specs.Adding.{key_looked, add_reads_in, add_moves_in, delta_reads_in, delta_moves_in}
 use Rattle.layer_indexed.specs.inner.Needs.{grade_by, read_grade, add_grade, delta_grade}
 
 -- ---- lookups
 
 -- a lookup that is not refused ends at the key or at an empty place
-pub not-refused : (l : Lookup) → (l ≡ Refused → ⊥) → is_found l ≡ true
-not-refused (Met p d) f = refl
-not-refused (Vacant p d) f = refl
-not-refused Refused f = absurd (f refl)
+pub not-refused : (l : Option Lookup) → (l ≡ None → ⊥) → is_some l ≡ true
+not-refused (Some l) f = refl
+not-refused None f = absurd (f refl)
 
 -- the key of an offer that is not refused was looked up
 pub offer_looked : (size : ℕ) (xs : List ℕ) (t : Table) (c : Cand) → (offer_in size xs t c).after.fine ≡ true → key_looked xs t c.item.key ≡ true
@@ -82,11 +81,6 @@ ready_by false l f m e = absurd (never e)
 -- ---- an update
 
 module _ (d : Dims) (item : Item) (w : ℕ) (xs : List ℤ) (ws es : List ℕ) (ns : List ℤ) (len : ℕ) (is : List ℕ) (flag : Bool) where
-  pub read-grade : (rows looked : Bool) → rows ≡ rows_read d.cols (hash_by item) (sketch_of xs ws d.rows) d.rows 0 → looked ≡ key_looked is (table_of es ns len) item.key
-      → cond (not (rows && looked)) 1 2 ≡ read_grade d (layer_update item w) is (layer_of d xs ws es ns len flag)
-  unfolding add_reads_in
-  read-grade rows looked p q = ap₂ (λ (a b : Bool). cond (not (a && b)) 1 2) p q
-
   pub unready-grade : rows_ready d.cols (hash_by item) w (sketch_of xs ws d.rows) d.rows 0 ≡ false
       → read_grade d (layer_update item w) is (layer_of d xs ws es ns len flag) ≡ add_grade d (layer_update item w) is (layer_of d xs ws es ns len flag)
   unfolding add_grade add_reads_in add_fits
@@ -113,11 +107,6 @@ module _ (d : Dims) (item : Item) (w : ℕ) (xs : List ℤ) (ws es : List ℕ) (
 -- ---- a delta
 
 module _ (d : Dims) (row col : ℕ) (n : ℤ) (item : Item) (every : Bool) (xs : List ℤ) (ws es : List ℕ) (ns : List ℤ) (len : ℕ) (is : List ℕ) (flag : Bool) where
-  pub delta-reads-in : (cell cells looked : Bool) → cell ≡ cell_read d.cols (row * d.cols + col) row (sketch_of xs ws d.rows) → cells ≡ cells_in_range d.cols (hash_by item) xs d.rows 0
-      → looked ≡ key_looked is (table_of es ns len) item.key → cell && cells && looked ≡ delta_reads_in d (delta row col n item every) is (layer_of d xs ws es ns len flag)
-  unfolding delta_reads_in
-  delta-reads-in cell cells looked p q r = ap₂ (λ (a b : Bool). a && b) (ap₂ (λ (a b : Bool). a && b) p q) r
-
   -- what a delta reads of the counters is in range
   pub delta-tests : delta_reads_in d (delta row col n item every) is (layer_of d xs ws es ns len flag) ≡ true
       → (cell_read d.cols (row * d.cols + col) row (sketch_of xs ws d.rows) ≡ true) × (cells_in_range d.cols (hash_by item) xs d.rows 0 ≡ true)

@@ -35,6 +35,7 @@ fn count_behind(
 
 // Whether what a delta reads first is in range: its cell and norm, the cells of the key's estimate, and what
 // the key's own lookup visits.
+#[tactic(auto, unfolding(crate::specs::Adding::delta_reads_in))]
 fn delta_reads(
     counters: &[i64],
     norms: &[u64],
@@ -51,13 +52,9 @@ fn delta_reads(
     requires row_lt_rows { (row < d.rows) × (col < d.cols) }
     ensures { (flag every : Bool) (n : ℤ) → result ≡ delta_reads_in d (delta row col n item every) index.now (layer_of d counters.now norms.now entries.now counts.now len flag) }
 {
-    if !countsketch_l2_norm::cell_read(counters, norms, d.rows, d.cols, row, col) {
-        return false;
-    }
-    if !countsketch_l2_norm::cells_in(counters, d.rows, d.cols, item.high, item.low) {
-        return false;
-    }
-    key_looked(index, entries, counts, len, item.key)
+    countsketch_l2_norm::cell_read(counters, norms, d.rows, d.cols, row, col)
+        && countsketch_l2_norm::cells_in(counters, d.rows, d.cols, item.high, item.low)
+        && key_looked(index, entries, counts, len, item.key)
 }
 
 // How far a delta may come. The offer is tried on the slices and taken back.
@@ -115,10 +112,7 @@ pub fn apply_delta(
     ensures value { (flag every : Bool) → result ≡ delta_answer_in d (delta row col count item every) index.old (layer_in d counters norms entries counts len flag) }
     ensures index_after { (flag every : Bool) → index.new ≡ delta_index_in d (delta row col count item every) index.old (layer_in d counters norms entries counts len flag) }
 {
-    let rows = d.rows;
-    let cols = d.cols;
-    countsketch_l2_norm::apply_delta(counters, norms, rows, cols, row, col, count);
-    let n = countsketch_l2_norm::count_with_hash(&*counters, rows, cols, item.high, item.low);
-    let tried = heap_indexed::offer(index, entries, counts, d.size, len, item, n);
-    tried.answer
+    countsketch_l2_norm::apply_delta(counters, norms, d.rows, d.cols, row, col, count);
+    let n = countsketch_l2_norm::count_with_hash(&*counters, d.rows, d.cols, item.high, item.low);
+    heap_indexed::offer(index, entries, counts, d.size, len, item, n).answer
 }

@@ -8,13 +8,7 @@ use lib.ListN.{length, get_or}
 use lib.Dec.{eqb, leb}
 use native.Mathlib.Omega.{arith}
 use borrow.Author.Tests.{eq-eqb, lt-leb, leb-false, eqb-true}
-use Rattle.text.specs.Hex.{hex_ok_at}
-use Rattle.panel_lines.specs.Line.{pair_ok_at, all_pairs, tail_at}
-
-pub pair_last : (s : List ℕ) (i : ℕ) → get_or s i 0 ≡ 32 → get_or s (i + 1) 0 ≡ 40 → hex_ok_at s (i + 2) ≡ true → get_or s (i + 18) 0 ≡ 32 → hex_ok_at s (i + 19) ≡ true
-    → eqb (get_or s (i + 35) 0) 41 ≡ pair_ok_at s i
-unfolding pair_ok_at
-pair_last s i a b c d e = rw (a, b, c, d, e)
+use Rattle.panel_lines.specs.Line.{all_pairs, tail_at}
 
 -- n pairs from i on, and the bracket that ends the line
 pub record Tailed (s : List ℕ) (i n : ℕ) : Type 0 where

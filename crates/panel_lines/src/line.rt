@@ -17,6 +17,7 @@ pub const LONGEST_LINE: usize = 1024;
 pub const LINE_WORDS: usize = 2 + 2 * ((LONGEST_LINE - 24) / 36);
 
 // What a line asks. `Shape` has heap, rows, cols and layers; `Add` has the weight and the number of its words.
+// `Unreadable` is one of them and not `None`, since the definitions `answer_to` and `log_after` speak of it.
 #[derive(Clone, Copy)]
 pub enum Request {
     Shape(u64, u64, u64, u64),

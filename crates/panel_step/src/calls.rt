@@ -37,10 +37,6 @@ pub fn start(
         counts.len(),
     )?;
     let e = extent_of(shape);
-    let cells = e.cells;
-    let sums = e.norms;
-    let words = e.words;
-    let seats = e.seats;
     univmon::new_two_tier(
         shape.heap_size,
         shape.elephant_layers,
@@ -49,10 +45,10 @@ pub fn start(
         shape.mouse_rows,
         shape.mouse_cols,
         shape.layers,
-        &mut counters[..cells],
-        &mut norms[..sums],
-        &mut entries[..words],
-        &mut counts[..seats],
+        &mut counters[..e.cells],
+        &mut norms[..e.norms],
+        &mut entries[..e.words],
+        &mut counts[..e.seats],
     )
 }
 
@@ -83,17 +79,13 @@ pub fn add(
         return Err(Refusal::Unreadable);
     }
     let e = extent_of(shape);
-    let cells = e.cells;
-    let sums = e.norms;
-    let quads = e.words;
-    let seats = e.seats;
     let mut list = [0u64; 2 * Shape::MAX_LAYERS];
     univmon::update_weighted(
         header,
-        &mut counters[..cells],
-        &mut norms[..sums],
-        &mut entries[..quads],
-        &mut counts[..seats],
+        &mut counters[..e.cells],
+        &mut norms[..e.norms],
+        &mut entries[..e.words],
+        &mut counts[..e.seats],
         record,
         weight,
         &mut list,
@@ -156,16 +148,12 @@ pub fn show(
         return put_refused(out, Refusal::Unreadable.number());
     }
     let e = extent_of(shape);
-    let cells = e.cells;
-    let sums = e.norms;
-    let words = e.words;
-    let seats = e.seats;
     show_parts(
         header,
-        &counters[..cells],
-        &norms[..sums],
-        &entries[..words],
-        &counts[..seats],
+        &counters[..e.cells],
+        &norms[..e.norms],
+        &entries[..e.words],
+        &counts[..e.seats],
         out,
     )
 }

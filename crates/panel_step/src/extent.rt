@@ -13,19 +13,11 @@ pub const MAX_COUNTERS: usize = 4096;
 pub const MAX_CANDIDATES: usize = 512;
 
 // Whether slices of these lengths have room.
+#[tactic(auto, unfolding(crate::specs::Panel::roomy))]
 fn has_room(e: Extent, counters: usize, norms: usize, entries: usize, counts: usize) -> bool
     ensures { result ≡ roomy e counters norms entries counts }
 {
-    if counters < e.cells {
-        return false;
-    }
-    if norms < e.norms {
-        return false;
-    }
-    if entries < e.words {
-        return false;
-    }
-    e.seats <= counts
+    e.cells <= counters && e.norms <= norms && e.words <= entries && e.seats <= counts
 }
 
 // Whether the panel takes a shape in slices of these lengths.
@@ -40,14 +32,12 @@ pub fn check_panel(
 {
     shape.check()?;
     let e = extent_of(shape);
-    if MAX_COUNTERS < e.cells {
-        return Err(Refusal::AboveDomain);
+    if e.cells <= MAX_COUNTERS
+        && e.seats <= MAX_CANDIDATES
+        && has_room(e, counters, norms, entries, counts)
+    {
+        Ok(())
+    } else {
+        Err(Refusal::AboveDomain)
     }
-    if MAX_CANDIDATES < e.seats {
-        return Err(Refusal::AboveDomain);
-    }
-    if has_room(e, counters, norms, entries, counts) {
-        return Ok(());
-    }
-    Err(Refusal::AboveDomain)
 }

@@ -26,10 +26,7 @@ fn layer_ok(
     ensures { (flag : Bool) → result ≡ layer_ok dims
         (layer_of dims cells.now norms.now entries.now counts.now len flag) }
 {
-    if !rows_ok(cells, norms, dims.rows, dims.cols) {
-        return false;
-    }
-    seats_ok(entries, counts, dims.size, len)
+    rows_ok(cells, norms, dims.rows, dims.cols) && seats_ok(entries, counts, dims.size, len)
 }
 
 // The check of layer l of a state.
@@ -71,15 +68,7 @@ fn layers_ok(
     ensures { result ≡ layers_ok
         (view (lent header counters.now norms.now entries.now counts.now)) }
 {
-    let layers = header.shape.layers;
-    let mut l = 0;
-    while l < layers {
-        if !layer_at(header, counters, norms, entries, counts, l) {
-            return false;
-        }
-        l += 1;
-    }
-    true
+    (0..header.shape.layers).all(|l| layer_at(header, counters, norms, entries, counts, l))
 }
 
 // Yes exactly if lengths and ranges hold, each norm equals its row's sum, no count in a layer is
@@ -93,18 +82,13 @@ pub fn check_state(
 ) -> bool
     ensures { result ≡ state_ok (lent header counters.now norms.now entries.now counts.now) }
 {
-    if !header.in_range() {
-        return false;
-    }
-    let shape = header.shape;
-    if !layout::lengths_match(
-        shape,
-        counters.len(),
-        norms.len(),
-        entries.len(),
-        counts.len(),
-    ) {
-        return false;
-    }
-    layers_ok(header, counters, norms, entries, counts)
+    header.in_range()
+        && layout::lengths_match(
+            header.shape,
+            counters.len(),
+            norms.len(),
+            entries.len(),
+            counts.len(),
+        )
+        && layers_ok(header, counters, norms, entries, counts)
 }

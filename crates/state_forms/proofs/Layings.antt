@@ -5,8 +5,8 @@ use mathlib.Core.List.{List, [], ◌∷◌, ◌++◌, append_assoc}
 use Prim.Native.Nat.{ℕ, suc, ◌+◌, ◌-◌, ◌*◌, ◌≤◌, ◌<◌}
 use native.Mathlib.Nat.{suc-mul}
 use lib.IntN.{ℤ, pos}
-use lib.ListN.{length, get_or, set, take, drop, length-append, drop_of_length-le}
-use lib.Seq.{sets, length-sets, sets-eq, set_out, drop-cons, drop-drop, get_or-take, length-take-le, take-append_seam}
+use lib.ListN.{length, get_or, take, drop, length-append, drop_of_length-le}
+use lib.Seq.{sets, length-sets, sets-eq, drop-cons, drop-drop, get_or-take, length-take-le, take-append_seam}
 use native.Mathlib.Omega.{arith}
 use native.Mathlib.Numerals.{add-one}
 use Rattle.text.specs.Words.{bytes_of}
@@ -36,13 +36,6 @@ laid_is {l} {o} {i} {j} e x = subst (λ (z : List ℕ). LaidText l i z o j) e x
 
 pub laid_long : {l o : List ℕ} {i j : ℕ} {a : List ℕ} → LaidText l i a o j → length o ≡ length l
 laid_long {l} {o} {i} {j} {a} x = ap length x.text ∙ length-sets l i a
-
--- a byte, inside the list and past its end
-pub byte_in : (l : List ℕ) (i b : ℕ) → LaidText l i (b ∷ []) (set l i b) (i + 1)
-byte_in l i b = record { text = refl; place = omega arith }
-
-pub byte_out : (l : List ℕ) (i b : ℕ) → length l ≤ i → LaidText l i (b ∷ []) l (i + 1)
-byte_out l i b h = record { text = sym (set_out l i b h); place = omega arith }
 
 -- a text that was put at the start of a list with room for it
 pub put-part : (l a o : List ℕ) (k : ℕ) → length a ≤ length l → o ≡ sets l 0 a → k ≡ 0 + length a → take k o ≡ a

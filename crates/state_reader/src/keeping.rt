@@ -45,14 +45,14 @@ fn keep_layer(
     let shape = h.shape;
     let span = span_of(shape, l);
     let d = dims(shape, l);
-    let ca = span.cells;
-    let ce = span.cells_end;
-    let na = span.norms;
-    let ne = span.norms_end;
-    let ea = span.words;
-    let ee = span.words_end;
-    let ta = span.seats;
-    let te = span.seats_end;
+    let ca = span.cells.start;
+    let ce = span.cells.end;
+    let na = span.norms.start;
+    let ne = span.norms.end;
+    let ea = span.words.start;
+    let ee = span.words.end;
+    let ta = span.seats.start;
+    let te = span.seats.end;
     let x = fill_page(
         s,
         at,

@@ -1,9 +1,7 @@
-// Decimals of 64 bits, unsigned and without leading zeros.
+// Decimals of 64 bits, unsigned and without leading zeros. Reading one answers it and the place past it, or nothing.
 ghost use Rattle.std.specs.Prelude.{◌≡◌, ℕ, ◌+◌, ◌<◌, ◌≤◌, length, drop};
 ghost use Rattle.std.proofs.lemmas.List.Edits.{sets};
 ghost use Rattle.text.specs.Decimals.{num_from, dec_from, field_at, dec};
-
-// Reading answers a number and the place past it, or nothing.
 
 // The digits from a place on, as many as there are.
 fn number(s: &[u8], at: usize) -> Option<(u64, usize)>
@@ -48,10 +46,7 @@ pub fn field(s: &[u8], at: usize, stop: u8) -> Option<(u64, usize)>
     ensures { result ≡ field_at s.now at stop }
 {
     let (v, i) = decimal(s, at)?;
-    if s.len() <= i {
-        return None;
-    }
-    if s[i] != stop {
+    if s.len() <= i || s[i] != stop {
         return None;
     }
     Some((v, i + 1))

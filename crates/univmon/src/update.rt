@@ -103,7 +103,7 @@ pub fn send_first(
     let d = dims(shape, l);
     let item = item_in(record, l);
     let len = lens[l];
-    let tried = layer::add_if_ready(
+    let Some(answer) = layer::add_if_ready(
         &mut counters[s.cells],
         &mut norms[s.norms],
         &mut entries[s.words],
@@ -112,11 +112,9 @@ pub fn send_first(
         len,
         item,
         weight,
-    );
-    if !tried.made {
+    ) else {
         return false;
-    }
-    let answer = tried.answer;
+    };
     zero_places(list, shape.layers);
     note(lens, flags, list, l, len, answer);
     true

@@ -29,7 +29,7 @@ use layout::{cells_at, check_lent, dims, item_in, norms_at, seats_at, span_of, z
 use refusal::Refusal;
 
 // How much of the stream reached a relay that is fed by deltas.
-#[derive(Clone, Copy)]
+#[derive(Clone, Copy, Debug, PartialEq, Eq)]
 pub enum Fidelity {
     EveryInsert,
     PromotedOnly,
@@ -39,20 +39,14 @@ pub enum Fidelity {
 pub fn every_insert(f: Fidelity) -> bool
     ensures { result ≡ every_insert f }
 {
-    match f {
-        Fidelity::EveryInsert => true,
-        Fidelity::PromotedOnly => false,
-    }
+    matches!(f, Fidelity::EveryInsert)
 }
 
 // Whether the layer still holds every key: none was lost, and every insert came here.
 pub fn kept_all(a: Answer, every: bool) -> bool
     ensures { result ≡ kept_by a && every }
 {
-    if heap::kept(a) {
-        return every;
-    }
-    false
+    heap::kept(a) && every
 }
 
 // Whether the delta may be made: 9 if something that it reads is out of range, 11 if its counter would
@@ -130,14 +124,14 @@ fn deliver(
     let item = item_in(record, l);
     let lens = h.lens;
     let len = lens[l];
-    let ca = s.cells;
-    let ce = s.cells_end;
-    let na = s.norms;
-    let ne = s.norms_end;
-    let ea = s.words;
-    let ee = s.words_end;
-    let ta = s.seats;
-    let te = s.seats_end;
+    let ca = s.cells.start;
+    let ce = s.cells.end;
+    let na = s.norms.start;
+    let ne = s.norms.end;
+    let ea = s.words.start;
+    let ee = s.words.end;
+    let ta = s.seats.start;
+    let te = s.seats.end;
     let answer = layer::apply_delta(
         &mut counters[ca..ce],
         &mut norms[na..ne],
@@ -222,7 +216,7 @@ pub fn apply_delta(
     ensures list_after { list.new
         ≡ list_left (refused result) (delta_answers (view (lent_in header counters norms entries counts)) «record».now (arrival layer row col count fidelity)) list.old }
 {
-    let n = count as i64;
+    let n = i64::from(count);
     check_delta(
         header,
         &*counters,

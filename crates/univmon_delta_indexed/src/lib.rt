@@ -69,12 +69,12 @@ fn check_layer(
     let item = item_in(record, l);
     let lens = h.lens;
     let len = lens[l];
-    let ca = s.cells;
-    let ce = s.cells_end;
-    let ea = s.words;
-    let ee = s.words_end;
-    let ta = s.seats;
-    let te = s.seats_end;
+    let ca = s.cells.start;
+    let ce = s.cells.end;
+    let ea = s.words.start;
+    let ee = s.words.end;
+    let ta = s.seats.start;
+    let te = s.seats.end;
     let ia = t.start;
     let ie = t.end;
     let grade = layer_indexed::delta_grade(
@@ -131,14 +131,14 @@ fn deliver(
     let item = item_in(record, l);
     let lens = h.lens;
     let len = lens[l];
-    let ca = s.cells;
-    let ce = s.cells_end;
-    let na = s.norms;
-    let ne = s.norms_end;
-    let ea = s.words;
-    let ee = s.words_end;
-    let ta = s.seats;
-    let te = s.seats_end;
+    let ca = s.cells.start;
+    let ce = s.cells.end;
+    let na = s.norms.start;
+    let ne = s.norms.end;
+    let ea = s.words.start;
+    let ee = s.words.end;
+    let ta = s.seats.start;
+    let te = s.seats.end;
     let ia = t.start;
     let ie = t.end;
     let answer = layer_indexed::apply_delta(
@@ -223,7 +223,7 @@ pub fn apply_delta_indexed(
     ensures list_after { list.new
         ≡ list_left (refused result) (delta_answers_in (view (lent_in header counters norms entries counts)) index.old «record».now (arrival layer row col count fidelity)) list.old }
 {
-    let n = count as i64;
+    let n = i64::from(count);
     check_delta(
         header,
         counters,

@@ -83,7 +83,7 @@ pub fn send_first(
     let d = dims(shape, l);
     let item = item_in(record, l);
     let len = lens[l];
-    let tried = layer_indexed::add_if_fine(
+    let Some(answer) = layer_indexed::add_if_fine(
         &mut counters[s.cells],
         &mut norms[s.norms],
         &mut entries[s.words],
@@ -93,11 +93,9 @@ pub fn send_first(
         len,
         item,
         weight,
-    );
-    if !tried.made {
+    ) else {
         return false;
-    }
-    let answer = tried.answer;
+    };
     zero_places(list, shape.layers);
     note(lens, flags, list, l, len, answer);
     true

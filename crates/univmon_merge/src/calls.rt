@@ -44,10 +44,8 @@ pub fn merge(
         other_counts,
         list.len(),
     )?;
-    let totals = other.totals;
-    let mode = other.mode;
     let layers = header.shape.layers;
-    let begun = header.begin(totals, mode);
+    let begun = header.begin(other.totals, other.mode);
     Ok(merge_layers(
         begun,
         counters,

@@ -90,9 +90,8 @@ fn all_read(
     ensures { result ≡ all_layers (reads_with (view (lent other other_counters.now other_norms.now other_entries.now other_counts.now))) many 0
         (view (lent h counters.now norms.now entries.now counts.now)) }
 {
-    let mut l = 0;
-    while l < many {
-        if !reads_at(
+    (0..many).all(|l| {
+        reads_at(
             h,
             counters,
             norms,
@@ -104,12 +103,8 @@ fn all_read(
             other_entries,
             other_counts,
             l,
-        ) {
-            return false;
-        }
-        l += 1;
-    }
-    true
+        )
+    })
 }
 
 // Whether all sums are in range.
@@ -130,9 +125,8 @@ fn all_fit(
     ensures { result ≡ all_layers (fits_with (view (lent other other_counters.now other_norms.now other_entries.now other_counts.now))) many 0
         (view (lent h counters.now norms.now entries.now counts.now)) }
 {
-    let mut l = 0;
-    while l < many {
-        if !fits_at(
+    (0..many).all(|l| {
+        fits_at(
             h,
             counters,
             norms,
@@ -144,12 +138,8 @@ fn all_fit(
             other_entries,
             other_counts,
             l,
-        ) {
-            return false;
-        }
-        l += 1;
-    }
-    true
+        )
+    })
 }
 
 // ---- whether a merge is refused

@@ -15,10 +15,7 @@ use layout::{cells_at, dims, span_of, words_at};
 pub fn seated(flag: bool, keys: usize, size: usize) -> bool
     ensures { result ≡ flag && leb keys size }
 {
-    if !flag {
-        return false;
-    }
-    keys <= size
+    flag && keys <= size
 }
 
 // Merges one layer; its places in the list tell what was done with each key.
@@ -54,14 +51,14 @@ fn merge_one(
     let len = lens[l];
     let other_lens = other.lens;
     let other_len = other_lens[l];
-    let ca = s.cells;
-    let ce = s.cells_end;
-    let na = s.norms;
-    let ne = s.norms_end;
-    let ea = s.words;
-    let ee = s.words_end;
-    let ta = s.seats;
-    let te = s.seats_end;
+    let ca = s.cells.start;
+    let ce = s.cells.end;
+    let na = s.norms.start;
+    let ne = s.norms.end;
+    let ea = s.words.start;
+    let ee = s.words.end;
+    let ta = s.seats.start;
+    let te = s.seats.end;
     let width = 4 * shape.heap_size;
     let pa = width * l;
     let pe = pa + width;
@@ -108,8 +105,7 @@ pub fn merge_layers(
         (answers_with (view (lent_in h counters norms entries counts)) (view (lent other other_counters.now other_norms.now other_entries.now other_counts.now))) many 0 list.old }
 {
     let mut header = h;
-    let mut l = 0;
-    while l < many {
+    for l in 0..many {
         header = merge_one(
             header,
             counters,
@@ -124,7 +120,6 @@ pub fn merge_layers(
             l,
             list,
         );
-        l += 1;
     }
     header
 }

@@ -52,14 +52,14 @@ fn merge_one(
     let len = lens[l];
     let other_lens = other.lens;
     let other_len = other_lens[l];
-    let ca = s.cells;
-    let ce = s.cells_end;
-    let na = s.norms;
-    let ne = s.norms_end;
-    let ea = s.words;
-    let ee = s.words_end;
-    let ta = s.seats;
-    let te = s.seats_end;
+    let ca = s.cells.start;
+    let ce = s.cells.end;
+    let na = s.norms.start;
+    let ne = s.norms.end;
+    let ea = s.words.start;
+    let ee = s.words.end;
+    let ta = s.seats.start;
+    let te = s.seats.end;
     let t = table_span(shape, l);
     let ia = t.start;
     let ie = t.end;
@@ -115,8 +115,7 @@ pub fn merge_layers(
         (answers_with (view (lent_in h counters norms entries counts)) (view (lent other other_counters.now other_norms.now other_entries.now other_counts.now))) many 0 list.old }
 {
     let mut header = h;
-    let mut l = 0;
-    while l < many {
+    for l in 0..many {
         header = merge_one(
             header,
             counters,
@@ -132,7 +131,6 @@ pub fn merge_layers(
             l,
             list,
         );
-        l += 1;
     }
     header
 }

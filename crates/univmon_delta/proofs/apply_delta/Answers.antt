@@ -26,7 +26,7 @@ use Rattle.std.proofs.lemmas.Result.{err_from_is_err_and}
 use Rattle.refusal.specs.Refusals.{number_of, refused}
 use Rattle.refusal.proofs.Numbers.{number-ne0}
 use Rattle.univmon_delta.proofs.apply_delta.Goals as goal
-use Rattle.univmon_delta.proofs.apply_delta.Goals.{After-deliver, After-check_delta, In_ok-check_delta, Start}
+use Rattle.univmon_delta.proofs.apply_delta.Goals.{After-deliver, After-check_delta, After-from-n, In_ok-check_delta, Start}
 
 -- the state that is lent, and the delta
 abbrev lent_of : Start → Lent
@@ -36,13 +36,14 @@ abbrev delta-of : Start → Arrival
 delta-of c = arrival c.args.layer c.args.row c.args.col c.args.count c.args.fidelity
 
 -- the count of 32 bits is the same in 64
-count-is : (c : Start) → to_z w64 (of_z w64 (to_z w32 (of_z w32 c.args.count))) ≡ c.args.count
-count-is c = ap (λ (z : ℤ). to_z w64 (of_z w64 z)) (to_z-of_z c.ranges.count) ∙ to_z-of_z {w = w64} (sfits_widen {w = w32} {w' = w64} {z = c.args.count} (tt {0}) c.ranges.count)
+count-is : (c : After-from-n) → to_z w64 (of_z w64 c.from-n.result) ≡ c.args.count
+count-is c =
+    ap (λ (z : ℤ). to_z w64 (of_z w64 z)) (c.from-n.ensures ∙ to_z-of_z c.ranges.count) ∙ to_z-of_z {w = w64} (sfits_widen {w = w32} {w' = w64} {z = c.args.count} (tt {0}) c.ranges.count)
 
 -- the number that was found
 number_is : (c : After-check_delta) → let a = c.args in
     refused c.check_delta.result ≡ number (delta_tests (lent_of (goal.at.After-check_delta c).Start) a.«record».now (delta-of (goal.at.After-check_delta c).Start) ++ list_tests (2 * a.header.shape.layers) (length a.list.now))
-number_is c = rw (count-is (goal.at.After-check_delta c).Start) at (c.check_delta.ensures c.args.fidelity)
+number_is c = rw (count-is (goal.at.After-check_delta c).After-from-n) at (c.check_delta.ensures c.args.fidelity)
 
 -- nothing is refused, so the delta may be made and the list is long enough
 none : (c : In_ok-check_delta) → let a = c.args in number (delta_tests (lent_of (goal.at.In_ok-check_delta c).Start) a.«record».now (delta-of (goal.at.In_ok-check_delta c).Start) ++ list_tests (2 * a.header.shape.layers) (length a.list.now)) ≡ 0
@@ -58,7 +59,7 @@ placed c = arrives_of (lent_of (goal.at.In_ok-check_delta c).Start) c.args.«rec
 view-now : (c : After-deliver) → let l = c.deliver.new in
     view (lent c.deliver.result l.counters l.norms l.entries l.counts) ≡ arrived (view (lent_of (goal.at.After-deliver c).Start)) c.args.«record».now (delta-of (goal.at.After-deliver c).Start)
 view-now c =
-    rw (c.begin_delta-begun.ensures, c.every_insert-every.ensures, count-is (goal.at.After-deliver c).Start) at c.deliver.ensures.counts_value ∙ arrived_is (lent_of (goal.at.After-deliver c).Start) c.args.«record».now (delta-of (goal.at.After-deliver c).Start)
+    rw (c.begin_delta-begun.ensures, c.every_insert-every.ensures, count-is (goal.at.After-deliver c).After-from-n) at c.deliver.ensures.counts_value ∙ arrived_is (lent_of (goal.at.After-deliver c).Start) c.args.«record».now (delta-of (goal.at.After-deliver c).Start)
 
 -- the list as it was left
 told : (c : After-deliver) → let a = c.args in
@@ -66,11 +67,8 @@ told : (c : After-deliver) → let a = c.args in
     ≡ tell_at (replicate (2 * a.header.shape.layers) 0 ++ drop (2 * a.header.shape.layers) a.list.now) a.layer (delta_answer (dims_at a.header.shape a.layer) (delta_by (delta-of (goal.at.After-deliver c).Start) a.«record».now) (layer_at (view (lent_of (goal.at.After-deliver c).Start)) a.layer))
 told c =
     let a = c.args in
-    rw (c.begin_delta-begun.ensures, c.every_insert-every.ensures, count-is (goal.at.After-deliver c).Start, c.zero_places.ensures) at c.deliver.ensures.list_after
+    rw (c.begin_delta-begun.ensures, c.every_insert-every.ensures, count-is (goal.at.After-deliver c).After-from-n, c.zero_places.ensures) at c.deliver.ensures.list_after
     ∙ ap (λ (y : Layer). tell_at (replicate (2 * a.header.shape.layers) 0 ++ drop (2 * a.header.shape.layers) a.list.now) a.layer (delta_answer (dims_at a.header.shape a.layer) (delta_by (delta-of (goal.at.After-deliver c).Start) a.«record».now) y)) (same-layer (lent_of (goal.at.After-deliver c).Start) a.«record».now (delta-of (goal.at.After-deliver c).Start) (settled a.header.mode) a.layer)
-
-pub overflow_cast-n : goal.overflow_cast-n
-overflow_cast-n c = rw (to_z-of_z c.ranges.count) (sfits_widen {w = w32} {w' = w64} {z = c.args.count} (tt {0}) c.ranges.count)
 
 pub returns-in_err-check_delta : goal.returns-in_err-check_delta
 returns-in_err-check_delta c =
@@ -87,7 +85,7 @@ zero_places-requires c = ((placed (goal.at.zero_places-requires c).In_ok-check_d
 
 pub deliver-requires : goal.deliver-requires
 deliver-requires c = record {
-  arrives = rw (c.begin_delta-begun.ensures, count-is (goal.at.deliver-requires c).Start) (placed (goal.at.deliver-requires c).In_ok-check_delta);
+  arrives = rw (c.begin_delta-begun.ensures, count-is (goal.at.deliver-requires c).After-from-n) (placed (goal.at.deliver-requires c).In_ok-check_delta);
   l_in_bounds = omega (arith, c.zero_places.auto.list, (clear (goal.at.deliver-requires c).In_ok-check_delta).1, (placed (goal.at.deliver-requires c).In_ok-check_delta).placed.inside);
 }
 

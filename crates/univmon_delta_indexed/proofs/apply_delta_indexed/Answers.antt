@@ -26,7 +26,7 @@ use Rattle.std.proofs.lemmas.Result.{err_from_is_err_and}
 use Rattle.refusal.specs.Refusals.{number_of, refused}
 use Rattle.refusal.proofs.Numbers.{number-ne0}
 use Rattle.univmon_delta_indexed.proofs.apply_delta_indexed.Goals as goal
-use Rattle.univmon_delta_indexed.proofs.apply_delta_indexed.Goals.{After-begin_delta-begun, After-check_delta, After-every_insert-every, In_ok-check_delta, Start}
+use Rattle.univmon_delta_indexed.proofs.apply_delta_indexed.Goals.{After-begin_delta-begun, After-check_delta, After-every_insert-every, After-from-n, In_ok-check_delta, Start}
 
 -- the state that is lent, the delta, and all tests
 abbrev lent_of : Start → Lent
@@ -39,12 +39,13 @@ abbrev tests-of : Start → List (Bool × ℕ)
 tests-of c = indexed_delta_tests (lent_of c) c.args.index.now c.args.«record».now (delta-of c)
 
 -- the count of 32 bits is the same in 64
-count-is : (c : Start) → to_z w64 (of_z w64 (to_z w32 (of_z w32 c.args.count))) ≡ c.args.count
-count-is c = ap (λ (z : ℤ). to_z w64 (of_z w64 z)) (to_z-of_z c.ranges.count) ∙ to_z-of_z {w = w64} (sfits_widen (tt {0}) c.ranges.count)
+count-is : (c : After-from-n) → to_z w64 (of_z w64 c.from-n.result) ≡ c.args.count
+count-is c =
+    ap (λ (z : ℤ). to_z w64 (of_z w64 z)) (c.from-n.ensures ∙ to_z-of_z c.ranges.count) ∙ to_z-of_z {w = w64} (sfits_widen {w = w32} {w' = w64} {z = c.args.count} (tt {0}) c.ranges.count)
 
 -- the number that was found
 number_is : (c : After-check_delta) → refused c.check_delta.result ≡ number (tests-of (goal.at.After-check_delta c).Start ++ list_tests (2 * c.args.header.shape.layers) (length c.args.list.now))
-number_is c = rw (count-is (goal.at.After-check_delta c).Start) at (c.check_delta.ensures.value c.args.fidelity)
+number_is c = rw (count-is (goal.at.After-check_delta c).After-from-n) at (c.check_delta.ensures.value c.args.fidelity)
 
 -- nothing is refused, so the delta may be made and the list is long enough
 none : (c : In_ok-check_delta) → number (tests-of (goal.at.In_ok-check_delta c).Start ++ list_tests (2 * c.args.header.shape.layers) (length c.args.list.now)) ≡ 0
@@ -64,11 +65,8 @@ start_is : (c : After-begin_delta-begun) → let a = c.args in let l = c.check_d
 start_is c = let k = c.check_delta.ensures.counters_unchanged in same-lent _ _ _ _ _ _ _ _ _ c.begin_delta-begun.ensures k.0 k.1.0 k.1.1.0
 
 delta_is : (c : After-every_insert-every) → let a = c.args in
-    delta a.row a.col (to_z w64 (of_z w64 (to_z w32 (of_z w32 a.count)))) (item_at a.«record».now a.layer) c.every_insert-every.result ≡ delta_by (delta-of (goal.at.After-every_insert-every c).Start) a.«record».now
-delta_is c = let a = c.args in ap₂ (λ (n : ℤ) (b : Bool). delta a.row a.col n (item_at a.«record».now a.layer) b) (count-is (goal.at.After-every_insert-every c).Start) c.every_insert-every.ensures
-
-pub overflow_cast-n : goal.overflow_cast-n
-overflow_cast-n c = rw (to_z-of_z c.ranges.count) (sfits_widen tt c.ranges.count)
+    delta a.row a.col (to_z w64 (of_z w64 c.from-n.result)) (item_at a.«record».now a.layer) c.every_insert-every.result ≡ delta_by (delta-of (goal.at.After-every_insert-every c).Start) a.«record».now
+delta_is c = let a = c.args in ap₂ (λ (n : ℤ) (b : Bool). delta a.row a.col n (item_at a.«record».now a.layer) b) (count-is (goal.at.After-every_insert-every c).After-from-n) c.every_insert-every.ensures
 
 pub returns-in_err-check_delta : goal.returns-in_err-check_delta
 returns-in_err-check_delta c =
@@ -87,7 +85,7 @@ zero_places-requires c = ((arrives (goal.at.zero_places-requires c).In_ok-check_
 pub deliver-requires : goal.deliver-requires
 deliver-requires c =
     let k = c.check_delta.ensures.counters_unchanged in record {
-      arrives_in = rw (c.begin_delta-begun.ensures, count-is (goal.at.deliver-requires c).Start, k.0, k.1.0, k.1.1.0, k.1.1.1) (arrives (goal.at.deliver-requires c).In_ok-check_delta);
+      arrives_in = rw (c.begin_delta-begun.ensures, count-is (goal.at.deliver-requires c).After-from-n, k.0, k.1.0, k.1.1.0, k.1.1.1) (arrives (goal.at.deliver-requires c).In_ok-check_delta);
       l_in_bounds = omega (arith, c.zero_places.auto.list, (clear (goal.at.deliver-requires c).In_ok-check_delta).1, (arrives (goal.at.deliver-requires c).In_ok-check_delta).placed.placed.inside);
     }
 

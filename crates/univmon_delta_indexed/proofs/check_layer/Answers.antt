@@ -133,10 +133,10 @@ returns c =
           number_graded (dims_at a.h.shape a.l) (delta a.row a.col a.count (item_at a.«record».now a.l) every) (table_at a.h.shape a.index.now a.l) (layer_at (view (lent_of (goal.at.returns c).Start)) a.l)
           c.delta_grade-grade.result _ (graded (goal.at.returns c).After-delta_grade-grade every) c.check_grade.ensures;
       counters_unchanged = (
-        put_back s.cells (s.cells_end - s.cells) a.counters.now _ k.0,
+        put_back s.cells.start (s.cells.end - s.cells.start) a.counters.now _ k.0,
         (
-          put_back s.words (s.words_end - s.words) a.entries.now _ k.1.0,
-          (put_back s.seats (s.seats_end - s.seats) a.counts.now _ k.1.1.0, put_back t.start (t.end - t.start) a.index.now _ k.1.1.1),
+          put_back s.words.start (s.words.end - s.words.start) a.entries.now _ k.1.0,
+          (put_back s.seats.start (s.seats.end - s.seats.start) a.counts.now _ k.1.1.0, put_back t.start (t.end - t.start) a.index.now _ k.1.1.1),
         ),
       );
     }

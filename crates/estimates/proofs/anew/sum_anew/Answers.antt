@@ -1,11 +1,8 @@
 -- `estimates::anew::sum_anew` meets its contract.
 use native.Mathlib.Omega.{arith}
-use Rattle.sums.proofs.Views.{sum-start, sum_on, sum_end}
+use Rattle.sums.proofs.Views.{sum_on, sum_end}
 use Rattle.estimates.specs.inner.Anew.{entry_at}
 use Rattle.estimates.proofs.anew.sum_anew.Goals as goal
-
-pub loop-i-init : goal.loop-i-init
-loop-i-init c = let a = c.args in sum-start a.rule (entry_at a.dims a.cells.now a.entries.now) a.n
 
 pub loop-i-preserved : goal.loop-i-preserved
 loop-i-preserved c =

@@ -11,8 +11,5 @@ use Rattle.estimates.proofs.terminal.terminal_sum.Given as goal
 
 abbrev pub invariant-loop-l : goal.invariant-loop-l
 invariant-loop-l l =
-    (l.l ≤ l.layers) × ((l.v.n ≤ max_heap) × ((length l.keys ≡ 2 * max_heap) × ((length l.bottoms ≡ 2 * max_heap) × ((length l.counts ≡ 2 * max_heap)
-    × (up_of (space l.keys l.bottoms l.counts) l.v ≡ climbed l.ask (terminal_input_in l.header l.counters l.norms l.entries) (l.layers - l.l) l.l)))))
-
-abbrev pub decreases-loop-l : goal.decreases-loop-l
-decreases-loop-l l = l.l
+    (l.v.n ≤ max_heap) × ((length l.keys ≡ 2 * max_heap) × ((length l.bottoms ≡ 2 * max_heap) × ((length l.counts ≡ 2 * max_heap)
+    × (up_of (space l.keys l.bottoms l.counts) l.v ≡ climbed l.ask (terminal_input_in l.header l.counters l.norms l.entries) (l.layers - l.l) l.l))))

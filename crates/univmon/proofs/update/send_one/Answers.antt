@@ -1,7 +1,6 @@
 -- `univmon::update::send_one` meets its contract.
 use mathlib.Core.Bool.{false}
 use lib.ListN.{get_or}
-use native.Mathlib.Omega.{arith}
 use borrow.Author.Rules.{rules}
 use Rattle.header.specs.Header.{head_of}
 use Rattle.layout.specs.Slices.{lent, Lent}

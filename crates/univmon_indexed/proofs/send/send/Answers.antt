@@ -1,9 +1,8 @@
 -- `univmon_indexed::send::send` meets its contract.
-use mathlib.Core.Path.{sym, ◌∙◌}
+use mathlib.Core.Path.{◌∙◌}
 use native.Mathlib.Omega.{arith}
 use Rattle.header.specs.Header.{head_of, Headed}
 use Rattle.layout.specs.Slices.{Lent, lent}
-use Rattle.layout.proofs.InTurn.{in_turn-long}
 use Rattle.univmon_indexed.proofs.Sending.{sending_start, sending_ready, sending_room, sending_on, sending_end}
 use Rattle.univmon_indexed.proofs.send.send.Goals as goal
 use Rattle.univmon_indexed.proofs.send.send.Goals.{After-counts-1, At-loop-l, Start}

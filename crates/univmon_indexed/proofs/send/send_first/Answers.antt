@@ -1,24 +1,21 @@
 -- `univmon_indexed::send::send_first` meets its contract.
 use Prim.Native.Nat.{◌-◌, ◌<◌}
-use mathlib.Core.Path.{◌≡◌, refl, sym, ap, ◌∙◌}
+use mathlib.Core.Path.{◌≡◌, refl, ap, ◌∙◌}
 use mathlib.Core.Bool.{true, false}
 use lib.ListN.{length, get_or}
 use native.Mathlib.Omega.{arith}
 use borrow.Author.Rules.{rules}
-use Rattle.words.proofs.Bools.{never}
 use Rattle.words.proofs.Parts.{put_back}
 use Rattle.header.specs.Header.{head_of}
-use Rattle.layout.specs.Slices.{Lent, lent, view}
-use Rattle.layout.specs.State.{layer_at}
+use Rattle.layout.specs.Slices.{Lent, lent}
 use Rattle.layout.proofs.Handed.{Spanned, cell_piece, norm_piece, word_piece, seat_piece, handed_back, Back}
 use Rattle.layout_index.specs.Tables.{tables_in}
 use Rattle.layout_index.proofs.Handed.{Tabled, table_piece, table_is, table-put}
 use Rattle.univmon.specs.inner.Needs.{JudgeReady}
 use Rattle.univmon.proofs.Sends.{noted}
 use Rattle.univmon_indexed.proofs.Sends.{seated_handed, sent-one, made_handed}
-use Rattle.univmon_indexed.specs.inner.Needs.{fine_at}
 use Rattle.univmon_indexed.proofs.send.send_first.Goals as goal
-use Rattle.univmon_indexed.proofs.send.send_first.Goals.{After-add_if_fine-tried, After-span_of-s, After-table_span-t, Else-not-tried, Start, Then-not-tried}
+use Rattle.univmon_indexed.proofs.send.send_first.Goals.{After-add_if_fine, After-span_of-s, After-table_span-t, Start}
 
 -- the state that is lent, and where its layer and its table stand
 abbrev lent_of : Start → Lent
@@ -39,22 +36,9 @@ spanned c = record { standing = (ready (goal.at.After-span_of-s c).Start).standi
 tabled : (c : After-table_span-t) → Tabled (lent_of (goal.at.After-table_span-t c).Start) c.args.index.now c.args.l c.table_span-t.result
 tabled c = record { standing = record { standing = (ready (goal.at.After-table_span-t c).Start).standing; tables = tables-long (goal.at.After-table_span-t c).Start }; inside = inside (goal.at.After-table_span-t c).Start; is = c.table_span-t.ensures }
 
--- whether the update was made is whether it may be made
-made-is : (c : After-add_if_fine-tried) → let a = c.args in c.add_if_fine-tried.result.made ≡ fine_at a.h.shape a.«record».now a.weight a.index.now a.l (layer_at (view (lent_of (goal.at.After-add_if_fine-tried c).Start)) a.l)
-made-is c =
-    let a = c.args in
-    made_handed a.«record».now a.weight (spanned (goal.at.After-add_if_fine-tried c).After-span_of-s) a.index.now (tables-long (goal.at.After-add_if_fine-tried c).Start) _
-    (rw (c.dims-d.ensures, c.item_in-item.ensures, table_is (tabled (goal.at.After-add_if_fine-tried c).After-table_span-t)) at (c.add_if_fine-tried.ensures.made_value (get_or a.flags.now a.l false)))
-
-not_made : (c : Then-not-tried) → c.add_if_fine-tried.result.made ≡ false
-not_made c = c.if-not-tried.true
-
-is_made : (c : Else-not-tried) → c.add_if_fine-tried.result.made ≡ true
-is_made c = c.if-not-tried.false
-
 -- the parts that came back
-back : (c : After-add_if_fine-tried) → let l = c.add_if_fine-tried.new in Back (spanned (goal.at.After-add_if_fine-tried c).After-span_of-s) l.counters l.norms l.entries l.counts
-back c = let l = c.add_if_fine-tried.auto in record { cells = l.counters; norms = l.norms; words = l.entries; seats = l.counts }
+back : (c : After-add_if_fine) → let l = c.add_if_fine.new in Back (spanned (goal.at.After-add_if_fine c).After-span_of-s) l.counters l.norms l.entries l.counts
+back c = let l = c.add_if_fine.auto in record { cells = l.counters; norms = l.norms; words = l.entries; seats = l.counts }
 
 pub offset_bounds-counters-s : goal.offset_bounds-counters-s
 offset_bounds-counters-s c = let b = cell_piece (spanned (goal.at.offset_bounds-counters-s c).After-span_of-s) in search rules
@@ -116,39 +100,44 @@ slice_bounds-add_if_fine-start-5 c = let b = table_piece (tabled (goal.at.slice_
 pub slice_bounds-add_if_fine-end-5 : goal.slice_bounds-add_if_fine-end-5
 slice_bounds-add_if_fine-end-5 c = let b = table_piece (tabled (goal.at.slice_bounds-add_if_fine-end-5 c).After-table_span-t) in search rules
 
-pub add_if_fine-tried-requires : goal.add_if_fine-tried-requires
-add_if_fine-tried-requires c =
+pub add_if_fine-requires : goal.add_if_fine-requires
+add_if_fine-requires c =
     let a = c.args in
-    rw (c.dims-d.ensures, table_is (tabled (goal.at.add_if_fine-tried-requires c).After-table_span-t)) (record {
-      seated = seated_handed a.«record».now a.weight (spanned (goal.at.add_if_fine-tried-requires c).After-span_of-s) a.index.now (tables-long (goal.at.add_if_fine-tried-requires c).Start);
-      weight_le_top = (ready (goal.at.add_if_fine-tried-requires c).Start).light;
+    rw (c.dims-d.ensures, table_is (tabled (goal.at.add_if_fine-requires c).After-table_span-t)) (record {
+      seated = seated_handed a.«record».now a.weight (spanned (goal.at.add_if_fine-requires c).After-span_of-s) a.index.now (tables-long (goal.at.add_if_fine-requires c).Start);
+      weight_le_top = (ready (goal.at.add_if_fine-requires c).Start).light;
     })
 
-pub returns-then-not-tried : goal.returns-then-not-tried
-returns-then-not-tried c =
-    let k = c.add_if_fine-tried.ensures.untouched (not_made (goal.at.returns-then-not-tried c).Then-not-tried) in
+pub returns-in_default-clause-value : goal.returns-in_default-clause-value
+returns-in_default-clause-value c =
+    let a = c.args in
+    made_handed a.«record».now a.weight (spanned (goal.at.returns-in_default-clause-value c).After-span_of-s) a.index.now (tables-long (goal.at.returns-in_default-clause-value c).Start) false
+    (rw (c.dims-d.ensures, c.item_in-item.ensures, table_is (tabled (goal.at.returns-in_default-clause-value c).After-table_span-t)) at (c.in_default.ensures.made_value (get_or a.flags.now a.l false)))
+
+pub returns-in_default-clause-kept_in : goal.returns-in_default-clause-kept_in
+returns-in_default-clause-kept_in c = λ q.
+    let k = c.in_default.ensures.untouched in
     let t = c.table_span-t.result in record {
-      value = sym (not_made (goal.at.returns-then-not-tried c).Then-not-tried) ∙ made-is (goal.at.returns-then-not-tried c).After-add_if_fine-tried;
-      sent_one_in = λ q. absurd (never q);
-      kept_in = λ q. record {
-        lends = handed_back (lent_of (goal.at.returns-then-not-tried c).Start) c.span_of-s.result _ _ _ _ k.0.0 k.0.1.0 k.0.1.1.0 k.0.1.1.1;
-        index = put_back t.start (t.end - t.start) c.args.index.now _ k.1;
-        told = refl;
-      };
+      lends = handed_back (lent_of (goal.at.returns-in_default-clause-kept_in c).Start) c.span_of-s.result _ _ _ _ k.0.0 k.0.1.0 k.0.1.1.0 k.0.1.1.1;
+      index = put_back t.start (t.end - t.start) c.args.index.now _ k.1;
+      told = refl;
     }
 
-pub returns : goal.returns
-returns c =
+pub returns-clause-value : goal.returns-clause-value
+returns-clause-value c =
     let a = c.args in
-    let f = get_or a.flags.now a.l false in record {
-      value = sym (is_made (goal.at.returns c).Else-not-tried) ∙ made-is (goal.at.returns c).After-add_if_fine-tried;
-      sent_one_in = λ t. sent-one a.«record».now a.weight (spanned (goal.at.returns c).After-span_of-s) a.index.now (tables-long (goal.at.returns c).Start) _ _ _ _ c.add_if_fine-tried.new.index c.add_if_fine-tried.result.answer _ _ _ _ (back (goal.at.returns c).After-add_if_fine-tried)
-          (rw (c.dims-d.ensures, c.item_in-item.ensures, table_is (tabled (goal.at.returns c).After-table_span-t)) at (c.add_if_fine-tried.ensures.answer_value (is_made (goal.at.returns c).Else-not-tried) f))
-          (rw (c.dims-d.ensures, c.item_in-item.ensures, table_is (tabled (goal.at.returns c).After-table_span-t)) at (c.add_if_fine-tried.ensures.answer_value_2 (is_made (goal.at.returns c).Else-not-tried) f))
-          (rw (c.dims-d.ensures, c.item_in-item.ensures, table_is (tabled (goal.at.returns c).After-table_span-t)) at (c.add_if_fine-tried.ensures.index_after (is_made (goal.at.returns c).Else-not-tried) f))
-          (c.add_if_fine-tried.auto.index ∙ ap length (table_is (tabled (goal.at.returns c).After-table_span-t)))
-          (noted a.h a.lens.now a.flags.now a.l _ _ _ _ c.note.ensures.lens_after c.note.ensures.flags_after)
-          (table-put (tabled (goal.at.returns c).After-table_span-t) c.add_if_fine-tried.new.index)
-          (rw c.zero_places.ensures at c.note.ensures.list_after);
-      kept_in = λ t. absurd (never (sym t));
-    }
+    made_handed a.«record».now a.weight (spanned (goal.at.returns-clause-value c).After-span_of-s) a.index.now (tables-long (goal.at.returns-clause-value c).Start) true
+    (rw (c.dims-d.ensures, c.item_in-item.ensures, table_is (tabled (goal.at.returns-clause-value c).After-table_span-t)) at (c.in-Some.ensures.made_value (get_or a.flags.now a.l false)))
+
+pub returns-clause-sent_one_in : goal.returns-clause-sent_one_in
+returns-clause-sent_one_in c = λ t.
+    let a = c.args in
+    let f = get_or a.flags.now a.l false in
+    sent-one a.«record».now a.weight (spanned (goal.at.returns-clause-sent_one_in c).After-span_of-s) a.index.now (tables-long (goal.at.returns-clause-sent_one_in c).Start) _ _ _ _ c.add_if_fine.new.index c.in-Some.answer _ _ _ _ (back (goal.at.returns-clause-sent_one_in c).After-add_if_fine)
+    (rw (c.dims-d.ensures, c.item_in-item.ensures, table_is (tabled (goal.at.returns-clause-sent_one_in c).After-table_span-t)) at (c.in-Some.ensures.answer_value f))
+    (rw (c.dims-d.ensures, c.item_in-item.ensures, table_is (tabled (goal.at.returns-clause-sent_one_in c).After-table_span-t)) at (c.in-Some.ensures.answer_value_2 f))
+    (rw (c.dims-d.ensures, c.item_in-item.ensures, table_is (tabled (goal.at.returns-clause-sent_one_in c).After-table_span-t)) at (c.in-Some.ensures.index_after f))
+    (c.add_if_fine.auto.index ∙ ap length (table_is (tabled (goal.at.returns-clause-sent_one_in c).After-table_span-t)))
+    (noted a.h a.lens.now a.flags.now a.l _ _ _ _ c.note.ensures.lens_after c.note.ensures.flags_after)
+    (table-put (tabled (goal.at.returns-clause-sent_one_in c).After-table_span-t) c.add_if_fine.new.index)
+    (rw c.zero_places.ensures at c.note.ensures.list_after)
