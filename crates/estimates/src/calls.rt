@@ -10,14 +10,14 @@ ghost use Rattle.estimates.specs.Norms.{is_terminal};
 ghost use Rattle.estimates.specs.Calls.{norms_lent, l1_call, l2_call, sum_call, cardinality_call, panel_call, no_panel};
 ghost use Rattle.estimates.specs.inner.Slices.{sum_answer};
 
+use crate::PanelAnswer;
 use crate::norms::{l2_of, l2_reads};
 use crate::reads::sum_reads;
 use crate::standard::standard_sum;
 use crate::terminal::terminal_sum;
-use crate::PanelAnswer;
 use header::{Header, Mode, Shape};
-use sums::G;
 use refusal::Refusal;
+use sums::G;
 
 // ---- L1 and L2
 

@@ -11,8 +11,8 @@ use crate::calls::{add, show, start};
 use header::{Header, Shape};
 use panel_lines::answer::{SHOW_BARE, put_ok, put_refused};
 use panel_lines::line::{LINE_WORDS, Request, read_line};
-use text::word::put_word;
 use refusal::Refusal;
+use text::word::put_word;
 
 // The decimal digits of 2^52, the greatest number of updates.
 const UPDATES_DIGITS: usize = 16;

@@ -50,9 +50,12 @@ pub fn univmon_new(
     ensures { c_left result.refusal (c_lent_out result.header counters norms entries counts)
         ≡ crossed one_tier_face (new_call (one_tier heap_size rows cols layers) counters.old norms.old entries.old counts.old) }
 {
-    c_answered(Header::zero(), univmon::new(
-        heap_size, rows, cols, layers, counters, norms, entries, counts,
-    ))
+    c_answered(
+        Header::zero(),
+        univmon::new(
+            heap_size, rows, cols, layers, counters, norms, entries, counts,
+        ),
+    )
 }
 
 // Clears a state: header and slices are then as `new` leaves them.
@@ -95,9 +98,10 @@ pub fn univmon_update_weighted(
     let Some(h) = known_header(header) else {
         return CAnswered { refusal: 9, header };
     };
-    c_answered(h, univmon::update_weighted(
-        h, counters, norms, entries, counts, record, weight, list,
-    ))
+    c_answered(
+        h,
+        univmon::update_weighted(h, counters, norms, entries, counts, record, weight, list),
+    )
 }
 
 // The key goes to its bottom layer only.
@@ -120,9 +124,12 @@ pub fn univmon_update_weighted_terminal(
     let Some(h) = known_header(header) else {
         return CAnswered { refusal: 9, header };
     };
-    c_answered(h, univmon::update_weighted_terminal(
-        h, counters, norms, entries, counts, record, weight, list,
-    ))
+    c_answered(
+        h,
+        univmon::update_weighted_terminal(
+            h, counters, norms, entries, counts, record, weight, list,
+        ),
+    )
 }
 
 // A change of one counter that another relay saw: fidelity 0 is every insert, 1 promoted only;
@@ -154,9 +161,12 @@ pub fn univmon_apply_delta(
     let Some(f) = known_fidelity(fidelity) else {
         return CAnswered { refusal: 9, header };
     };
-    c_answered(h, univmon_delta::apply_delta(
-        h, counters, norms, entries, counts, record, layer, row, col, count, f, list,
-    ))
+    c_answered(
+        h,
+        univmon_delta::apply_delta(
+            h, counters, norms, entries, counts, record, layer, row, col, count, f, list,
+        ),
+    )
 }
 
 // ---- two states
@@ -189,19 +199,22 @@ pub fn univmon_merge(
     let Some(o) = known_header(other) else {
         return CAnswered { refusal: 9, header };
     };
-    c_answered(h, univmon_merge::merge(
+    c_answered(
         h,
-        counters,
-        norms,
-        entries,
-        counts,
-        o,
-        other_counters,
-        other_norms,
-        other_entries,
-        other_counts,
-        list,
-    ))
+        univmon_merge::merge(
+            h,
+            counters,
+            norms,
+            entries,
+            counts,
+            o,
+            other_counters,
+            other_norms,
+            other_entries,
+            other_counts,
+            list,
+        ),
+    )
 }
 
 // ---- the header alone

@@ -42,9 +42,12 @@ pub fn univmon_update_weighted_lent(
             mode,
         };
     };
-    c_step(scalars, univmon::update_weighted_lent(
-        scalars, lens, flags, counters, norms, entries, counts, record, weight, list,
-    ))
+    c_step(
+        scalars,
+        univmon::update_weighted_lent(
+            scalars, lens, flags, counters, norms, entries, counts, record, weight, list,
+        ),
+    )
 }
 
 // The key goes to its bottom layer only.
@@ -77,7 +80,10 @@ pub fn univmon_update_weighted_terminal_lent(
             mode,
         };
     };
-    c_step(scalars, univmon::update_weighted_terminal_lent(
-        scalars, lens, flags, counters, norms, entries, counts, record, weight, list,
-    ))
+    c_step(
+        scalars,
+        univmon::update_weighted_terminal_lent(
+            scalars, lens, flags, counters, norms, entries, counts, record, weight, list,
+        ),
+    )
 }

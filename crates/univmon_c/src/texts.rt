@@ -43,5 +43,8 @@ pub fn univmon_read_state(
     ensures { c_left result.refusal (c_lent_out result.header counters norms entries counts)
         ≡ crossed one_tier_face (read_call text.now (lent_in zero_header counters norms entries counts)) }
 {
-    c_answered(Header::zero(), state_reader::read_state(text, counters, norms, entries, counts))
+    c_answered(
+        Header::zero(),
+        state_reader::read_state(text, counters, norms, entries, counts),
+    )
 }

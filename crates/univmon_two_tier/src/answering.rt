@@ -6,7 +6,7 @@ ghost use Rattle.univmon_c.specs.Calls.{lent_of, answer_by, c_lent};
 ghost use Rattle.univmon_two_tier.specs.Crossing.{header_of, two_tier_face};
 
 use crate::CTwoTier;
-use crate::crossing::{known_header};
+use crate::crossing::known_header;
 use univmon_c::CAnswer;
 use univmon_c::crossing::{known_g, no_answer};
 

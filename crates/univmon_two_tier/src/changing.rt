@@ -58,19 +58,22 @@ pub extern "C" fn univmon_two_tier_new(
     ensures { c_left result.refusal (c_lent_out result.header counters norms entries counts)
         ≡ crossed two_tier_face (new_call (two_tier heap_size elephant_layers elephant_rows elephant_cols mouse_rows mouse_cols layers) counters.old norms.old entries.old counts.old) }
 {
-    c_answered(Header::zero(), univmon::new_two_tier(
-        heap_size,
-        elephant_layers,
-        elephant_rows,
-        elephant_cols,
-        mouse_rows,
-        mouse_cols,
-        layers,
-        counters,
-        norms,
-        entries,
-        counts,
-    ))
+    c_answered(
+        Header::zero(),
+        univmon::new_two_tier(
+            heap_size,
+            elephant_layers,
+            elephant_rows,
+            elephant_cols,
+            mouse_rows,
+            mouse_cols,
+            layers,
+            counters,
+            norms,
+            entries,
+            counts,
+        ),
+    )
 }
 
 // Clears a state: header and slices are then as `new` leaves them.
@@ -113,9 +116,10 @@ pub extern "C" fn univmon_two_tier_update_weighted(
     let Some(h) = known_header(header) else {
         return CTwoTierAnswered { refusal: 9, header };
     };
-    c_answered(h, univmon::update_weighted(
-        h, counters, norms, entries, counts, record, weight, list,
-    ))
+    c_answered(
+        h,
+        univmon::update_weighted(h, counters, norms, entries, counts, record, weight, list),
+    )
 }
 
 // The key goes to its bottom layer only.
@@ -139,9 +143,12 @@ pub extern "C" fn univmon_two_tier_update_weighted_terminal(
     let Some(h) = known_header(header) else {
         return CTwoTierAnswered { refusal: 9, header };
     };
-    c_answered(h, univmon::update_weighted_terminal(
-        h, counters, norms, entries, counts, record, weight, list,
-    ))
+    c_answered(
+        h,
+        univmon::update_weighted_terminal(
+            h, counters, norms, entries, counts, record, weight, list,
+        ),
+    )
 }
 
 // Merges the other state into this one.
@@ -173,17 +180,20 @@ pub extern "C" fn univmon_two_tier_merge(
     let Some(o) = known_header(other) else {
         return CTwoTierAnswered { refusal: 9, header };
     };
-    c_answered(h, univmon_merge::merge(
+    c_answered(
         h,
-        counters,
-        norms,
-        entries,
-        counts,
-        o,
-        other_counters,
-        other_norms,
-        other_entries,
-        other_counts,
-        list,
-    ))
+        univmon_merge::merge(
+            h,
+            counters,
+            norms,
+            entries,
+            counts,
+            o,
+            other_counters,
+            other_norms,
+            other_entries,
+            other_counts,
+            list,
+        ),
+    )
 }

@@ -95,12 +95,7 @@ pub fn scalars_of(s: CTwoTierShape, weight: u64, updates: u64, mode: u64) -> Sca
     }
 }
 
-pub fn known_scalars(
-    s: CTwoTierShape,
-    weight: u64,
-    updates: u64,
-    mode: u64,
-) -> Option<Scalars>
+pub fn known_scalars(s: CTwoTierShape, weight: u64, updates: u64, mode: u64) -> Option<Scalars>
     ensures { MatchOption result (2 < mode) (λ r. (mode ≤ 2) × (r ≡ c_scalars s weight updates mode)) }
 {
     if LAST_MODE < mode {

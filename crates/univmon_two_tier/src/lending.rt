@@ -12,7 +12,7 @@ ghost use Rattle.univmon_two_tier.specs.Crossing.{two_tier_face};
 ghost use Rattle.univmon_two_tier.specs.Lending.{c_head_in, c_head_out};
 
 use crate::CTwoTierShape;
-use crate::crossing::{known_scalars};
+use crate::crossing::known_scalars;
 use univmon_c::CStep;
 use univmon_c::crossing::c_step;
 
@@ -47,9 +47,12 @@ pub extern "C" fn univmon_two_tier_update_weighted_lent(
             mode,
         };
     };
-    c_step(scalars, univmon::update_weighted_lent(
-        scalars, lens, flags, counters, norms, entries, counts, record, weight, list,
-    ))
+    c_step(
+        scalars,
+        univmon::update_weighted_lent(
+            scalars, lens, flags, counters, norms, entries, counts, record, weight, list,
+        ),
+    )
 }
 
 // The key goes to its bottom layer only.
@@ -83,7 +86,10 @@ pub extern "C" fn univmon_two_tier_update_weighted_terminal_lent(
             mode,
         };
     };
-    c_step(scalars, univmon::update_weighted_terminal_lent(
-        scalars, lens, flags, counters, norms, entries, counts, record, weight, list,
-    ))
+    c_step(
+        scalars,
+        univmon::update_weighted_terminal_lent(
+            scalars, lens, flags, counters, norms, entries, counts, record, weight, list,
+        ),
+    )
 }
