@@ -22,20 +22,20 @@ read_ok c = sym (c.sum_reads.ensures ∙ reads_is (here c.before.before.before.b
 pub returns-then-not-sum_reads : goal.returns-then-not-sum_reads
 returns-then-not-sum_reads c = let a = c.args in sum-unread (here (goal.at.returns-then-not-sum_reads c).Start) a.g a.every (read_is (goal.at.returns-then-not-sum_reads c).After-sum_reads ∙ c.if-not-sum_reads.true)
 
-pub terminal_sum-value-requires : goal.terminal_sum-value-requires
-terminal_sum-value-requires c = (counted_in (here (goal.at.terminal_sum-value-requires c).Start) c.requires (read_ok (goal.at.terminal_sum-value-requires c).Else-not-sum_reads), normed_in (here (goal.at.terminal_sum-value-requires c).Start) c.requires)
+pub terminal_sum-requires : goal.terminal_sum-requires
+terminal_sum-requires c = (counted_in (here (goal.at.terminal_sum-requires c).Start) c.requires (read_ok (goal.at.terminal_sum-requires c).Else-not-sum_reads), normed_in (here (goal.at.terminal_sum-requires c).Start) c.requires)
 
 pub returns-then-terminal : goal.returns-then-terminal
 returns-then-terminal c =
     let a = c.args in
-    sum-read (here (goal.at.returns-then-terminal c).Start) a.g a.every c.terminal_sum-value.result (read_ok (goal.at.returns-then-terminal c).Else-not-sum_reads)
-    (c.terminal_sum-value.ensures ∙ sum_terminal (here (goal.at.returns-then-terminal c).Start) a.g a.every c.requires (sym c.is_terminal-terminal.ensures ∙ c.if-terminal.true))
+    sum-read (here (goal.at.returns-then-terminal c).Start) a.g a.every c.terminal_sum.result (read_ok (goal.at.returns-then-terminal c).Else-not-sum_reads)
+    (c.terminal_sum.ensures ∙ sum_terminal (here (goal.at.returns-then-terminal c).Start) a.g a.every c.requires (sym c.is_terminal-terminal.ensures ∙ c.if-terminal.true))
 
-pub standard_sum-value-requires : goal.standard_sum-value-requires
-standard_sum-value-requires c = counted_in (here (goal.at.standard_sum-value-requires c).Start) c.requires (read_ok (goal.at.standard_sum-value-requires c).Else-not-sum_reads)
+pub standard_sum-requires : goal.standard_sum-requires
+standard_sum-requires c = counted_in (here (goal.at.standard_sum-requires c).Start) c.requires (read_ok (goal.at.standard_sum-requires c).Else-not-sum_reads)
 
 pub returns : goal.returns
 returns c =
     let a = c.args in
-    sum-read (here (goal.at.returns c).Start) a.g a.every c.standard_sum-value.result (read_ok (goal.at.returns c).Else-not-sum_reads)
-    (c.standard_sum-value.ensures ∙ sum_standard (here (goal.at.returns c).Start) a.g a.every c.requires (sym c.is_terminal-terminal.ensures ∙ c.if-terminal.false))
+    sum-read (here (goal.at.returns c).Start) a.g a.every c.standard_sum.result (read_ok (goal.at.returns c).Else-not-sum_reads)
+    (c.standard_sum.ensures ∙ sum_standard (here (goal.at.returns c).Start) a.g a.every c.requires (sym c.is_terminal-terminal.ensures ∙ c.if-terminal.false))
