@@ -3,6 +3,7 @@
 
 #![tactic(auto)]
 
+mod lending;
 mod lists;
 mod parts;
 
@@ -20,6 +21,7 @@ ghost use Rattle.layout.specs.Records.{item_at};
 use header::{Header, Shape};
 use heap_moves::Item;
 use layer::Dims;
+pub use lending::{LentLayer, LentState};
 pub use lists::zero_places;
 pub use parts::{cells_at, norms_at, seats_at, words_at};
 use refusal::Refusal;
