@@ -4,7 +4,6 @@ use lib.ListN.{length}
 use Rattle.indexed_state.specs.inner.Needs.{Buildable}
 use Rattle.indexed_state.proofs.Built.{buildable_of, index_kept, index-made}
 use Rattle.std.proofs.lemmas.Result.{err_from_is_err_and}
-use Rattle.refusal.specs.Refusals.{number_of, refused}
 use Rattle.refusal.proofs.Numbers.{number-ne0}
 use Rattle.indexed_state.proofs.building.build_index.Goals as goal
 use Rattle.indexed_state.proofs.building.build_index.Goals.{In_ok-check_build}
@@ -17,9 +16,9 @@ pub returns-in_err-check_build : goal.returns-in_err-check_build
 returns-in_err-check_build c =
     let p = err_from_is_err_and c.from_residual.result c.from_residual.ensures.1 in
     rw (p.1, p.2) (record {
-  value = c.in_err-check_build.ensures;
-  index_after = index_kept _ _ _ (number-ne0 c.in_err-check_build.field-0.0);
-})
+      value = c.in_err-check_build.ensures;
+      index_after = index_kept _ _ _ (number-ne0 c.in_err-check_build.field-0.0);
+    })
 
 pub build_tables-requires : goal.build_tables-requires
 build_tables-requires c = fit (goal.at.build_tables-requires c).In_ok-check_build

@@ -4,7 +4,7 @@ use mathlib.Core.Path.{sym, ap, ◌∙◌}
 use Rattle.std.proofs.Common.{Some}
 use lib.ListN.{length, get_or}
 use native.Mathlib.Omega.{arith}
-use Rattle.indexed_state.proofs.Looks.{looked}
+use Rattle.indexed_state.proofs.Looks.{walk_looked}
 use Rattle.heap_index.proofs.Walks.{found-place, found_number}
 use Rattle.indexed_state.proofs.lookups.look_in.Goals as goal
 use Rattle.indexed_state.proofs.lookups.look_in.Goals.{In-Met}
@@ -22,14 +22,14 @@ offset_bounds-index-p c = omega (arith, at_key (goal.at.offset_bounds-index-p c)
 pub bounds-index-p : goal.bounds-index-p
 bounds-index-p c = at_key (goal.at.bounds-index-p c).In-Met
 
-pub overflow_sub-result : goal.overflow_sub-result
-overflow_sub-result c = omega (arith, named (goal.at.overflow_sub-result c).In-Met)
+pub overflow_sub-entry : goal.overflow_sub-entry
+overflow_sub-entry c = omega (arith, named (goal.at.overflow_sub-entry c).In-Met)
 
 pub returns-in-Met : goal.returns-in-Met
-returns-in-Met c = looked _ _ _ _ _ (sym c.look.ensures ∙ c.in-Some.is ∙ ap Some c.in-Met.is)
+returns-in-Met c = walk_looked _ _ _ _ _ (sym c.look.ensures ∙ c.in-Some.is ∙ ap Some c.in-Met.is)
 
 pub returns-in-Vacant : goal.returns-in-Vacant
-returns-in-Vacant c = looked _ _ _ _ _ (sym c.look.ensures ∙ c.in-Some.is ∙ ap Some c.in-Vacant.is)
+returns-in-Vacant c = walk_looked _ _ _ _ _ (sym c.look.ensures ∙ c.in-Some.is ∙ ap Some c.in-Vacant.is)
 
 pub returns-in_default : goal.returns-in_default
-returns-in_default c = c.refused.ensures ∙ looked _ _ _ _ _ (sym c.look.ensures ∙ c.in_default.is)
+returns-in_default c = walk_looked _ _ _ _ _ (sym c.look.ensures ∙ c.in_default.is)
