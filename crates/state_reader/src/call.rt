@@ -25,10 +25,7 @@ pub fn read_state(
     ensures { left (refused result) (lent_out (kept zero_header result) counters norms entries counts)
         ≡ read_call text.now (lent_in zero_header counters norms entries counts) }
 {
-    let x = first_at(text, 0);
-    let Some((first, p)) = x else {
-        return Err(Refusal::NotAText);
-    };
+    let (first, p) = first_at(text, 0).ok_or(Refusal::NotAText)?;
     let shape = Shape::one_tier(
         first.heap as usize,
         first.rows as usize,
@@ -45,14 +42,8 @@ pub fn read_state(
     ) {
         return Err(Refusal::TooShort);
     }
-    let y = head_at(text, p);
-    let Some((head, q)) = y else {
-        return Err(Refusal::NotAText);
-    };
-    let z = judge_layers(text, q, shape);
-    let Some(end) = z else {
-        return Err(Refusal::NotAText);
-    };
+    let (head, q) = head_at(text, p).ok_or(Refusal::NotAText)?;
+    let end = judge_layers(text, q, shape).ok_or(Refusal::NotAText)?;
     if end < text.len() {
         return Err(Refusal::NotAText);
     }

@@ -1,5 +1,5 @@
 -- The two calls: writing a state, and reading one.
-use Rattle.std.specs.Prelude.{ℕ, Bool, cond, not, ◌&&◌, List, length, eqb, ltb}
+use Rattle.std.specs.Prelude.{ℕ, Bool, cond, not, ◌&&◌, List, length, eqb, ltb, Result}
 use Rattle.std.proofs.lemmas.List.Edits.{sets}
 use Rattle.header.specs.declared.Shape.{Shape}
 use Rattle.header.specs.Shape.{shape_refusal}

@@ -11,9 +11,9 @@ ghost use Rattle.state_text.specs.Pages.{first_of, dims_of, frame_of, page_of, p
 ghost use Rattle.state_text.specs.Calls.{copied, write_call, written_by};
 
 use header::{Header, Shape, Totals};
+use refusal::Refusal;
 use state_forms::keys::lay_page;
 use state_forms::lay::{lay_number, lay_word};
-use refusal::Refusal;
 
 // `(WORD N)` and a newline.
 fn lay_line(out: &mut [u8], at: usize, word: &[u8], n: u64) -> usize

@@ -2,7 +2,6 @@
 use Prim.Native.Nat.{◌+◌, ◌-◌}
 use mathlib.Core.Path.{◌≡◌}
 use mathlib.Core.List.{◌++◌}
-use native.Mathlib.Omega.{arith}
 use Rattle.layout.specs.State.{State, layer_at}
 use Rattle.layout.specs.Slices.{lent, view}
 use Rattle.state_forms.specs.Grammar.{page_format, pages_text}

@@ -1,5 +1,5 @@
 -- `state_text::write::lay_layers` meets its contract.
-use Prim.Native.Nat.{◌-◌, ◌≤◌}
+use Prim.Native.Nat.{◌-◌}
 use Rattle.layout.specs.Slices.{lent, view}
 use Rattle.state_forms.specs.Grammar.{pages_text}
 use Rattle.state_forms.proofs.Layings.{LaidSoFar}
