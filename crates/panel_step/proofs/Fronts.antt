@@ -50,15 +50,18 @@ fresh_in r sh f =
       eq-eqb _ _ (length-take-le (cands_in sh) r.counts f.seats),
     )
 
--- l is what `new` left of the parts
+-- l is what `new` left of the parts: it is accepted
+pub started_well : (r : Lent) (sh : Shape) (e : Extent) (l : Left) → refusal_in r sh ≡ 0 → e ≡ extent_of sh
+    → l ≡ new_call sh (take e.cells r.counters) (take e.norms r.norms) (take e.words r.entries) (take e.seats r.counts)
+    → l ≡ left 0 (fresh_lent sh)
+started_well r sh e l z i h = h ∙ rw i (fresh_in r sh (fit_of sh (length r.counters) (length r.norms) (length r.entries) (length r.counts) z))
+
 pub has-started : (r : Lent) (sh : Shape) (e : Extent) (l : Left) → refusal_in r sh ≡ 0 → e ≡ extent_of sh
     → l ≡ new_call sh (take e.cells r.counters) (take e.norms r.norms) (take e.words r.entries) (take e.seats r.counts)
     → left l.refusal (put_back e r l.lends) ≡ shape_call r sh
 unfolding shape_call
 has-started r sh e l z i h =
-    let f = fit_of sh (length r.counters) (length r.norms) (length r.entries) (length r.counts) z in
-    let g : l ≡ left 0 (fresh_lent sh) = h ∙ rw i (fresh_in r sh f) in
-    rw (g, i, eq-eqb (refusal_in r sh) 0 z)
+    rw (started_well r sh e l z i h, i, eq-eqb (refusal_in r sh) 0 z)
 
 -- ---- add
 

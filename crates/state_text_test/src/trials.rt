@@ -2,7 +2,8 @@
 ghost use Rattle.std.specs.Prelude.{◌≤◌};
 
 use crate::digest::{repeated, whole};
-use header::{Answered, Header, Shape, Totals};
+use header::{Header, Shape, Totals};
+use refusal::{Refusal, number_in};
 use state_reader::read_state;
 use state_text::write_state;
 use std::io;
@@ -65,9 +66,9 @@ fn write_in(
     let m = least(n as u64, LONGEST);
     let mut out = [MARK; LONGEST];
     let w = write_state(h, counters, norms, entries, counts, &mut out[..m]);
-    let bytes = w.bytes;
+    let bytes = w.unwrap_or(0);
     Answer {
-        refusal: w.refusal,
+        refusal: number_in(&w),
         bytes,
         held: holds(&out, text, bytes),
     }
@@ -151,7 +152,7 @@ fn refused(output: Stdout, n: u64, kept: bool, aloud: bool) -> io::Result<u64> {
 // What was read, with the slices that it was read into; before, their digest with a header of zeros was `was`.
 fn judge(
     output: Stdout,
-    r: Answered,
+    r: Result<Header, Refusal>,
     counters: &[i64],
     norms: &[u64],
     entries: &[u64],
@@ -160,10 +161,10 @@ fn judge(
     was: u64,
     aloud: bool,
 ) -> io::Result<u64> {
-    let h = r.header;
+    let h = r.unwrap_or(Header::zero());
     let is = whole(h, counters, norms, entries, counts);
-    if r.refusal != 0 {
-        return refused(output, r.refusal, is == was, aloud);
+    if let Err(refusal) = r {
+        return refused(output, refusal.number(), is == was, aloud);
     }
     if aloud {
         say_accepted(output, is, h, counters, norms, entries, counts, text)?;
