@@ -7,16 +7,15 @@ ghost use Rattle.std.specs.Prelude.{◌≡◌, true, ◌≤◌, length, take};
 ghost use Rattle.words.specs.Num.{all_in};
 ghost use Rattle.matrix_storage.specs.Bits.{max_rows};
 
-use matrix_storage::{Cell, MAX_ROWS, MaskBits};
+use matrix_storage::MAX_ROWS;
 use std::io;
 use std::io::{Stdin, Stdout};
 
 // 1: the mask bits of a number of columns.
 fn mask_bits(output: Stdout, cols: usize) -> io::Result<()> {
-    let m = matrix_storage::cols_mask_bits(cols);
-    match m {
-        MaskBits::Bits(bits) => vectors::print(output, bits as u64),
-        MaskBits::Refused(n) => vectors::print_refusal(output, n),
+    match matrix_storage::cols_mask_bits(cols) {
+        Ok(bits) => vectors::print(output, bits as u64),
+        Err(refusal) => vectors::print_refusal(output, refusal.number()),
     }
 }
 
@@ -29,13 +28,12 @@ fn cell(
     rows: usize,
     cols: usize,
 ) -> io::Result<()> {
-    let c = matrix_storage::cell_for_row(high, low, row, rows, cols);
-    match c {
-        Cell::At(column, sign) => {
-            vectors::print(output, column as u64)?;
-            vectors::print(output, vectors::unsigned(sign))
+    match matrix_storage::cell_for_row(high, low, row, rows, cols) {
+        Ok(cell) => {
+            vectors::print(output, cell.column as u64)?;
+            vectors::print(output, vectors::unsigned(cell.sign))
         }
-        Cell::Refused(n) => vectors::print_refusal(output, n),
+        Err(refusal) => vectors::print_refusal(output, refusal.number()),
     }
 }
 
@@ -81,7 +79,8 @@ fn square(output: Stdout, x: i64) -> io::Result<()> {
 
 // 5: the refusal of rows and columns.
 fn hash_bits(output: Stdout, rows: usize, cols: usize) -> io::Result<()> {
-    vectors::print(output, matrix_storage::check_hash_bits(rows, cols))
+    let checked = matrix_storage::check_hash_bits(rows, cols);
+    vectors::print(output, refusal::number_in(&checked))
 }
 
 fn run(output: Stdout, op: u64, many: usize, text: &[u8]) -> io::Result<()> {

@@ -7,15 +7,15 @@ use crate::shelf::{
     LENT_NORMS, NORM_WORDS, NORMS, SEATS, SECOND, SECOND_COUNTERS, SECOND_NORMS, copy, get, lent,
     take_signed,
 };
-use estimates::Answer;
-use header::{BottomLayer, CheckedShape, Header, Shape};
+use header::{Header, Shape};
+use refusal::Refusal;
 use std::io;
 use std::io::Stdout;
 use sums::G;
 
-fn print_answer(output: Stdout, a: Answer) -> io::Result<()> {
-    vectors::print(output, a.refusal)?;
-    vectors::print(output, float64::to_bits(a.value))
+fn print_answer(output: Stdout, a: Result<f64, Refusal>) -> io::Result<()> {
+    vectors::print(output, refusal::number_in(&a))?;
+    vectors::print(output, float64::to_bits(a.unwrap_or(0.0)))
 }
 
 // The g of the k-th sum: each is summed twice, without and with every key.
@@ -116,13 +116,13 @@ pub fn same(shelf: &[u64]) -> bool {
 
 // 16: the refusal of a shape.
 pub fn shape(output: Stdout, call: Call) -> io::Result<()> {
-    let n = header::check_shape(
+    let checked = header::check_shape(
         call.a as usize,
         call.b as usize,
         call.c as usize,
         call.d as usize,
     );
-    say(output, n, false, 0)
+    say(output, refusal::number_in(&checked), false, 0)
 }
 
 // 20: the refusal of a shape of two tiers.
@@ -136,17 +136,13 @@ pub fn two_tier_shape(output: Stdout, call: Call) -> io::Result<()> {
         call.f as usize,
         call.g as usize,
     );
-    match checked {
-        CheckedShape::Good(_) => say(output, 0, false, 0),
-        CheckedShape::Refused(n) => say(output, n, false, 0),
-    }
+    say(output, refusal::number_in(&checked), false, 0)
 }
 
 // 17: a bottom layer, or its refusal.
 pub fn bottom(output: Stdout, call: Call) -> io::Result<()> {
-    let b = header::bottom_layer_for_hash(call.a, call.b as usize);
-    match b {
-        BottomLayer::At(l) => say(output, 0, false, l as u64),
-        BottomLayer::Refused(n) => say(output, n, false, 0),
+    match header::bottom_layer_for_hash(call.a, call.b as usize) {
+        Ok(l) => say(output, 0, false, l as u64),
+        Err(refusal) => say(output, refusal.number(), false, 0),
     }
 }

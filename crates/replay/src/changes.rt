@@ -10,7 +10,8 @@ use crate::shelf::{
     SEATS, SECOND, SECOND_COUNTERS, SECOND_COUNTS, SECOND_ENTRIES, SECOND_NORMS, WORDS, copy, lent,
     put_signed, take_signed,
 };
-use header::{Answered, Header};
+use header::Header;
+use refusal::Refusal;
 use std::io;
 use std::io::Stdout;
 use univmon_delta::Fidelity;
@@ -76,7 +77,7 @@ fn recorded(
     counts: &mut [i64],
     list: &mut [u64],
     shelf: &[u64],
-) -> Answered {
+) -> Result<Header, Refusal> {
     let mut record = [0u64; LONGEST];
     copy(shelf, record_at(call.a), &mut record, 0, LONGEST);
     let n = lent(shelf, WORDS, 1, LONGEST);
@@ -115,7 +116,7 @@ fn merge(
     counts: &mut [i64],
     list: &mut [u64],
     shelf: &[u64],
-) -> Answered {
+) -> Result<Header, Refusal> {
     let c = lent(shelf, SECOND, LENT_COUNTERS, CELLS);
     let w = lent(shelf, SECOND, LENT_NORMS, NORM_WORDS);
     let e = lent(shelf, SECOND, LENT_ENTRIES, ENTRY_WORDS);
@@ -153,7 +154,7 @@ fn on_lent(
     counts: &mut [i64],
     list: &mut [u64],
     shelf: &[u64],
-) -> Answered {
+) -> Result<Header, Refusal> {
     take_signed(shelf, COUNTERS, counters);
     copy(shelf, NORMS, norms, 0, NORM_WORDS);
     copy(shelf, ENTRIES, entries, 0, ENTRY_WORDS);
@@ -195,6 +196,14 @@ fn on_lent(
     }
 }
 
+// The header that a refused call leaves: as it was, but a new state's is all zero.
+fn left_by(change: Change, shelf: &[u64]) -> Header {
+    match change {
+        Change::New | Change::NewTwoTier => Header::zero(),
+        _ => header_of(shelf, 0),
+    }
+}
+
 // Runs a call on the relay at work: its slices are taken off the shelf, lent, and put back.
 pub fn run(output: Stdout, change: Change, call: Call, shelf: &mut [u64]) -> io::Result<()> {
     let c = lent(&*shelf, 0, LENT_COUNTERS, CELLS);
@@ -221,12 +230,13 @@ pub fn run(output: Stdout, change: Change, call: Call, shelf: &mut [u64]) -> io:
     copy(&norms, 0, shelf, NORMS, w);
     copy(&entries, 0, shelf, ENTRIES, e);
     put_signed(&counts, shelf, COUNTS, k);
-    let words = words_of(out.header);
+    let header = out.unwrap_or(left_by(change, &*shelf));
+    let words = words_of(header);
     copy(&words, 0, shelf, 0, HEAD_WORDS);
     let digest = of_words(whole(&*shelf), &list, 0, n);
     say(
         output,
-        out.refusal,
+        refusal::number_in(&out),
         ask(output, Question::Check, &*shelf)?,
         digest,
     )
