@@ -5,8 +5,8 @@ use Rattle.state_check.proofs.layers.layer_ok.Goals as goal
 
 pub returns-then-rows_ok : goal.returns-then-rows_ok
 unfolding layer_ok
-returns-then-rows_ok c = λ f. c.seats_ok.ensures ∙ sym (rw (sym c.rows_ok.ensures ∙ c.if-rows_ok.true))
+returns-then-rows_ok c = c.seats_ok.ensures ∙ sym (rw (sym c.rows_ok.ensures ∙ c.if-rows_ok.true))
 
 pub returns-else-rows_ok : goal.returns-else-rows_ok
 unfolding layer_ok
-returns-else-rows_ok c = λ f. c.if-rows_ok.false ∙ sym (rw (sym c.rows_ok.ensures ∙ c.if-rows_ok.false))
+returns-else-rows_ok c = c.if-rows_ok.false ∙ sym (rw (sym c.rows_ok.ensures ∙ c.if-rows_ok.false))
