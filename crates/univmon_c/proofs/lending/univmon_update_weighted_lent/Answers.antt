@@ -16,5 +16,5 @@ here c = c_lent (c_head c.args.shape c.args.total_weight c.args.total_updates c.
 pub returns-clause-counts_value : goal.returns-clause-counts_value
 returns-clause-counts_value c =
     let a = c.args in
-    rw c.from.ensures
-    (stepped one_tier_face kind.Standard a.«record».now a.weight (length a.list.now) (here (goal.at.returns-clause-counts_value c).Start) c.in-Some.ensures.0 _ _ (rw (c.in-Some.ensures.1, to_z-of_z c.ranges.weight) at c.update_weighted_lent.ensures.counts_value))
+    rw c.c_step.ensures
+    (rw c.in-Some.ensures.1 (stepped one_tier_face kind.Standard a.«record».now a.weight (length a.list.now) (here (goal.at.returns-clause-counts_value c).Start) c.in-Some.ensures.0 _ _ (rw (c.in-Some.ensures.1, to_z-of_z c.ranges.weight) at c.update_weighted_lent.ensures.counts_value)))
