@@ -37,6 +37,7 @@ const LAST_G: u64 = 2;
 // The greatest number that is a fidelity.
 const LAST_FIDELITY: u64 = 1;
 
+#[tactic(auto, unfolding(crate::specs::Crossing::g_by))]
 pub fn g_of(n: u64) -> G
     ensures { result ≡ g_by n }
 {
@@ -49,6 +50,7 @@ pub fn g_of(n: u64) -> G
     G::One
 }
 
+#[tactic(auto, unfolding(crate::specs::Crossing::fidelity_of))]
 pub fn fidelity_of(n: u64) -> Fidelity
     ensures { result ≡ fidelity_of n }
 {
@@ -161,9 +163,15 @@ pub fn c_step(before: Scalars, answer: Result<Scalars, Refusal>) -> CStep
 pub fn c_answered(before: Header, answer: Result<Header, Refusal>) -> CAnswered
     ensures { result ≡ c_answered (answered_by before answer) }
 {
-    CAnswered {
-        refusal: number_in(&answer),
-        header: CHeader::from(answer.unwrap_or(before)),
+    match answer {
+        Ok(header) => CAnswered {
+            refusal: 0,
+            header: CHeader::from(header),
+        },
+        Err(refusal) => CAnswered {
+            refusal: refusal.number(),
+            header: CHeader::from(before),
+        },
     }
 }
 

@@ -29,15 +29,16 @@ pub extern "C" fn univmon_two_tier_check_shape(
 ) -> u64
     ensures { result ≡ shape_refusal (two_tier heap_size elephant_layers elephant_rows elephant_cols mouse_rows mouse_cols layers) }
 {
-    number_in(&Shape::new(
+    let shape = Shape {
         heap_size,
+        layers,
         elephant_layers,
         elephant_rows,
         elephant_cols,
         mouse_rows,
         mouse_cols,
-        layers,
-    ))
+    };
+    number_in(&shape.check())
 }
 
 // A fresh state in lent slices.

@@ -5,7 +5,7 @@ ghost use Rattle.univmon_two_tier.specs.Crossing.{header_of, c_two_tier, c_answe
 
 use crate::{CTwoTier, CTwoTierAnswered, CTwoTierShape};
 use header::{Header, Scalars, Shape, Totals, mode_number, mode_of};
-use refusal::{Refusal, number_in};
+use refusal::Refusal;
 use univmon_c::crossing::LAST_MODE;
 
 pub fn header_of(h: CTwoTier) -> Header
@@ -70,9 +70,15 @@ impl From<Header> for CTwoTier {
 pub fn c_answered(before: Header, answer: Result<Header, Refusal>) -> CTwoTierAnswered
     ensures { result ≡ c_answered (answered_by before answer) }
 {
-    CTwoTierAnswered {
-        refusal: number_in(&answer),
-        header: CTwoTier::from(answer.unwrap_or(before)),
+    match answer {
+        Ok(header) => CTwoTierAnswered {
+            refusal: 0,
+            header: CTwoTier::from(header),
+        },
+        Err(refusal) => CTwoTierAnswered {
+            refusal: refusal.number(),
+            header: CTwoTier::from(before),
+        },
     }
 }
 

@@ -1,8 +1,11 @@
 -- `univmon_c::lending::univmon_update_weighted_terminal_lent` meets its contract.
 use lib.ListN.{length}
+use mathlib.Core.Path.{ap, ◌∙◌}
 use mir.Facts.{to_z-of_z}
+use Rattle.header.specs.declared.Scalars.{Scalars}
+use Rattle.header.specs.Answers.{answered_lent_by}
 use Rattle.univmon.specs.declared.Kind.TheVariants as kind
-use Rattle.univmon_c.specs.Crossing.{c_head}
+use Rattle.univmon_c.specs.Crossing.{c_head, c_step}
 use Rattle.univmon_c.specs.Calls.{one_tier_face, CLent, c_lent}
 use Rattle.univmon_c.proofs.Turning.{stepped}
 use Rattle.univmon_c.specs.declared.CHeader.{CHeader}
@@ -16,5 +19,5 @@ here c = c_lent (c_head c.args.shape c.args.total_weight c.args.total_updates c.
 pub returns-clause-counts_value : goal.returns-clause-counts_value
 returns-clause-counts_value c =
     let a = c.args in
-    rw c.from.ensures
+    rw (c.c_step.ensures ∙ ap (λ (s : Scalars). c_step (answered_lent_by s c.update_weighted_terminal_lent.result)) c.in-Some.ensures.1)
     (stepped one_tier_face kind.Terminal a.«record».now a.weight (length a.list.now) (here (goal.at.returns-clause-counts_value c).Start) c.in-Some.ensures.0 _ _ (rw (c.in-Some.ensures.1, to_z-of_z c.ranges.weight) at c.update_weighted_terminal_lent.ensures.counts_value))
