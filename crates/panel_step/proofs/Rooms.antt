@@ -7,26 +7,12 @@ use native.Mathlib.Nat.{le_refl}
 use borrow.Author.Tests.{eqb-true, eqb-false, leb-true, ltb-false, le-leb}
 use lib.Dec.{eqb, ltb, leb}
 use Rattle.matrix_storage.specs.Bits.{max_rows}
-use Rattle.std.specs.Prelude.{Result, Ok, Err}
-use Rattle.std.specs.Result.{result_unwrap_or}
-use Rattle.refusal.specs.declared.Refusal.{Refusal}
-use Rattle.refusal.specs.Refusals.{refused, kept}
-use Rattle.refusal.proofs.Numbers.{number-ne0}
 use Rattle.header.specs.declared.Shape.{Shape}
 use Rattle.header.specs.Shape.{max_layers, shape_refusal}
 use Rattle.header.proofs.Refusals.{accepted_of}
 use Rattle.layout.specs.Slices.{cells_in, norms_in, cands_in, extent_of}
 use Rattle.layout.proofs.Offsets.{norms_bound}
 use Rattle.panel_step.specs.Panel.{max_counters, max_candidates, roomy, panel_refusal, paper_refusal}
-
--- what is kept where something is answered
-pub kept_any : {A : Type 0} (a b : A) (r : Result A Refusal) → refused r ≡ 0 → kept a r ≡ kept b r
-kept_any a b (Ok c) h = refl
-kept_any a b (Err e) h = absurd (number-ne0 e h)
-
-pub kept_is : {A : Type 0} (a : A) (r : Result A Refusal) → result_unwrap_or r a ≡ kept a r
-kept_is a (Ok c) = refl
-kept_is a (Err e) = refl
 
 -- a shape that the panel takes in slices of these lengths
 pub record Fit (sh : Shape) (xs ws es ns : ℕ) : Type 0 where

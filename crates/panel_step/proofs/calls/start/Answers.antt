@@ -13,8 +13,8 @@ use Rattle.layout.specs.Outcomes.{Left}
 use Rattle.layout.specs.declared.Extent.{Extent}
 use Rattle.header.specs.Header.{zero_header}
 use Rattle.panel_step.specs.Panel.{refusal_in}
-use Rattle.panel_step.proofs.Rooms.{Fit, fit_of, kept_any}
-use Rattle.panel_step.proofs.Fronts.{not-started, started_well, has-started}
+use Rattle.panel_step.proofs.Rooms.{Fit, fit_of}
+use Rattle.panel_step.proofs.Fronts.{not-started, started_well, kept_any, has-started}
 use Rattle.panel_step.proofs.calls.start.Goals as goal
 use Rattle.panel_step.proofs.calls.start.Goals.{After-extent_of-e, In_ok-check_panel, Start}
 

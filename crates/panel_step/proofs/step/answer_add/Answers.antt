@@ -2,8 +2,7 @@
 use mir.Facts.{to_z-of_z}
 use Rattle.layout.specs.Slices.{Lent, lent}
 use Rattle.panel_step.specs.Panel.{add_call}
-use Rattle.panel_step.proofs.Rooms.{kept_is}
-use Rattle.panel_step.proofs.Replies.{reply-put}
+use Rattle.panel_step.proofs.Replies.{kept_is, reply-put}
 use Rattle.panel_step.proofs.step.answer_add.Goals as goal
 use Rattle.panel_step.proofs.step.answer_add.Goals.{Start}
 

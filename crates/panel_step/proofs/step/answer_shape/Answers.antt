@@ -1,8 +1,7 @@
 -- `panel_step::step::answer_shape` meets its contract.
 use Rattle.layout.specs.Slices.{Lent, lent}
 use Rattle.panel_step.specs.Panel.{shape_call}
-use Rattle.panel_step.proofs.Rooms.{kept_is}
-use Rattle.panel_step.proofs.Replies.{reply-put}
+use Rattle.panel_step.proofs.Replies.{kept_is, reply-put}
 use Rattle.panel_step.proofs.step.answer_shape.Goals as goal
 use Rattle.panel_step.proofs.step.answer_shape.Goals.{Start}
 

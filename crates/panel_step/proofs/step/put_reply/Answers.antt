@@ -1,6 +1,6 @@
 -- `panel_step::step::put_reply` meets its contract.
 use Prim.Native.Nat.{◌+◌, ◌≤◌}
-use mathlib.Core.Path.{◌≡◌, refl, ap, ◌∙◌}
+use mathlib.Core.Path.{◌≡◌, ap, ◌∙◌}
 use lib.ListN.{length}
 use lib.Seq.{sets}
 use native.Mathlib.Omega.{arith}
@@ -16,7 +16,7 @@ texts : (c : Joined-answer) → (c.match-answer.end ≡ length (reply_text (refu
 texts c =
     elim c.match-answer.branch [
       | in-Ok w ↦
-          let t = reply-ok 0 refl in
+          let t = reply-ok in
           rw (w.in-Ok.is, w.out-is, w.end-is) (w.put_ok-end.ensures.value ∙ ap length t, (w.put_ok-end.ensures.out_after ∙ ap (sets c.args.out.now 0) t, omega (arith, w.put_ok-end.ensures.value)))
       | in-Err w ↦
           let e = w.in-Err.refusal in

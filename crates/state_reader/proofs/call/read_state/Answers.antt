@@ -23,7 +23,7 @@ use Rattle.state_lines.proofs.Known.{known}
 use Rattle.state_reader.proofs.Callings.{some_of, none_of, rest-head, rest_bad, rest_more, rest_got, some_left, call_first, call_shape, call_lengths, call_rest, call_done, head-by, begins, lends_are}
 use Rattle.state_text.proofs.Built.{each}
 use Rattle.state_reader.proofs.call.read_state.Goals as goal
-use Rattle.state_reader.proofs.call.read_state.Goals.{After-judge_layers, After-keep_layers, After-lengths_match, After-one_tier-shape, After-check, After-with_mode-h, Else-end-text, In_ok-check, Else-not-lengths_match, In_ok-first, In_ok-head, Start}
+use Rattle.state_reader.proofs.call.read_state.Goals.{After-judge_layers, After-keep_layers, After-lengths_match, After-one_tier-shape, After-with_mode-h, Else-end-text, Else-not-lengths_match, In_ok-check, In_ok-first, In_ok-head, Start}
 
 -- the slices that were lent
 abbrev lent_of : Start → Lent
