@@ -18,10 +18,7 @@ const NORM_WORDS: usize = 2 * matrix_storage::MAX_ROWS;
 fn held(rows: usize, cols: usize, cells: usize, words: usize) -> bool
     ensures { result ≡ true → Shaped rows cols × ((rows * cols ≤ cells) × (2 * rows ≤ words)) }
 {
-    if matrix_storage::check_hash_bits(rows, cols).is_err() {
-        return false;
-    }
-    rows * cols <= cells && 2 * rows <= words
+    matrix_storage::check_hash_bits(rows, cols).is_ok() && rows * cols <= cells && 2 * rows <= words
 }
 
 // 4: the estimate of a hash's count, as a float and cut.

@@ -1,5 +1,5 @@
 -- `univmon_merge::judge::all_read` meets its contract.
-use Rattle.std.proofs.Common.{ℕ, ◌<◌, ◌∙◌, rules, arith}
+use Rattle.std.proofs.Common.{◌∙◌, rules, arith}
 use Rattle.std.proofs.lemmas.Iterator.{YieldsList-from_range}
 use Rattle.std.proofs.lemmas.Iterator.Search.{all_from_yields_List}
 use Rattle.layout.specs.Slices.{lent, view, Lent}
