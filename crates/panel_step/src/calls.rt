@@ -5,7 +5,6 @@ ghost use Rattle.std.proofs.lemmas.List.Edits.{sets};
 ghost use Rattle.header.specs.Shape.{max_layers};
 ghost use Rattle.layout.specs.Outcomes.{left};
 ghost use Rattle.layout.specs.Lending.{lent_in, lent_out};
-ghost use Rattle.univmon.specs.Calls.{answered};
 ghost use Rattle.estimates.specs.Calls.{panel_call};
 ghost use Rattle.panel_lines.specs.Answers.{show_bytes};
 ghost use Rattle.panel_step.specs.Panel.{shape_call, add_call, show_line, panel_text, updates_digits};
