@@ -5,7 +5,7 @@ ghost use Rattle.std.specs.Prelude.{◌≡◌, Bool, true, not, ◌&&◌, ℕ, �
 ghost use Rattle.header.specs.inner.Accepted.{Accepted};
 ghost use Rattle.layout.specs.Slices.{norms_in, view, lent};
 ghost use Rattle.layout.specs.inner.Needs.{Standing};
-ghost use Rattle.layout.specs.Lending.{lent_now};
+ghost use Rattle.layout.specs.Lending.{lent_read};
 ghost use Rattle.estimates.specs.Norms.{is_terminal};
 ghost use Rattle.estimates.specs.Calls.{norms_lent, l1_call, l2_call, sum_call, cardinality_call, panel_call, no_panel};
 ghost use Rattle.estimates.specs.inner.Slices.{sum_answer};
@@ -16,6 +16,7 @@ use crate::reads::sum_reads;
 use crate::standard::standard_sum;
 use crate::terminal::terminal_sum;
 use header::{Header, Mode, Shape};
+use layout::LentState;
 use refusal::Refusal;
 use sums::G;
 
@@ -75,27 +76,18 @@ fn header_alone(weight: u64, every: bool) -> bool
 }
 
 // The sum by the state's mode.
-fn sum_by_mode(
-    header: Header,
-    counters: &[i64],
-    norms: &[u64],
-    entries: &[u64],
-    counts: &[i64],
-    g: G,
-    every: bool,
-) -> Result<f64, Refusal>
-    requires { Standing (lent_now header counters norms entries counts) }
-    ensures { float_answer result ≡ sum_answer g every (view (lent header counters.now norms.now entries.now counts.now)) }
+fn sum_by_mode(state: LentState, g: G, every: bool) -> Result<f64, Refusal>
+    requires { Standing (lent_read state) }
+    ensures { float_answer result ≡ sum_answer g every (view (lent_read state.entry)) }
 {
-    let mode = header.mode;
-    let terminal = is_terminal(mode);
-    if !sum_reads(header, counters, norms, entries, counts, terminal) {
+    let terminal = is_terminal(state.header.mode);
+    if !sum_reads(state, terminal) {
         return Err(Refusal::OutOfRange);
     }
     if terminal {
-        return Ok(terminal_sum(header, counters, norms, entries, g, every));
+        return Ok(terminal_sum(state, g, every));
     }
-    Ok(standard_sum(header, counters, entries, g, every))
+    Ok(standard_sum(state, g, every))
 }
 
 // The sum of g over the candidates.
@@ -114,7 +106,14 @@ pub fn estimate_g_sum(
     if header_alone(header.totals.weight, count_every_key) {
         return Ok(0.0);
     }
-    sum_by_mode(header, counters, norms, entries, counts, g, count_every_key)
+    let state = LentState {
+        header: &header,
+        counters,
+        norms,
+        entries,
+        counts,
+    };
+    sum_by_mode(state, g, count_every_key)
 }
 
 // The number of keys: g one, with every key counted.

@@ -44,16 +44,14 @@ impl<'a> LentState<'a> {
         ensures entries_len { length result.entries.now ≡ 4 * result.dims.size }
     {
         let shape = self.header.shape;
-        let lens = self.header.lens;
-        let flags = self.header.flags;
         LentLayer {
             cells: cells_at(shape, l, self.counters),
             norms: norms_at(shape, l, self.norms),
             entries: words_at(shape, l, self.entries),
             counts: seats_at(shape, l, self.counts),
             dims: crate::dims(shape, l),
-            len: lens[l],
-            flag: flags[l],
+            len: self.header.lens[l],
+            flag: self.header.flags[l],
         }
     }
 }

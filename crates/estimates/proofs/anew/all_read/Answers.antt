@@ -11,7 +11,7 @@ use Rattle.estimates.proofs.anew.all_read.Goals as goal
 
 pub returns : goal.returns
 returns c =
-    let a = c.args in
-    let t : ℕ → Bool = λ i. cells_in_range a.dims.cols (hash_by (item_of a.entries.now i)) a.cells.now a.dims.rows 0 in
-    all_from_yields_List t _ _ c.all.result c.all.ensures.ran (YieldsList-from_range 0 a.n a.n (cc) (omega arith)) (λ i b q k. search rules)
-    ∙ walked (scanned a.dims a.cells.now a.entries.now) t (read_step a.dims a.cells.now a.entries.now) (read_none a.dims a.cells.now a.entries.now) a.n 0
+    let y = c.args.layer in
+    let t : ℕ → Bool = λ i. cells_in_range y.dims.cols (hash_by (item_of y.entries.now i)) y.cells.now y.dims.rows 0 in
+    all_from_yields_List t _ _ c.all.result c.all.ensures.ran (YieldsList-from_range 0 y.len y.len (cc) (omega arith)) (λ i b q k. search rules)
+    ∙ walked (scanned y.dims y.cells.now y.entries.now) t (read_step y.dims y.cells.now y.entries.now) (read_none y.dims y.cells.now y.entries.now) y.len 0

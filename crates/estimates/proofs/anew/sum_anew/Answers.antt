@@ -8,10 +8,10 @@ pub loop-i-preserved : goal.loop-i-preserved
 loop-i-preserved c =
     let a = c.args in
     let lp = c.loop-i in
-    sum_on a.rule (entry_at a.dims a.cells.now a.entries.now) a.n lp.acc c.add_at-acc.result lp.i lp.invariant (omega arith) c.add_at-acc.ensures
+    sum_on a.rule (entry_at a.layer) a.layer.len lp.acc c.add_at-acc.result lp.i lp.invariant (omega arith) c.add_at-acc.ensures
 
 pub returns : goal.returns
 returns c =
     let a = c.args in
     let lp = c.loop-i in
-    sum_end a.rule (entry_at a.dims a.cells.now a.entries.now) a.n lp.acc lp.i lp.invariant (omega arith)
+    sum_end a.rule (entry_at a.layer) a.layer.len lp.acc lp.i lp.invariant (omega arith)

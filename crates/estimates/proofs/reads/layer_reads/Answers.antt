@@ -1,24 +1,26 @@
 -- `estimates::reads::layer_reads` meets its contract.
-use Rattle.std.proofs.Common.{◌≡◌, sym, ◌∙◌, true, not, ◌&&◌, ◌||◌}
+use Rattle.std.proofs.Common.{◌≡◌, sym, ◌∙◌, true, not, ◌&&◌, ◌||◌, arith}
 use lib.ListN.{take}
-use Rattle.layer.specs.inner.Needs.{layer_of}
-use Rattle.estimates.specs.Sums.{items_read, layer_reads}
-use Rattle.layer.specs.inner.Gather.{items_of}
-use Rattle.countsketch_l2_norm.specs.Norms.{norms_of}
 use Rattle.words.specs.Num.{all_in}
 use Rattle.words.proofs.Bools.{never}
-use Rattle.estimates.proofs.Layers.{reads_are}
+use Rattle.countsketch_l2_norm.specs.Norms.{norms_of}
 use Rattle.countsketch_l2_norm.specs.L2 as norm
+use Rattle.layer.specs.inner.Gather.{items_of}
+use Rattle.layout.specs.Lending.{layer_read}
+use Rattle.estimates.specs.Sums.{items_read, layer_reads}
+use Rattle.estimates.proofs.Layers.{reads_are}
 use Rattle.estimates.proofs.reads.layer_reads.Goals as goal
 use Rattle.estimates.proofs.reads.layer_reads.Goals.{Start, Then-all_read, then-counts_in_range, else-counts_in_range}
 
 -- the definition in the slices
-asked : (c : Start) → let a = c.args in layer_reads a.terminal a.dims (layer_of a.dims a.cells.now a.norms.now a.entries.now a.counts.now a.len true)
-    ≡ (all_in (take a.len a.counts.now) && items_read a.dims a.cells.now (items_of a.entries.now a.len) && (not a.terminal || norm.norms_in_range a.dims.cols (norms_of a.norms.now a.dims.rows)))
-asked c = let a = c.args in reads_are a.terminal a.dims a.cells.now a.norms.now a.entries.now a.counts.now a.len true c.requires.rows_in_bounds.1
+asked : (c : Start) → let y = c.args.layer in layer_reads c.args.terminal y.dims (layer_read y)
+    ≡ (all_in (take y.len y.counts.now) && items_read y.dims y.cells.now (items_of y.entries.now y.len) && (not c.args.terminal || norm.norms_in_range y.dims.cols (norms_of y.norms.now y.dims.rows)))
+asked c =
+    let y = c.args.layer in
+    reads_are c.args.terminal y.dims y.cells.now y.norms.now y.entries.now y.counts.now y.len y.flag (omega (arith, c.requires.housed.seats, c.requires.housed.used))
 
 -- both were found in range
-first : (c : Then-all_read) → let a = c.args in (all_in (take a.len a.counts.now) ≡ true) × (items_read a.dims a.cells.now (items_of a.entries.now a.len) ≡ true)
+first : (c : Then-all_read) → let y = c.args.layer in (all_in (take y.len y.counts.now) ≡ true) × (items_read y.dims y.cells.now (items_of y.entries.now y.len) ≡ true)
 first c =
     elim c.if-counts_in_range.branch [
       | then-counts_in_range w ↦ (sym c.counts_in_range.ensures ∙ w.if-counts_in_range.true, sym (w.value-is ∙ w.all_read.ensures) ∙ c.if-all_read.true)
