@@ -4,7 +4,7 @@
 #![tactic(auto)]
 
 ghost use Rattle.refusal.specs.Refusals.{kept, refused};
-ghost use Rattle.std.specs.Prelude.{◌≡◌, Bool, true, ◌&&◌, ◌++◌, ℕ, ◌+◌, ◌*◌, ◌≤◌, ◌<◌, length};
+ghost use Rattle.std.specs.Prelude.{◌≡◌, Bool, ◌&&◌, ◌++◌, ℕ, ◌+◌, ◌*◌, ◌≤◌, ◌<◌, length};
 ghost use Rattle.words.specs.Tests.{number};
 ghost use Rattle.heap.specs.Offer.{kept_by};
 ghost use Rattle.heap.specs.inner.Telling.{tell_at};
@@ -18,14 +18,14 @@ ghost use Rattle.layout.specs.Outcomes.{left, left_after};
 ghost use Rattle.layout.specs.Answers.{list_left};
 ghost use Rattle.layout.specs.inner.Needs.{Standing};
 ghost use Rattle.layout.specs.inner.Telling.{list_tests};
-ghost use Rattle.layout.specs.Lending.{lent_in, lent_now, lent_out};
+ghost use Rattle.layout.specs.Lending.{lent_in, lent_out, lent_read};
 ghost use Rattle.univmon_delta.specs.declared.Fidelity.{Fidelity};
 ghost use Rattle.univmon_delta.specs.Deltas.{every_insert, delta_tests_at, delta_tests, delta_answers, delta_list_call, arrival};
 ghost use Rattle.univmon_delta.specs.inner.Needs.{Placed, Arrives};
 
 use header::{Header, Mode};
 use heap::Answer;
-use layout::{cells_at, check_lent, dims, item_in, norms_at, seats_at, span_of, zero_places};
+use layout::{LentState, check_lent, dims, item_in, span_of, zero_places};
 use refusal::Refusal;
 
 // How much of the stream reached a relay that is fed by deltas.
@@ -50,42 +50,34 @@ pub fn kept_all(a: Answer, every: bool) -> bool
 }
 
 // Whether the delta may be made: 9 if something that it reads is out of range, 11 if its counter would
-// leave the range. The state is lent whole, so that the contract can name it; no entry is read.
+// leave the range. No entry is read.
 fn check_layer(
-    h: Header,
-    counters: &[i64],
-    norms: &[u64],
-    entries: &[u64],
-    counts: &[i64],
+    state: LentState,
     record: &[u64],
     l: usize,
     row: usize,
     col: usize,
     count: i64,
 ) -> Result<(), Refusal>
-    requires { Placed (lent_now h counters norms entries counts) «record».now l row col }
-    ensures { (every : Bool) → refused result ≡ number (delta_tests_at (dims_at h.shape l) (delta row col count (item_at «record».now l) every)
-        (layer_at (view (lent h counters.now norms.now entries.now counts.now)) l)) }
+    requires { Placed (lent_read state) «record».now l row col }
+    ensures { (every : Bool) → refused result ≡ number (delta_tests_at (dims_at state.entry.header.now.shape l) (delta row col count (item_at «record».now l) every)
+        (layer_at (view (lent_read state.entry)) l)) }
 {
-    let shape = h.shape;
-    let d = dims(shape, l);
+    let here = state.layer(l);
     let item = item_in(record, l);
-    let lens = h.lens;
-    let len = lens[l];
-    let cells = cells_at(shape, l, counters);
     if !layer::delta_reads(
-        cells,
-        norms_at(shape, l, norms),
-        seats_at(shape, l, counts),
-        d,
-        len,
+        here.cells,
+        here.norms,
+        here.counts,
+        here.dims,
+        here.len,
         row,
         col,
         item,
     ) {
         return Err(Refusal::OutOfRange);
     }
-    if layer::delta_fits(cells, d, row, col, count) {
+    if layer::delta_fits(here.cells, here.dims, row, col, count) {
         return Ok(());
     }
     Err(Refusal::CounterAbove)
@@ -150,11 +142,7 @@ fn deliver(
 
 // Whether a delta with a list of so many words may be made: 9, 12, 8, then 9 and 11 for its layer, then 16.
 fn check_delta(
-    h: Header,
-    counters: &[i64],
-    norms: &[u64],
-    entries: &[u64],
-    counts: &[i64],
+    state: LentState,
     record: &[u64],
     l: usize,
     row: usize,
@@ -162,10 +150,16 @@ fn check_delta(
     count: i64,
     list: usize,
 ) -> Result<(), Refusal>
-    ensures { (f : Fidelity) → refused result ≡ number (delta_tests (lent h counters.now norms.now entries.now counts.now) «record».now (arrival l row col count f) ++ list_tests (2 * h.shape.layers) list) }
+    ensures { (f : Fidelity) → refused result ≡ number (delta_tests (lent_read state.entry) «record».now (arrival l row col count f) ++ list_tests (2 * state.entry.header.now.shape.layers) list) }
 {
-    check_lent(h, counters, norms, entries, counts)?;
-    let shape = h.shape;
+    check_lent(
+        *state.header,
+        state.counters,
+        state.norms,
+        state.entries,
+        state.counts,
+    )?;
+    let shape = state.header.shape;
     if record.len() != 2 + 2 * shape.layers {
         return Err(Refusal::RecordLength);
     }
@@ -179,9 +173,7 @@ fn check_delta(
     if d.cols <= col {
         return Err(Refusal::OutsideShape);
     }
-    check_layer(
-        h, counters, norms, entries, counts, record, l, row, col, count,
-    )?;
+    check_layer(state, record, l, row, col, count)?;
     if list < 2 * shape.layers {
         return Err(Refusal::TooShort);
     }
@@ -218,11 +210,13 @@ pub fn apply_delta(
 {
     let n = i64::from(count);
     check_delta(
-        header,
-        &*counters,
-        &*norms,
-        &*entries,
-        &*counts,
+        LentState {
+            header: &header,
+            counters: &*counters,
+            norms: &*norms,
+            entries: &*entries,
+            counts: &*counts,
+        },
         record,
         layer,
         row,

@@ -10,6 +10,7 @@ ghost use Rattle.univmon_merge.specs.Merges.{merge_answers, merge_list_call};
 use crate::judge::check_merge;
 use crate::layers::merge_layers;
 use header::Header;
+use layout::LentState;
 use refusal::Refusal;
 
 // A second state merged into a first: 9, 10, 6, 7, 14, 9, 11, 16.
@@ -31,33 +32,27 @@ pub fn merge(
     ensures list_after { list.new
         ≡ list_left (refused result) (merge_answers (view (lent_in header counters norms entries counts)) (view (lent other other_counters.now other_norms.now other_entries.now other_counts.now))) list.old }
 {
+    let second = LentState {
+        header: &other,
+        counters: other_counters,
+        norms: other_norms,
+        entries: other_entries,
+        counts: other_counts,
+    };
     check_merge(
-        header,
-        &*counters,
-        &*norms,
-        &*entries,
-        &*counts,
-        other,
-        other_counters,
-        other_norms,
-        other_entries,
-        other_counts,
+        LentState {
+            header: &header,
+            counters: &*counters,
+            norms: &*norms,
+            entries: &*entries,
+            counts: &*counts,
+        },
+        second,
         list.len(),
     )?;
     let layers = header.shape.layers;
     let begun = header.begin(other.totals, other.mode);
     Ok(merge_layers(
-        begun,
-        counters,
-        norms,
-        entries,
-        counts,
-        other,
-        other_counters,
-        other_norms,
-        other_entries,
-        other_counts,
-        layers,
-        list,
+        begun, counters, norms, entries, counts, second, layers, list,
     ))
 }

@@ -11,6 +11,7 @@ ghost use Rattle.univmon_merge_indexed.specs.Merges.{merged_index, indexed_merge
 
 use crate::layers::merge_layers;
 use header::Header;
+use layout::LentState;
 use layout_index::check_indexed;
 use refusal::Refusal;
 use univmon_merge::check_merge;
@@ -38,34 +39,27 @@ pub fn merge_indexed(
         ≡ list_left (refused result) (merge_answers (view (lent_in header counters norms entries counts)) (view (lent other other_counters.now other_norms.now other_entries.now other_counts.now))) list.old }
 {
     check_indexed(header, &*counters, &*norms, &*entries, &*counts, &*index)?;
+    let second = LentState {
+        header: &other,
+        counters: other_counters,
+        norms: other_norms,
+        entries: other_entries,
+        counts: other_counts,
+    };
     check_merge(
-        header,
-        &*counters,
-        &*norms,
-        &*entries,
-        &*counts,
-        other,
-        other_counters,
-        other_norms,
-        other_entries,
-        other_counts,
+        LentState {
+            header: &header,
+            counters: &*counters,
+            norms: &*norms,
+            entries: &*entries,
+            counts: &*counts,
+        },
+        second,
         list.len(),
     )?;
     let layers = header.shape.layers;
     let begun = header.begin(other.totals, other.mode);
     Ok(merge_layers(
-        begun,
-        counters,
-        norms,
-        entries,
-        counts,
-        index,
-        other,
-        other_counters,
-        other_norms,
-        other_entries,
-        other_counts,
-        layers,
-        list,
+        begun, counters, norms, entries, counts, index, second, layers, list,
     ))
 }

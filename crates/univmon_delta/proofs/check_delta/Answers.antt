@@ -5,7 +5,8 @@ use mathlib.Core.List.{◌++◌}
 use native.Mathlib.Omega.{arith}
 use borrow.Author.Tests.{eq-eqb, ne_eqb, le-leb, lt-leb, not-false}
 use mir.Facts.{to_z-of_z}
-use Rattle.layout.specs.Slices.{lent, Lent}
+use Rattle.layout.specs.Slices.{Lent}
+use Rattle.layout.specs.Lending.{lent_read}
 use Rattle.layout.specs.Outcomes.{lent_tests}
 use Rattle.layout.proofs.Lengths.{standing_of}
 use Rattle.layout.specs.inner.Needs.{Standing}
@@ -23,7 +24,7 @@ use Rattle.univmon_delta.proofs.check_delta.Goals.{After-check_layer, In_ok-chec
 
 -- the state that is lent
 abbrev lent_of : Start → Lent
-lent_of c = lent c.args.h c.args.counters.now c.args.norms.now c.args.entries.now c.args.counts.now
+lent_of c = lent_read c.args.state
 
 -- the delta, of either fidelity
 abbrev delta-of : Start → Fidelity → Arrival
@@ -31,7 +32,7 @@ delta-of c f = arrival c.args.l c.args.row c.args.col c.args.count f
 
 -- a refusal by a test before the list's
 first : (c : Start) (f : Fidelity) (m : ℕ) → m ≡ number (delta_tests (lent_of c) c.args.«record».now (delta-of c f)) → (m ≡ 0 → ⊥)
-    → m ≡ number (delta_tests (lent_of c) c.args.«record».now (delta-of c f) ++ list_tests (2 * c.args.h.shape.layers) c.args.list)
+    → m ≡ number (delta_tests (lent_of c) c.args.«record».now (delta-of c f) ++ list_tests (2 * c.args.state.header.now.shape.layers) c.args.list)
 first c f m e h = first_number (lent_of c) c.args.«record».now (delta-of c f) c.args.list m e h
 
 -- header and lengths were found right

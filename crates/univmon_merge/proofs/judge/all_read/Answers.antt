@@ -2,7 +2,8 @@
 use Rattle.std.proofs.Common.{◌∙◌, rules, arith}
 use Rattle.std.proofs.lemmas.Iterator.{YieldsList-from_range}
 use Rattle.std.proofs.lemmas.Iterator.Search.{all_from_yields_List}
-use Rattle.layout.specs.Slices.{lent, view, Lent}
+use Rattle.layout.specs.Slices.{view, Lent}
+use Rattle.layout.specs.Lending.{lent_read}
 use Rattle.layout.specs.State.{all_layers, layer_at}
 use Rattle.layout.proofs.States.{layers-step, layers-none}
 use Rattle.univmon_merge.specs.inner.Pairs.{reads_with}
@@ -12,10 +13,10 @@ use Rattle.univmon_merge.proofs.judge.all_read.Goals.{Start}
 
 -- the two states that are lent
 abbrev lent_of : Start → Lent
-lent_of c = lent c.args.h c.args.counters.now c.args.norms.now c.args.entries.now c.args.counts.now
+lent_of c = lent_read c.args.state
 
 abbrev other-of : Start → Lent
-other-of c = lent c.args.other c.args.other_counters.now c.args.other_norms.now c.args.other_entries.now c.args.other_counts.now
+other-of c = lent_read c.args.other
 
 pub returns : goal.returns
 returns c =

@@ -1,7 +1,8 @@
 -- `univmon_merge::judge::check_layers` meets its contract.
 use mathlib.Core.Path.{◌≡◌, sym, ◌∙◌}
 use mathlib.Core.Bool.{true}
-use Rattle.layout.specs.Slices.{lent, view, Lent}
+use Rattle.layout.specs.Slices.{view, Lent}
+use Rattle.layout.specs.Lending.{lent_read}
 use Rattle.layout.specs.State.{all_layers}
 use Rattle.univmon_merge.specs.inner.Pairs.{reads_with}
 use Rattle.univmon_merge.proofs.judge.check_layers.Goals as goal
@@ -9,10 +10,10 @@ use Rattle.univmon_merge.proofs.judge.check_layers.Goals.{Else-not-all_read, Sta
 
 -- the two states that are lent
 abbrev lent_of : Start → Lent
-lent_of c = lent c.args.h c.args.counters.now c.args.norms.now c.args.entries.now c.args.counts.now
+lent_of c = lent_read c.args.state
 
 abbrev other-of : Start → Lent
-other-of c = lent c.args.other c.args.other_counters.now c.args.other_norms.now c.args.other_entries.now c.args.other_counts.now
+other-of c = lent_read c.args.other
 
 -- all that is read was found in range
 read : (c : Else-not-all_read) → all_layers (reads_with (view (other-of (goal.at.Else-not-all_read c).Start))) c.args.layers 0 (view (lent_of (goal.at.Else-not-all_read c).Start)) ≡ true

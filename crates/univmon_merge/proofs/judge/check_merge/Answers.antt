@@ -2,7 +2,8 @@
 use Prim.Native.Nat.{◌*◌, ◌≤◌}
 use mathlib.Core.Path.{◌≡◌, refl, sym, ap, ◌∙◌}
 use native.Mathlib.Omega.{arith}
-use Rattle.layout.specs.Slices.{lent, Lent}
+use Rattle.layout.specs.Slices.{Lent}
+use Rattle.layout.specs.Lending.{lent_read}
 use native.Mathlib.Nat.{mul-le-mul, le_refl}
 use Rattle.words.specs.Tests.{number}
 use Rattle.header.specs.Shape.{max_layers}
@@ -19,10 +20,10 @@ use Rattle.univmon_merge.proofs.judge.check_merge.Goals.{After-check_layers, In_
 
 -- the two states that are lent
 abbrev lent_of : Start → Lent
-lent_of c = lent c.args.h c.args.counters.now c.args.norms.now c.args.entries.now c.args.counts.now
+lent_of c = lent_read c.args.state
 
 abbrev other-of : Start → Lent
-other-of c = lent c.args.other c.args.other_counters.now c.args.other_norms.now c.args.other_entries.now c.args.other_counts.now
+other-of c = lent_read c.args.other
 
 -- what the stages found: nothing
 own : (c : In_ok-check_lent) → number (lent_tests (lent_of (goal.at.In_ok-check_lent c).Start)) ≡ 0
@@ -31,10 +32,10 @@ own c = sym c.in_ok-check_lent.ensures
 second : (c : In_ok-check_lent-2) → number (lent_tests (other-of (goal.at.In_ok-check_lent-2 c).Start)) ≡ 0
 second c = sym c.in_ok-check_lent-2.ensures
 
-heads : (c : In_ok-check_heads) → number (heads_tests c.args.h c.args.other) ≡ 0
+heads : (c : In_ok-check_heads) → number (heads_tests c.args.state.header.now c.args.other.header.now) ≡ 0
 heads c = sym c.in_ok-check_heads.ensures
 
-paired : (c : In_ok-check_heads) → Paired (lent_of (goal.at.In_ok-check_heads c).Start) (other-of (goal.at.In_ok-check_heads c).Start) c.args.h.shape.layers 0
+paired : (c : In_ok-check_heads) → Paired (lent_of (goal.at.In_ok-check_heads c).Start) (other-of (goal.at.In_ok-check_heads c).Start) c.args.state.header.now.shape.layers 0
 paired c = paired_of (lent_of (goal.at.In_ok-check_heads c).Start) (other-of (goal.at.In_ok-check_heads c).Start) (own (goal.at.In_ok-check_heads c).In_ok-check_lent) (second (goal.at.In_ok-check_heads c).In_ok-check_lent-2) (heads c)
 
 -- the number of all tests but the list's
@@ -42,8 +43,8 @@ judged : (c : After-check_layers) → refused c.check_layers.result ≡ number (
 judged c = c.check_layers.ensures ∙ pairs-number (lent_of (goal.at.After-check_layers c).Start) (other-of (goal.at.After-check_layers c).Start) (own (goal.at.After-check_layers c).In_ok-check_lent) (second (goal.at.After-check_layers c).In_ok-check_lent-2) (heads (goal.at.After-check_layers c).In_ok-check_heads)
 
 -- the places of all layers, in words
-words : (c : In_ok-check_heads) → let sh = c.args.h.shape in 4 * sh.heap_size * sh.layers ≤ 4 * sh.heap_size * max_layers
-words c = mul-le-mul (le_refl (4 * c.args.h.shape.heap_size)) (paired c).standing.accepted.few
+words : (c : In_ok-check_heads) → let sh = c.args.state.header.now.shape in 4 * sh.heap_size * sh.layers ≤ 4 * sh.heap_size * max_layers
+words c = mul-le-mul (le_refl (4 * c.args.state.header.now.shape.heap_size)) (paired c).standing.accepted.few
 
 none : (c : In_ok-check_layers) → number (merge_tests (lent_of (goal.at.In_ok-check_layers c).Start) (other-of (goal.at.In_ok-check_layers c).Start)) ≡ 0
 none c = sym (judged (goal.at.In_ok-check_layers c).After-check_layers) ∙ ap refused c.in_ok-check_layers.was
@@ -74,16 +75,16 @@ returns-in_err-check_layers c =
     let p = err_from_is_err_and c.from_residual-in_err-check_layers.result c.from_residual-in_err-check_layers.ensures.1 in
     rw (p.1, p.2) (tests_refused (lent_of (goal.at.returns-in_err-check_layers c).Start) (other-of (goal.at.returns-in_err-check_layers c).Start) c.args.list (number_of c.in_err-check_layers.field-0.0) (rw c.in_err-check_layers.was at (judged (goal.at.returns-in_err-check_layers c).After-check_layers)) (number-ne0 c.in_err-check_layers.field-0.0))
 
-pub overflow_mul-h : goal.overflow_mul-h
-overflow_mul-h c = record { fits = omega (arith, (paired (goal.at.overflow_mul-h c).In_ok-check_heads).standing.accepted.small) }
+pub overflow_mul-shape : goal.overflow_mul-shape
+overflow_mul-shape c = record { fits = omega (arith, (paired (goal.at.overflow_mul-shape c).In_ok-check_heads).standing.accepted.small) }
 
-pub overflow_mul-h-2 : goal.overflow_mul-h-2
-overflow_mul-h-2 c = record { fits = omega (arith, words (goal.at.overflow_mul-h-2 c).In_ok-check_heads, (paired (goal.at.overflow_mul-h-2 c).In_ok-check_heads).standing.accepted.small) }
+pub overflow_mul-shape-2 : goal.overflow_mul-shape-2
+overflow_mul-shape-2 c = record { fits = omega (arith, words (goal.at.overflow_mul-shape-2 c).In_ok-check_heads, (paired (goal.at.overflow_mul-shape-2 c).In_ok-check_heads).standing.accepted.small) }
 
-pub returns-then-list-h : goal.returns-then-list-h
+pub returns-then-list-shape : goal.returns-then-list-shape
 unfolding merge_tests
-returns-then-list-h c = list-short (merge_tests (lent_of (goal.at.returns-then-list-h c).Start) (other-of (goal.at.returns-then-list-h c).Start)) _ c.args.list refl (none (goal.at.returns-then-list-h c).In_ok-check_layers) c.if-list-h.true
+returns-then-list-shape c = list-short (merge_tests (lent_of (goal.at.returns-then-list-shape c).Start) (other-of (goal.at.returns-then-list-shape c).Start)) _ c.args.list refl (none (goal.at.returns-then-list-shape c).In_ok-check_layers) c.if-list-shape.true
 
 pub returns : goal.returns
 unfolding merge_tests
-returns c = list_enough (merge_tests (lent_of (goal.at.returns c).Start) (other-of (goal.at.returns c).Start)) _ c.args.list refl (none (goal.at.returns c).In_ok-check_layers) c.if-list-h.false
+returns c = list_enough (merge_tests (lent_of (goal.at.returns c).Start) (other-of (goal.at.returns c).Start)) _ c.args.list refl (none (goal.at.returns c).In_ok-check_layers) c.if-list-shape.false

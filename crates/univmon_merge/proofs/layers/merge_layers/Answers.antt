@@ -1,6 +1,7 @@
 -- `univmon_merge::layers::merge_layers` meets its contract.
 use native.Mathlib.Omega.{arith}
 use Rattle.layout.specs.Slices.{lent, Lent}
+use Rattle.layout.specs.Lending.{lent_read}
 use Rattle.layout.proofs.Telling.{told-start, told_end}
 use Rattle.univmon_merge.proofs.Pairings.{merging_start, merging_ready, merging_on, merging_room, merging_told, merging_end}
 use Rattle.univmon_merge.proofs.layers.merge_layers.Goals as goal
@@ -11,7 +12,7 @@ abbrev lent_of : Start → Lent
 lent_of c = lent c.args.h c.args.counters.now c.args.norms.now c.args.entries.now c.args.counts.now
 
 abbrev other-of : Start → Lent
-other-of c = lent c.args.other c.args.other_counters.now c.args.other_norms.now c.args.other_entries.now c.args.other_counts.now
+other-of c = lent_read c.args.other
 
 abbrev lent-here : At-loop-l → Lent
 lent-here c = lent c.loop-l.header c.loop-l.counters c.loop-l.norms c.loop-l.entries c.loop-l.counts
