@@ -1,7 +1,8 @@
 // Whole numbers as floats, the correctly rounded root, and floats cut to whole numbers.
 //
-// Rattle has no root, so it is worked out here. Every function takes every input: what it answers at a
-// NaN, an infinity or a number below zero is part of its definition, and no caller has to rule one out.
+// The contract with the user has the root worked out by the program, digit by digit, and the digits counted.
+// Every function takes every input: what it answers at a NaN, an infinity or a number below zero is part of its
+// definition, and no caller has to rule one out.
 
 #![tactic(auto)]
 

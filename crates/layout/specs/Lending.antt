@@ -2,10 +2,7 @@
 use Rattle.std.specs.Prelude.{ℕ, ℤ}
 use Rattle.words.specs.Lending.{SliceNow, SliceBoth}
 use Rattle.header.specs.declared.Header.{Header}
-use Rattle.layer.specs.Layer.{Layer}
-use Rattle.layer.specs.inner.Needs.{layer_of}
 use Rattle.layout.specs.declared.lending.LentState.{LentState}
-use Rattle.layout.specs.declared.lending.LentLayer.{LentLayer}
 use Rattle.layout.specs.Slices.{Lent, lent}
 
 abbrev pub lent_now : Header → SliceNow ℤ → SliceNow ℕ → SliceNow ℕ → SliceNow ℤ → Lent
@@ -18,9 +15,6 @@ lent_in h xs ws es ns = lent h xs.entry.now ws.entry.now es.entry.now ns.entry.n
 abbrev pub lent_out : Header → SliceBoth ℤ → SliceBoth ℕ → SliceBoth ℕ → SliceBoth ℤ → Lent
 lent_out h xs ws es ns = lent h xs.exit.now ws.exit.now es.exit.now ns.exit.now
 
--- of one struct: the state, and a layer of it
+-- of one struct
 abbrev pub lent_read : LentState → Lent
 lent_read s = lent s.header.now s.counters.now s.norms.now s.entries.now s.counts.now
-
-abbrev pub layer_read : LentLayer → Layer
-layer_read y = layer_of y.dims y.cells.now y.norms.now y.entries.now y.counts.now y.len y.flag

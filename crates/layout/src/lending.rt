@@ -5,7 +5,8 @@ ghost use Rattle.layer.specs.inner.Needs.{Housed};
 ghost use Rattle.layout.specs.State.{dims_at, layer_at};
 ghost use Rattle.layout.specs.Slices.{view};
 ghost use Rattle.layout.specs.inner.Needs.{Standing};
-ghost use Rattle.layout.specs.Lending.{lent_read, layer_read};
+ghost use Rattle.layout.specs.Lending.{lent_read};
+ghost use Rattle.layout.specs.inner.Lending.{layer_read};
 
 use crate::parts::{cells_at, norms_at, seats_at, words_at};
 use header::Header;

@@ -118,7 +118,7 @@ pub fn check_lent(
 }
 
 // Where a layer's counters, norm words, entry words and counts stand.
-#[derive(Drop)]
+#[derive(Clone, Drop)]
 pub struct Span {
     pub cells: Range<usize>,
     pub norms: Range<usize>,

@@ -3,7 +3,8 @@ ghost use Rattle.std.specs.Prelude.{◌≡◌, ℕ, ◌*◌, length};
 ghost use Rattle.layer.specs.inner.Needs.{Housed};
 ghost use Rattle.layout.specs.Slices.{view, lent};
 ghost use Rattle.layout.specs.inner.Needs.{Standing};
-ghost use Rattle.layout.specs.Lending.{lent_read, layer_read};
+ghost use Rattle.layout.specs.Lending.{lent_read};
+ghost use Rattle.layout.specs.inner.Lending.{layer_read};
 ghost use Rattle.state_check.specs.Check.{layer_ok, layers_ok, state_ok};
 
 use crate::candidates::seats_ok;

@@ -137,7 +137,7 @@ fn accepted(
     }
 }
 
-// A refused text: 0 where the header is zero and the slices are as they were, else 2.
+// A refused text: 0 where the slices are as they were, else 2.
 fn refused(output: Stdout, n: u64, kept: bool, aloud: bool) -> io::Result<u64> {
     if aloud {
         let bit = u64::from(kept);

@@ -16,8 +16,7 @@ use header::Header;
 use refusal::Refusal;
 use univmon::{Kind, begins, mode_of};
 
-// An update of either kind, on any arguments: 9, 12, 5, 6, 7, 14, 9, 11, 9, 16. The lent lengths and flags
-// are put back after a refusal too: a refused update has not changed them, so no second copy is kept.
+// An update of either kind, on any arguments: 9, 12, 5, 6, 7, 14, 9, 11, 9, 16.
 fn update_held(
     kind: Kind,
     header: Header,

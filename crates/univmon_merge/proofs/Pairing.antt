@@ -22,7 +22,7 @@ use Rattle.layout.specs.declared.Span.{Span}
 use Rattle.layout.specs.declared.lending.LentLayer.{LentLayer}
 use Rattle.layout.specs.State.{dims_at, layer_at}
 use Rattle.layout.specs.Slices.{Lent, view}
-use Rattle.layout.specs.Lending.{layer_read}
+use Rattle.layout.specs.inner.Lending.{layer_read}
 use Rattle.layout.specs.inner.Telling.{put_places}
 use Rattle.layout.proofs.Pieces.{Piece, piece}
 use Rattle.layout.proofs.Views.{shape_by}

@@ -1,5 +1,4 @@
-// What a merge reads of two states, whether the sums fit, and the number that it is refused with: nothing
-// is written here.
+// What a merge reads of two states, whether the sums fit, and what it is refused with: nothing is written here.
 ghost use Rattle.refusal.specs.Refusals.{refused};
 ghost use Rattle.std.specs.Prelude.{◌≡◌, ◌++◌, ◌*◌};
 ghost use Rattle.words.specs.Tests.{number};

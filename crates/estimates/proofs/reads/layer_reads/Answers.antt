@@ -6,7 +6,7 @@ use Rattle.words.proofs.Bools.{never}
 use Rattle.countsketch_l2_norm.specs.Norms.{norms_of}
 use Rattle.countsketch_l2_norm.specs.L2 as norm
 use Rattle.layer.specs.inner.Gather.{items_of}
-use Rattle.layout.specs.Lending.{layer_read}
+use Rattle.layout.specs.inner.Lending.{layer_read}
 use Rattle.estimates.specs.Sums.{items_read, layer_reads}
 use Rattle.estimates.proofs.Layers.{reads_are}
 use Rattle.estimates.proofs.reads.layer_reads.Goals as goal

@@ -5,7 +5,7 @@ use Rattle.header.specs.declared.Shape.{Shape}
 use Rattle.layer.specs.declared.Dims.{Dims}
 use Rattle.layer.specs.Merge.{merge_reads, merge_fits}
 use Rattle.layout.specs.State.{dims_at}
-use Rattle.layout.specs.Lending.{layer_read}
+use Rattle.layout.specs.inner.Lending.{layer_read}
 use Rattle.univmon_merge.proofs.Pairing.{cells_read}
 use Rattle.univmon_merge.proofs.judge.fits_at.Goals as goal
 
