@@ -1,14 +1,15 @@
 -- The gap that the root's key leaves: passed over, closed and filled, on the table itself or on a copy.
 use mathlib.Core.Path.{◌≡◌, refl, sym, ap, ◌∙◌, subst}
 use mathlib.Core.Logic.{◌≢◌}
-use mathlib.Core.Bool.{Bool, true, false, cond, not, false≢true}
+use mathlib.Core.Bool.{Bool, true, false, cond, not}
 use mathlib.Core.List.{List}
 use Prim.Native.Nat.{ℕ, suc, ◌-◌, ◌*◌, ◌≤◌, ◌<◌}
 use native.Mathlib.Omega.{arith}
-use lib.ListN.{length, get_or, set, length-set}
+use lib.ListN.{length, get_or, set}
 use lib.Seq.{get_or-set_same}
 use lib.IntN.{ℤ}
-use borrow.Author.Tests.{eq-eqb, ne_eqb, lt-ltb, le-leb, lt-leb}
+use lib.Dec.{leb}
+use borrow.Author.Tests.{eq-eqb, ne_eqb, lt-ltb}
 use Rattle.heap_moves.specs.declared.Item.{Item}
 use Rattle.heap_moves.specs.Cands.{Cand}
 use Rattle.heap_moves.specs.Flat.{cands_of, cand_of}
@@ -29,22 +30,14 @@ name_key es ns n w e z h = key-read es ns (w - 1) (omega (arith, name_le n (cand
 
 -- ---- one place: its entry stays, or moves into the gap
 
--- what a test says that was not met
-pub unmet : {A : Type 0} → false ≡ true → A
-unmet e = absurd (false≢true e)
-
 module _ (xs : List ℕ) (n : ℕ) (cs : List Cand) (g p : ℕ) (z : word xs p ≢ 0) (w : is_name n cs (word xs p) ≡ true) (key h back way : ℕ) (ek : key_on xs cs p ≡ key) (eh : h ≡ home (length xs) key)
     (eb : back ≡ dist (length xs) g p) (ew : way ≡ dist (length xs) h p) where
   from_home : dist (length xs) (home (length xs) (key_on xs cs p)) p ≡ way
   from_home = ap (λ (x : ℕ). dist (length xs) x p) (ap (home (length xs)) ek ∙ sym eh) ∙ sym ew
 
-  pub stay_on : way < back → (f : ℕ) → close (suc f) xs n cs g p ≡ close f xs n cs g (next_place (length xs) p)
+  pub gap_step : (f : ℕ) → close (suc f) xs n cs g p ≡ cond (leb back way) (close f (set (set xs g (word xs p)) p 0) n cs p (next_place (length xs) p)) (close f xs n cs g (next_place (length xs) p))
   unfolding close
-  stay_on l f = rw (ne_eqb (word xs p) 0 z, w, lt-leb (dist (length xs) g p) (dist (length xs) (home (length xs) (key_on xs cs p)) p) (omega (arith, from_home, eb, l)))
-
-  pub move_on : back ≤ way → (f : ℕ) → close (suc f) xs n cs g p ≡ close f (set (set xs g (word xs p)) p 0) n cs p (next_place (length xs) p)
-  unfolding close
-  move_on l f = rw (ne_eqb (word xs p) 0 z, w, le-leb (dist (length xs) g p) (dist (length xs) (home (length xs) (key_on xs cs p)) p) (omega (arith, from_home, eb, l)))
+  gap_step f = rw (ne_eqb (word xs p) 0 z, w, from_home, sym eb)
 
 -- ---- places that are passed over
 
@@ -53,21 +46,6 @@ pub record Skipping (xs : List ℕ) (n : ℕ) (cs : List Cand) (g start many pla
   pub goes : close left xs n cs g place ≡ close many xs n cs g start
   pub here : place < length xs
   pub most : left ≤ many
-
-pub skip-start : (xs : List ℕ) (n : ℕ) (cs : List Cand) (g start many : ℕ) → start < length xs → Skipping xs n cs g start many start many
-skip-start xs n cs g start many h = record { goes = refl; here = h; most = omega arith }
-
-pub skip_on : (xs : List ℕ) (n : ℕ) (cs : List Cand) (g start many place place' left : ℕ) → Skipping xs n cs g start many place left → 0 < left
-    → ((f : ℕ) → close (suc f) xs n cs g place ≡ close f xs n cs g (next_place (length xs) place)) → (place' ≡ next_place (length xs) place) × (place' < length xs)
-    → Skipping xs n cs g start many place' (left - 1)
-skip_on xs n cs g start many place place' left v h stays to =
-    record {
-      goes =
-          ap (close (left - 1) xs n cs g) to.0 ∙ sym (stays (left - 1))
-          ∙ ap (λ (x : ℕ). close x xs n cs g place) (omega (arith, h)) ∙ v.goes;
-      here = to.1;
-      most = omega (arith, v.most);
-    }
 
 -- ---- closed, and the new key comes in
 
@@ -116,9 +94,6 @@ module _ (xs : List ℕ) (n : ℕ) (cs : List Cand) (g p f q k : ℕ) (skipped :
 pub gap_back : (xs ys : List ℕ) (g p : ℕ) → word xs g ≡ 0 → word xs p ≢ 0 → ys ≡ set (set xs g (word xs p)) p 0 → set (set ys g 0) p (word xs p) ≡ xs
 gap_back xs ys g p e z q =
     ap (λ (l : List ℕ). set (set l g 0) p (word xs p)) q ∙ set_back 0 xs g p (word xs p) 0 0 (word xs p) (λ s. z (sym (ap (word xs) s) ∙ e)) e refl
-
-pub gap_zero : (xs : List ℕ) (g p x : ℕ) → p < length xs → word (set (set xs g x) p 0) p ≡ 0
-gap_zero xs g p x h = get_or-set_same (set xs g x) p 0 0 (subst (λ (l : ℕ). p < l) (sym (length-set xs g x)) h)
 
 -- ---- out and in, from the place of the root's key
 

@@ -1,5 +1,5 @@
 // The gap that a displaced key leaves, closed and the new key come in, tried.
-ghost use Rattle.std.specs.Prelude.{◌≡◌, true, ℕ, suc, ◌*◌, ◌≤◌, ◌<◌, length, set};
+ghost use Rattle.std.specs.Prelude.{◌≡◌, cond, IfSome, ℕ, suc, ◌*◌, ◌≤◌, ◌<◌, length, set};
 ghost use Rattle.heap_moves.specs.Flat.{cands_of, cand_of};
 ghost use Rattle.heap.specs.inner.Slices.{table_of};
 ghost use Rattle.heap_index.specs.Index.{word, close, next_place};
@@ -73,26 +73,35 @@ fn try_come_in(
     r
 }
 
-// Whether the place p names a candidate whose lookup does not pass the gap at g.
-fn stays(index: &[u64], entries: &[u64], counts: &[i64], n: usize, g: usize, p: usize) -> bool
+// Whether the lookup of the candidate named at the place p passes the gap at g, so that the word moves there;
+// `None` where no candidate is named.
+fn passes_gap(
+    index: &[u64],
+    entries: &[u64],
+    counts: &[i64],
+    n: usize,
+    g: usize,
+    p: usize,
+) -> Option<bool>
     requires cover { Cover (length entries.now) (length counts.now) n }
     requires g_in_bounds { (g < length index.now) × (p < length index.now) }
-    ensures { result ≡ true → (f : ℕ) → close (suc f) index.now n (cands_of entries.now counts.now) g p
-        ≡ close f index.now n (cands_of entries.now counts.now) g (next_place (length index.now) p) }
+    ensures { IfSome result (λ moves. (f : ℕ) → close (suc f) index.now n (cands_of entries.now counts.now) g p
+        ≡ cond moves (close f (set (set index.now g (word index.now p)) p 0) n (cands_of entries.now counts.now) p (next_place (length index.now) p))
+        (close f index.now n (cands_of entries.now counts.now) g (next_place (length index.now) p))) }
 {
     let x = index[p];
     if x == 0 {
-        return false;
+        return None;
     }
     if !heap_index::is_name(counts, n, x) {
-        return false;
+        return None;
     }
     let m = index.len();
     let i = x as usize - 1;
     let h = heap_index::home_of(m, entries[4 * i]);
     let back = heap_index::steps(m, g, p);
     let way = heap_index::steps(m, h, p);
-    way < back
+    Some(back <= way)
 }
 
 // From p on, over at most `many` places, those whose entries' lookups do not pass the gap at g: where they end,
@@ -114,34 +123,15 @@ fn skip(
     let m = index.len();
     let mut place = start;
     for passed in 0..many {
-        if !stays(index, entries, counts, n, g, place) {
+        let Some(false) = passes_gap(index, entries, counts, n, g, place) else {
             return Spot {
                 place,
                 left: many - passed,
             };
-        }
+        };
         place = heap_index::after(m, place);
     }
     Spot { place, left: 0 }
-}
-
-// Whether the place p names a candidate whose lookup passes the gap at g, so that it moves there.
-fn moves(index: &[u64], entries: &[u64], counts: &[i64], n: usize, g: usize, p: usize) -> bool
-    requires cover { Cover (length entries.now) (length counts.now) n }
-    requires g_in_bounds { (g < length index.now) × ((p < length index.now) × (0 < word index.now p)) }
-    ensures { result ≡ true → (f : ℕ) → close (suc f) index.now n (cands_of entries.now counts.now) g p
-        ≡ close f (set (set index.now g (word index.now p)) p 0) n (cands_of entries.now counts.now) p (next_place (length index.now) p) }
-{
-    let x = index[p];
-    if !heap_index::is_name(counts, n, x) {
-        return false;
-    }
-    let m = index.len();
-    let i = x as usize - 1;
-    let h = heap_index::home_of(m, entries[4 * i]);
-    let back = heap_index::steps(m, g, p);
-    let way = heap_index::steps(m, h, p);
-    back <= way
 }
 
 // The gap at g is closed from p on, over at most `many` places, and the new key comes in; whether nothing was
@@ -235,9 +225,9 @@ pub fn try_close(
     if depth == 0 {
         return close_on_copy(&*index, &*entries, &*counts, n, w, v, g, q, left);
     }
-    if !moves(&*index, &*entries, &*counts, n, g, q) {
+    let Some(true) = passes_gap(&*index, &*entries, &*counts, n, g, q) else {
         return close_on_copy(&*index, &*entries, &*counts, n, w, v, g, q, left);
-    }
+    };
     let m = index.len();
     let next = heap_index::after(m, q);
     index[g] = x;
