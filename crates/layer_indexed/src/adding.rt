@@ -5,14 +5,16 @@ ghost use Rattle.heap.specs.Offer.{len_by, kept_by};
 ghost use Rattle.layer.specs.Layer.{layer_update};
 ghost use Rattle.layer.specs.inner.Needs.{Untouched, layer_of, layer_in, layer_out};
 ghost use Rattle.layer_indexed.specs.Adding.{add_layer_in, add_index_in, add_answer_in};
-ghost use Rattle.layer_indexed.specs.inner.Needs.{Seated, AddReadyIn, read_grade, add_grade};
+ghost use Rattle.layer_indexed.specs.inner.Needs.{Seated, AddReadyIn, grade_number, read_grade, add_grade};
 
+use crate::grades::Grade;
 use crate::looks::key_looked;
 use heap::Answer;
 use heap_moves::Item;
 use layer::Dims;
 
-// 1 where what an update reads first is out of range, else 2: of an update whose rows are not ready, why.
+// Of an update whose rows are not ready, why: what it reads first is out of range, or else a counter would leave
+// the range.
 #[tactic(auto, unfolding(crate::specs::Adding::add_reads_in))]
 fn unready_grade(
     counters: &[i64],
@@ -23,16 +25,16 @@ fn unready_grade(
     d: Dims,
     len: usize,
     item: Item,
-) -> u64
+) -> Grade
     requires { Seated d (length counters.now) (length norms.now) (length entries.now) (length counts.now) (length index.now) len }
-    ensures { (flag : Bool) (w : ℕ) → result ≡ read_grade d (layer_update item w) index.now (layer_of d counters.now norms.now entries.now counts.now len flag) }
+    ensures { (flag : Bool) (w : ℕ) → grade_number result ≡ read_grade d (layer_update item w) index.now (layer_of d counters.now norms.now entries.now counts.now len flag) }
 {
     if countsketch_l2_norm::rows_read(counters, norms, d.rows, d.cols, item.high, item.low)
         && key_looked(index, entries, counts, len, item.key)
     {
-        2
+        Grade::Above
     } else {
-        1
+        Grade::Unread
     }
 }
 
@@ -48,10 +50,10 @@ pub fn add_grade(
     len: usize,
     item: Item,
     weight: u64,
-) -> u64
+) -> Grade
     requires seated { Seated d (length counters.now) (length norms.now) (length entries.old) (length counts.old) (length index.old) len }
     requires weight_le_top { weight ≤ top }
-    ensures value { (flag : Bool) → result ≡ add_grade d (layer_update item weight) index.old (layer_of d counters.now norms.now entries.old counts.old len flag) }
+    ensures value { (flag : Bool) → grade_number result ≡ add_grade d (layer_update item weight) index.old (layer_of d counters.now norms.now entries.old counts.old len flag) }
     ensures entries_unchanged { (entries.new ≡ entries.old) × ((counts.new ≡ counts.old) × (index.new ≡ index.old)) }
 {
     let ahead = countsketch_ahead::count_if_ready(
@@ -61,12 +63,12 @@ pub fn add_grade(
         return unready_grade(counters, norms, &*entries, &*counts, &*index, d, len, item);
     };
     if heap_trial::try_offer(index, entries, counts, d.size, len, item, count) {
-        return 4;
+        return Grade::Fine;
     }
     if key_looked(&*index, &*entries, &*counts, len, item.key) {
-        return 3;
+        return Grade::Unmoved;
     }
-    1
+    Grade::Unread
 }
 
 // Makes the update, and answers what the offer of the key did.
@@ -93,7 +95,7 @@ pub fn add(
     heap_indexed::offer(index, entries, counts, d.size, len, item, count).answer
 }
 
-// `add_grade`, and where it is 4 `add`; else `None`, and nothing is touched.
+// `add_grade`, and where it is fine `add`; else `None`, and nothing is touched.
 pub fn add_if_fine(
     counters: &mut [i64],
     norms: &mut [u64],
@@ -117,7 +119,7 @@ pub fn add_if_fine(
     let grade = add_grade(
         &*counters, &*norms, entries, counts, index, d, len, item, weight,
     );
-    if grade != 4 {
+    if grade != Grade::Fine {
         return None;
     }
     Some(add(

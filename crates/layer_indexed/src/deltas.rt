@@ -5,8 +5,9 @@ ghost use Rattle.heap.specs.Offer.{len_by, kept_by};
 ghost use Rattle.layer.specs.Layer.{count_of};
 ghost use Rattle.layer.specs.inner.Needs.{delta, layer_of, layer_in, layer_out};
 ghost use Rattle.layer_indexed.specs.Adding.{delta_layer_in, delta_index_in, delta_answer_in, delta_reads_in};
-ghost use Rattle.layer_indexed.specs.inner.Needs.{Seated, CountableBehind, DeltaReadyIn, delta_grade};
+ghost use Rattle.layer_indexed.specs.inner.Needs.{Seated, CountableBehind, DeltaReadyIn, grade_number, delta_grade};
 
+use crate::grades::Grade;
 use crate::looks::key_looked;
 use heap::Answer;
 use heap_moves::Item;
@@ -70,26 +71,26 @@ pub fn delta_grade(
     col: usize,
     count: i64,
     item: Item,
-) -> u64
+) -> Grade
     requires seated { Seated d (length counters.old) (length norms.now) (length entries.old) (length counts.old) (length index.old) len }
     requires row_lt_rows { (row < d.rows) × (col < d.cols) }
-    ensures value { (flag every : Bool) → result ≡ delta_grade d (delta row col count item every) index.old (layer_of d counters.old norms.now entries.old counts.old len flag) }
+    ensures value { (flag every : Bool) → grade_number result ≡ delta_grade d (delta row col count item every) index.old (layer_of d counters.old norms.now entries.old counts.old len flag) }
     ensures counters_unchanged { (counters.new ≡ counters.old)
         × ((entries.new ≡ entries.old) × ((counts.new ≡ counts.old) × (index.new ≡ index.old))) }
 {
     if !delta_reads(
         &*counters, norms, &*entries, &*counts, &*index, d, len, row, col, item,
     ) {
-        return 1;
+        return Grade::Unread;
     }
     if !countsketch_l2_norm::cell_fits(&*counters, d.rows, d.cols, row, col, count) {
-        return 2;
+        return Grade::Above;
     }
     let n = count_behind(counters, d, row, col, count, item);
     if heap_trial::try_offer(index, entries, counts, d.size, len, item, n) {
-        return 4;
+        return Grade::Fine;
     }
-    3
+    Grade::Unmoved
 }
 
 // Makes the delta, and answers what the offer of the key did.

@@ -9,6 +9,7 @@ ghost use Rattle.words.specs.Tests.{number};
 ghost use Rattle.heap.specs.inner.Telling.{tell_at};
 ghost use Rattle.layer.specs.inner.Needs.{delta};
 ghost use Rattle.layer_indexed.specs.Adding.{delta_layer_in, delta_index_in, delta_answer_in};
+ghost use Rattle.layer_indexed.specs.inner.Needs.{grade_number};
 ghost use Rattle.layout.specs.State.{dims_at, layer_at, put_layer};
 ghost use Rattle.layout.specs.Slices.{view, lent};
 ghost use Rattle.layout.specs.Records.{item_at};
@@ -24,22 +25,21 @@ ghost use Rattle.univmon_delta_indexed.specs.Deltas.{arrived_index, delta_answer
 ghost use Rattle.univmon_delta_indexed.specs.inner.Needs.{PlacedIn, ArrivesIn};
 
 use header::Header;
+use layer_indexed::Grade;
 use layout::{dims, item_in, norms_at, span_of, zero_places};
 use layout_index::{check_indexed, table_span};
 use refusal::Refusal;
 use univmon_delta::{Fidelity, begin_delta, every_insert, kept_all};
 
 // Whether a grade is refused.
-fn check_grade(grade: u64) -> Result<(), Refusal>
-    ensures { refused result ≡ cond (eqb grade 4) 0 (cond (eqb grade 2) 11 9) }
+fn check_grade(grade: Grade) -> Result<(), Refusal>
+    ensures { refused result ≡ cond (eqb (grade_number grade) 4) 0 (cond (eqb (grade_number grade) 2) 11 9) }
 {
-    if grade == 4 {
-        return Ok(());
+    match grade {
+        Grade::Unread | Grade::Unmoved => Err(Refusal::OutOfRange),
+        Grade::Above => Err(Refusal::CounterAbove),
+        Grade::Fine => Ok(()),
     }
-    if grade == 2 {
-        return Err(Refusal::CounterAbove);
-    }
-    Err(Refusal::OutOfRange)
 }
 
 // Whether the delta may be made: 9 if something that it reads first is out of range, 11 if its counter would leave

@@ -4,6 +4,7 @@ ghost use Rattle.refusal.specs.Refusals.{refused};
 ghost use Rattle.std.specs.Prelude.{◌≡◌, ℕ};
 ghost use Rattle.words.specs.Tests.{number};
 ghost use Rattle.header.specs.Lending.{head_now};
+ghost use Rattle.layer_indexed.specs.inner.Needs.{grade_number};
 ghost use Rattle.layout.specs.State.{layer_at, all_layers};
 ghost use Rattle.layout.specs.Slices.{view, lent};
 ghost use Rattle.univmon_indexed.specs.Updates.{layers_tests_in};
@@ -11,6 +12,7 @@ ghost use Rattle.univmon_indexed.specs.inner.Needs.{JudgeReadyIn, grade_in, reac
 ghost use Rattle.header.specs.Header.{head_of};
 
 use header::Scalars;
+use layer_indexed::Grade;
 use layout::{cells_at, dims, item_in, norms_at, span_of};
 use layout_index::table_span;
 use refusal::Refusal;
@@ -28,9 +30,9 @@ fn grade_at(
     record: &[u64],
     weight: u64,
     l: usize,
-) -> u64
+) -> Grade
     requires { JudgeReadyIn (lent (head_now h lens flags) counters.now norms.now entries.old counts.old) index.old «record».now weight 1 l }
-    ensures value { result ≡ grade_in h.shape «record».now weight index.old l (layer_at (view (lent (head_of h lens.now flags.now) counters.now norms.now entries.old counts.old)) l) }
+    ensures value { grade_number result ≡ grade_in h.shape «record».now weight index.old l (layer_at (view (lent (head_of h lens.now flags.now) counters.now norms.now entries.old counts.old)) l) }
     ensures entries_unchanged { (entries.new ≡ entries.old) × ((counts.new ≡ counts.old) × (index.new ≡ index.old)) }
 {
     let shape = h.shape;
@@ -66,17 +68,17 @@ pub fn all_reach(
     weight: u64,
     first: usize,
     many: usize,
-    grade: u64,
+    grade: Grade,
 ) -> bool
     requires { JudgeReadyIn (lent (head_now h lens flags) counters.now norms.now entries.old counts.old) index.old «record».now weight many first }
-    ensures value { result ≡ all_layers (reaches_at grade h.shape «record».now weight index.old) many first (view (lent (head_of h lens.now flags.now) counters.now norms.now entries.old counts.old)) }
+    ensures value { result ≡ all_layers (reaches_at (grade_number grade) h.shape «record».now weight index.old) many first (view (lent (head_of h lens.now flags.now) counters.now norms.now entries.old counts.old)) }
     ensures entries_unchanged { (entries.new ≡ entries.old) × ((counts.new ≡ counts.old) × (index.new ≡ index.old)) }
 {
     for l in first..first + many {
         let here = grade_at(
             h, lens, flags, counters, norms, entries, counts, index, record, weight, l,
         );
-        if here < grade {
+        if !here.reaches(grade) {
             return false;
         }
     }
@@ -105,17 +107,53 @@ pub fn check_layers(
     ensures entries_unchanged { (entries.new ≡ entries.old) × ((counts.new ≡ counts.old) × (index.new ≡ index.old)) }
 {
     if !all_reach(
-        h, lens, flags, counters, norms, entries, counts, index, record, weight, first, many, 2,
+        h,
+        lens,
+        flags,
+        counters,
+        norms,
+        entries,
+        counts,
+        index,
+        record,
+        weight,
+        first,
+        many,
+        Grade::Above,
     ) {
         return Err(Refusal::OutOfRange);
     }
     if !all_reach(
-        h, lens, flags, counters, norms, entries, counts, index, record, weight, first, many, 3,
+        h,
+        lens,
+        flags,
+        counters,
+        norms,
+        entries,
+        counts,
+        index,
+        record,
+        weight,
+        first,
+        many,
+        Grade::Unmoved,
     ) {
         return Err(Refusal::CounterAbove);
     }
     if !all_reach(
-        h, lens, flags, counters, norms, entries, counts, index, record, weight, first, many, 4,
+        h,
+        lens,
+        flags,
+        counters,
+        norms,
+        entries,
+        counts,
+        index,
+        record,
+        weight,
+        first,
+        many,
+        Grade::Fine,
     ) {
         return Err(Refusal::OutOfRange);
     }

@@ -18,6 +18,7 @@ ghost use Rattle.header.specs.Header.{head_of};
 use crate::judge::{all_reach, check_layers};
 use crate::send::{send, send_first};
 use header::Scalars;
+use layer_indexed::Grade;
 use layout_index::tables_in;
 use refusal::Refusal;
 use univmon::{Kind, bottom_word, check_sizes, first_sent};
@@ -55,8 +56,19 @@ fn send_if_fine(
     let next = first + 1;
     let rest = many - 1;
     if !all_reach(
-        h, &*lens, &*flags, &*counters, &*norms, entries, counts, index, record, weight, next,
-        rest, 4,
+        h,
+        &*lens,
+        &*flags,
+        &*counters,
+        &*norms,
+        entries,
+        counts,
+        index,
+        record,
+        weight,
+        next,
+        rest,
+        Grade::Fine,
     ) {
         return false;
     }

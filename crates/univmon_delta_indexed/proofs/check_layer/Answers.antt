@@ -8,7 +8,7 @@ use borrow.Author.Rules.{rules}
 use mir.Facts.{to_z-of_z}
 use Rattle.words.proofs.Parts.{put_back}
 use Rattle.layer.specs.inner.Needs.{delta}
-use Rattle.layer_indexed.specs.inner.Needs.{delta_grade}
+use Rattle.layer_indexed.specs.inner.Needs.{grade_number, delta_grade}
 use Rattle.layout.specs.State.{dims_at, layer_at}
 use Rattle.layout.specs.Slices.{Lent, lent, view}
 use Rattle.layout.specs.Records.{item_at}
@@ -32,7 +32,7 @@ tabled c = record { standing = record { standing = c.requires.placed.standing; t
 
 -- the grade is the layer's
 graded : (c : After-delta_grade-grade) (every : Bool) → let a = c.args in
-    c.delta_grade-grade.result
+    grade_number c.delta_grade-grade.result
     ≡ delta_grade (dims_at a.h.shape a.l) (delta a.row a.col a.count (item_at a.«record».now a.l) every) (table_at a.h.shape a.index.now a.l) (layer_at (view (lent_of (goal.at.After-delta_grade-grade c).Start)) a.l)
 graded c every =
     let a = c.args in
@@ -131,7 +131,7 @@ returns c =
     let t = c.table_span-t.result in record {
       value = λ every.
           number_graded (dims_at a.h.shape a.l) (delta a.row a.col a.count (item_at a.«record».now a.l) every) (table_at a.h.shape a.index.now a.l) (layer_at (view (lent_of (goal.at.returns c).Start)) a.l)
-          c.delta_grade-grade.result _ (graded (goal.at.returns c).After-delta_grade-grade every) c.check_grade.ensures;
+          _ _ (graded (goal.at.returns c).After-delta_grade-grade every) c.check_grade.ensures;
       counters_unchanged = (
         put_back s.cells.start (s.cells.end - s.cells.start) a.counters.now _ k.0,
         (

@@ -9,7 +9,7 @@ use mir.Facts.{to_z-of_z}
 use Rattle.countsketch_l2_norm.specs.Sketch.{rows_read, rows_fit}
 use Rattle.countsketch_l2_norm.specs.inner.Needs.{sketch_of}
 use Rattle.layer.specs.Layer.{hash_by}
-use Rattle.layer_indexed.proofs.Grades.{add_tests}
+use Rattle.layer_indexed.proofs.Grading.{add_tests}
 use Rattle.layer_indexed.proofs.Steps.{add_is}
 use Rattle.layer_indexed.proofs.adding.add.Goals as goal
 use Rattle.layer_indexed.proofs.adding.add.Goals.{After-update_and_count-count, Start}

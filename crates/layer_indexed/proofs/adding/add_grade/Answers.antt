@@ -10,7 +10,7 @@ use Rattle.layer.specs.Layer.{layer_update}
 use Rattle.layer.specs.inner.Needs.{layer_of}
 use Rattle.layer_indexed.specs.Adding.{key_looked}
 use Rattle.layer_indexed.specs.inner.Needs.{add_grade}
-use Rattle.layer_indexed.proofs.Grades.{offer_looked, same-slices, unready-grade, ready-grade}
+use Rattle.layer_indexed.proofs.Grading.{offer_looked, same-slices, unready-grade, ready-grade}
 use Rattle.layer_indexed.proofs.Seats.{small_of}
 use Rattle.heap_moves.specs.Flat.{cand_of}
 use Rattle.heap_indexed.specs.Offers.{offer_in}

@@ -14,7 +14,7 @@ use Rattle.layer.specs.Layer.{hash_by}
 use Rattle.layer.specs.inner.Needs.{layer_of, delta}
 use Rattle.layer.proofs.Tests.{delta-counted}
 use Rattle.layer_indexed.specs.Adding.{delta_reads_in}
-use Rattle.layer_indexed.proofs.Grades.{delta-tests, delta_may}
+use Rattle.layer_indexed.proofs.Grading.{delta-tests, delta_may}
 use Rattle.layer_indexed.proofs.Steps.{delta_is}
 use Rattle.layer_indexed.proofs.deltas.apply_delta.Goals as goal
 use Rattle.layer_indexed.proofs.deltas.apply_delta.Goals.{After-apply_delta, After-count_with_hash-n, Start}

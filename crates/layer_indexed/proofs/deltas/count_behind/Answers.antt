@@ -12,7 +12,7 @@ use Rattle.countsketch_l2_norm.specs.Sketch.{cell_at}
 use Rattle.countsketch_l2_norm.proofs.Places.{place-lt}
 use Rattle.layer.specs.Layer.{hash_by}
 use Rattle.layer.proofs.Tests.{cells-set}
-use Rattle.layer_indexed.proofs.Grades.{counter_back}
+use Rattle.layer_indexed.proofs.Grading.{counter_back}
 use Rattle.words.proofs.Signed.{back, fits, sum-within}
 use Rattle.words.proofs.Squares.{range_bound}
 use Rattle.layer_indexed.proofs.deltas.count_behind.Goals as goal

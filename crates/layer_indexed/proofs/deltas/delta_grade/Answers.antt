@@ -15,7 +15,7 @@ use Rattle.layer.specs.Layer.{hash_by}
 use Rattle.layer.specs.inner.Needs.{layer_of, delta}
 use Rattle.layer_indexed.specs.Adding.{delta_reads_in}
 use Rattle.layer_indexed.specs.inner.Needs.{delta_grade}
-use Rattle.layer_indexed.proofs.Grades.{same-slices, delta-tests, delta-unread, delta_unfit, delta_by-moves}
+use Rattle.layer_indexed.proofs.Grading.{same-slices, delta-tests, delta-unread, delta_unfit, delta_by-moves}
 use Rattle.layer_indexed.proofs.Seats.{small_of}
 use Rattle.layer_indexed.proofs.deltas.delta_grade.Goals as goal
 use Rattle.layer_indexed.proofs.deltas.delta_grade.Goals.{After-cell_fits, After-count_behind-n, After-try_offer, Else-not-cell_fits, Else-not-delta_reads}

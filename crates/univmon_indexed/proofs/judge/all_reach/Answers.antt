@@ -4,8 +4,8 @@ use mathlib.Core.Path.{◌≡◌, refl, sym, ap, ◌∙◌}
 use mathlib.Core.Bool.{Bool}
 use lib.Dec.{leb}
 use native.Mathlib.Omega.{arith}
-use borrow.Author.Tests.{le-leb, lt-leb}
 use Rattle.header.specs.Header.{head_of}
+use Rattle.layer_indexed.specs.inner.Needs.{grade_number}
 use Rattle.layout.specs.Slices.{Lent, lent, view}
 use Rattle.layout.specs.State.{layer_at, all_layers}
 use Rattle.words.proofs.Scans.{scan_start, scan_on, scan_stop, scan_end}
@@ -20,11 +20,11 @@ abbrev lent_of : Start → Lent
 lent_of c = lent (head_of c.args.h c.args.lens.now c.args.flags.now) c.args.counters.now c.args.norms.now c.args.entries.now c.args.counts.now
 
 abbrev tested : Start → ℕ → ℕ → Bool
-tested c k i = let a = c.args in all_layers (reaches_at a.grade a.h.shape a.«record».now a.weight a.index.now) k i (view (lent_of c))
+tested c k i = let a = c.args in all_layers (reaches_at (grade_number a.grade) a.h.shape a.«record».now a.weight a.index.now) k i (view (lent_of c))
 
 -- the grade is that of the state that was lent
 graded : (c : After-grade_at-here) → let a = c.args in
-    c.grade_at-here.result ≡ grade_in a.h.shape a.«record».now a.weight a.index.now c.loop-l.l (layer_at (view (lent_of (goal.at.After-grade_at-here c).Start)) c.loop-l.l)
+    grade_number c.grade_at-here.result ≡ grade_in a.h.shape a.«record».now a.weight a.index.now c.loop-l.l (layer_at (view (lent_of (goal.at.After-grade_at-here c).Start)) c.loop-l.l)
 graded c = let k = c.loop-l.invariant.1 in rw (k.0, k.1.0, k.1.1) at c.grade_at-here.ensures.value
 
 pub loop-l-init : goal.loop-l-init
@@ -36,13 +36,13 @@ grade_at-here-requires c =
     let k = c.loop-l.invariant.1 in
     rw (k.0, k.1.0, k.1.1) (judge-one_in (lent_of (goal.at.grade_at-here-requires c).Start) a.index.now a.«record».now a.weight a.many a.first c.loop-l.l c.requires (omega arith))
 
-pub returns-then-here-grade : goal.returns-then-here-grade
-returns-then-here-grade c =
+pub returns-then-not-reaches : goal.returns-then-not-reaches
+returns-then-not-reaches c =
     let a = c.args in
     let k = c.loop-l.invariant.1 in
     let e = c.grade_at-here.ensures.entries_unchanged in record {
-      value = scan_stop (tested (goal.at.returns-then-here-grade c).Start) a.many a.first c.loop-l.l _ c.loop-l.invariant.0 (omega arith) (λ k. layers-step _ (view (lent_of (goal.at.returns-then-here-grade c).Start)) k c.loop-l.l)
-          (ap (leb a.grade) (sym (graded (goal.at.returns-then-here-grade c).After-grade_at-here)) ∙ lt-leb _ _ c.if-here-grade.true);
+      value = scan_stop (tested (goal.at.returns-then-not-reaches c).Start) a.many a.first c.loop-l.l _ c.loop-l.invariant.0 (omega arith) (λ k. layers-step _ (view (lent_of (goal.at.returns-then-not-reaches c).Start)) k c.loop-l.l)
+          (ap (leb (grade_number a.grade)) (sym (graded (goal.at.returns-then-not-reaches c).After-grade_at-here)) ∙ sym c.reaches.ensures ∙ c.if-not-reaches.true);
       entries_unchanged = (e.0 ∙ k.0, (e.1.0 ∙ k.1.0, e.1.1 ∙ k.1.1));
     }
 
@@ -52,7 +52,7 @@ loop-l-preserved c =
     let k = c.loop-l.invariant.1 in
     let e = c.grade_at-here.ensures.entries_unchanged in (
       scan_on (tested (goal.at.loop-l-preserved c).Start) a.many a.first c.loop-l.l _ c.loop-l.invariant.0 (omega arith) (λ k. layers-step _ (view (lent_of (goal.at.loop-l-preserved c).Start)) k c.loop-l.l)
-          (ap (leb a.grade) (sym (graded (goal.at.loop-l-preserved c).After-grade_at-here)) ∙ le-leb _ _ c.if-here-grade.false),
+          (ap (leb (grade_number a.grade)) (sym (graded (goal.at.loop-l-preserved c).After-grade_at-here)) ∙ sym c.reaches.ensures ∙ c.if-not-reaches.false),
       (e.0 ∙ k.0, (e.1.0 ∙ k.1.0, e.1.1 ∙ k.1.1)),
     )
 
