@@ -85,7 +85,7 @@ pub fn all_reach(
     true
 }
 
-// 0 if the update may be made, 9 if something that it reads first is out of range, 11 if a counter would leave
+// Whether the update may be made: 9 if something that it reads first is out of range, 11 if a counter would leave
 // the range, 9 if a visit of its moves is refused. For a call that is refused: what is read first anywhere comes
 // before a counter anywhere, and that before the moves.
 pub fn check_layers(
