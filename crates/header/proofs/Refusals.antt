@@ -11,13 +11,17 @@ use Rattle.matrix_storage.specs.Calls.{bits_refusal}
 use Rattle.matrix_storage.specs.inner.Shaped.{Shaped}
 use Rattle.matrix_storage.proofs.Log2.{mask_within}
 use Rattle.matrix_storage.proofs.Refusals.{shaped_of}
-use Rattle.words.proofs.Bools.{and_left, and_right, or-false}
+use Rattle.words.proofs.Bools.{and_left, and_right, or-false, or_first}
 use Rattle.header.specs.Shape.{max_layers, max_heap, empty_tier, bits_above, tier_above, shape_refusal, checked_shape}
 use Rattle.header.specs.inner.Accepted.{Accepted}
 use Rattle.header.specs.declared.Shape.{Shape}
 use Rattle.refusal.specs.Refusals.{Answer}
 
 -- ---- one tier's rows and columns
+
+-- the hash bits of tiers that are alike are asked once
+pub bits-once : (rows cols rows' cols' : ℕ) → (rows' ≡ rows) × (cols' ≡ cols) → bits_above rows' cols' ≡ false → false ≡ bits_above rows cols || bits_above rows' cols'
+bits-once rows cols rows' cols' e b = or_first (bits_above rows cols) (bits_above rows' cols') false (sym (rw (e.0, e.1) at b)) b
 
 some_eqb : (n : ℕ) → 1 ≤ n → eqb n 0 ≡ false
 some_eqb n h = ne_eqb n 0 (λ e. omega arith)
