@@ -8,7 +8,7 @@ ghost use Rattle.layout.specs.Slices.{lent};
 use crate::LookedUp;
 use header::Header;
 use heap_index::Lookup;
-use layout::{seats_at, words_at};
+use layout::LentState;
 use layout_index::{check_indexed, table_at};
 use refusal::Refusal;
 
@@ -60,12 +60,19 @@ pub fn lookup(
     if shape.layers <= layer {
         return Err(Refusal::OutsideShape);
     }
-    let lens = header.lens;
+    let state = LentState {
+        header: &header,
+        counters,
+        norms,
+        entries,
+        counts,
+    };
+    let part = state.layer(layer);
     look_in(
         table_at(shape, layer, index),
-        words_at(shape, layer, entries),
-        seats_at(shape, layer, counts),
-        lens[layer],
+        part.entries,
+        part.counts,
+        part.len,
         key,
     )
 }

@@ -5,7 +5,7 @@ use Rattle.std.proofs.lemmas.Iterator.Search.{all_from_yields_List}
 use Rattle.words.proofs.Walks.{walked}
 use Rattle.layer.specs.Layer.{Layer}
 use Rattle.layout.specs.State.{layer_at, all_layers}
-use Rattle.layout.specs.Slices.{lent}
+use Rattle.layout.specs.Lending.{lent_read}
 use Rattle.layout.proofs.States.{layers-step, layers-none}
 use Rattle.layout_index.specs.Tables.{table_at}
 use Rattle.layout.specs.Slices as lents
@@ -16,8 +16,8 @@ pub returns : goal.returns
 unfolding lents.view
 returns c =
     let a = c.args in
-    let s = lents.view (lent a.header a.counters.now a.norms.now a.entries.now a.counts.now) in
-    let n = a.header.shape.layers in
-    let p : ℕ → Layer → Bool = λ l y. table_ok (table_at a.header.shape a.index.now l) y in
+    let s = lents.view (lent_read a.state) in
+    let n = a.state.header.now.shape.layers in
+    let p : ℕ → Layer → Bool = λ l y. table_ok (table_at a.state.header.now.shape a.index.now l) y in
     all_from_yields_List (λ l. p l (layer_at s l)) _ _ c.all.result c.all.ensures.ran (YieldsList-from_range 0 n n (cc) (omega arith)) (λ l b q k. search rules)
     ∙ walked (λ k l. all_layers p k l s) (λ l. p l (layer_at s l)) (λ k l. layers-step p s k l) (λ l. layers-none p s l) n 0

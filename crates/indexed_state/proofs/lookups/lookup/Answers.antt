@@ -2,11 +2,9 @@
 use Prim.Native.Nat.{◌<◌}
 use mathlib.Core.Path.{◌≡◌, refl, sym, ap, ◌∙◌}
 use native.Mathlib.Omega.{arith}
-use borrow.Author.Rules.{rules}
 use Rattle.words.specs.Tests.{number}
 use Rattle.layer.specs.Layer.{Layer}
 use Rattle.layout.specs.Slices.{Lent, lent}
-use Rattle.layout.proofs.Views.{layer-view}
 use Rattle.layout_index.specs.Tables.{table_at, indexed_tests}
 use Rattle.layout_index.specs.inner.Needs.{StandingIn}
 use Rattle.std.proofs.lemmas.Result.{err_from_is_err_and}
@@ -14,7 +12,6 @@ use Rattle.refusal.specs.Refusals.{number_of}
 use Rattle.refusal.proofs.Numbers.{number-ne0}
 use Rattle.indexed_state.proofs.Looks.{indexed_stands, look_unfit, look_outside, look_there}
 use Rattle.indexed_state.specs.Lookups.{look_in}
-use Rattle.indexed_state.proofs.Parted.{covered}
 use Rattle.indexed_state.proofs.lookups.lookup.Goals as goal
 use Rattle.indexed_state.proofs.lookups.lookup.Goals.{Else-shape-layer, In_ok-check_indexed, Start}
 
@@ -50,32 +47,15 @@ table_at-requires c = let s = stand (goal.at.table_at-requires c).In_ok-check_in
   index_len = s.tables;
 }
 
-pub words_at-requires : goal.words_at-requires
-words_at-requires c = let s = stand (goal.at.words_at-requires c).In_ok-check_indexed in record {
-  accepted = s.standing.accepted;
-  l_lt_layers = inside (goal.at.words_at-requires c).Else-shape-layer;
-  entries_len = s.standing.sizes.entries;
+pub layer-part-requires : goal.layer-part-requires
+layer-part-requires c = record {
+  standing = (stand (goal.at.layer-part-requires c).In_ok-check_indexed).standing;
+  l_lt_layers = inside (goal.at.layer-part-requires c).Else-shape-layer;
 }
-
-pub seats_at-requires : goal.seats_at-requires
-seats_at-requires c = let s = stand (goal.at.seats_at-requires c).In_ok-check_indexed in record {
-  accepted = s.standing.accepted;
-  l_lt_layers = inside (goal.at.seats_at-requires c).Else-shape-layer;
-  counts_len = s.standing.sizes.counts;
-}
-
-pub offset_bounds-lens-layer : goal.offset_bounds-lens-layer
-offset_bounds-lens-layer c = let q = (stand (goal.at.offset_bounds-lens-layer c).In_ok-check_indexed).standing.accepted.few in let i = inside (goal.at.offset_bounds-lens-layer c).Else-shape-layer in search rules
-
-pub bounds-lens-layer : goal.bounds-lens-layer
-bounds-lens-layer c = let q = (stand (goal.at.bounds-lens-layer c).In_ok-check_indexed).standing.accepted.few in let i = inside (goal.at.bounds-lens-layer c).Else-shape-layer in search rules
-
-pub look_in-requires : goal.look_in-requires
-look_in-requires c = rw (c.words_at.ensures, c.seats_at.ensures) (covered (lent_of (goal.at.look_in-requires c).Start) (stand (goal.at.look_in-requires c).In_ok-check_indexed).standing c.args.layer (inside (goal.at.look_in-requires c).Else-shape-layer))
 
 pub returns : goal.returns
 returns c =
     let a = c.args in
     look_there (lent_of (goal.at.returns c).Start) a.index.now a.layer a.key (none (goal.at.returns c).In_ok-check_indexed) (inside (goal.at.returns c).Else-shape-layer) _
-    (rw (c.table_at.ensures, c.words_at.ensures, c.seats_at.ensures) at c.look_in.ensures
-    ∙ sym (ap (λ (y : Layer). look_in (table_at a.header.shape a.index.now a.layer) y.table a.key) (layer-view (lent_of (goal.at.returns c).Start) (stand (goal.at.returns c).In_ok-check_indexed).standing.sizes a.layer (inside (goal.at.returns c).Else-shape-layer))))
+    (rw (c.table_at.ensures) at c.look_in.ensures
+    ∙ ap (λ (y : Layer). look_in (table_at a.header.shape a.index.now a.layer) y.table a.key) c.layer-part.ensures.layer)
