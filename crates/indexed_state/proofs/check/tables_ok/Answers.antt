@@ -1,5 +1,5 @@
 -- `indexed_state::check::tables_ok` meets its contract.
-use Rattle.std.proofs.Common.{ℕ, Bool, ◌∙◌, rules, arith}
+use Rattle.std.proofs.Common.{ℕ, Bool, refl, ◌∙◌, rules, arith}
 use Rattle.std.proofs.lemmas.Iterator.{YieldsList-from_range}
 use Rattle.std.proofs.lemmas.Iterator.Search.{all_from_yields_List}
 use Rattle.words.proofs.Walks.{walked}
@@ -19,5 +19,5 @@ returns c =
     let s = lents.view (lent_read a.state) in
     let n = a.state.header.now.shape.layers in
     let p : ℕ → Layer → Bool = λ l y. table_ok (table_at a.state.header.now.shape a.index.now l) y in
-    all_from_yields_List (λ l. p l (layer_at s l)) _ _ c.all.result c.all.ensures.ran (YieldsList-from_range 0 n n (cc) (omega arith)) (λ l b q k. search rules)
+    all_from_yields_List (λ l. p l (layer_at s l)) _ _ c.all.result c.all.ensures.ran (YieldsList-from_range 0 n n refl (omega arith)) (λ l b q k. search rules)
     ∙ walked (λ k l. all_layers p k l s) (λ l. p l (layer_at s l)) (λ k l. layers-step p s k l) (λ l. layers-none p s l) n 0
