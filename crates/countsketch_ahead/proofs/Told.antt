@@ -5,6 +5,7 @@ use Prim.Native.Nat.{ℕ, suc, ◌^◌, ◌≤◌, ◌<◌}
 use native.Mathlib.Omega.{arith}
 use mathlib.Core.List.{List, ◌∷◌}
 use lib.ListN.{length}
+use Rattle.std.specs.Prelude.{None, Some}
 use lib.IntN.{ℤ, nat_abs}
 use lib.Signed.{mag}
 use borrow.Author.Rules.{sfits_of}
@@ -12,13 +13,11 @@ use mir.Syntax.{w64}
 use mir.Val.{to_z, of_z}
 use mir.Facts.{to_z-of_z}
 use Rattle.words.specs.Num.{top}
-use Rattle.words.proofs.Bools.{never}
 use Rattle.matrix_storage.specs.Bits.{max_rows}
 use Rattle.structure_utils.specs.Median.{sort_z, middle}
-use Rattle.countsketch_l2_norm.specs.declared.TriedUpdate.{TriedUpdate}
 use Rattle.countsketch_l2_norm.specs.Norms.{norms_of}
 use Rattle.countsketch_l2_norm.specs.Sketch.{cell_of, cell_at}
-use Rattle.countsketch_l2_norm.specs.inner.Needs.{sketch_of, rows_ready, Ready, not_made}
+use Rattle.countsketch_l2_norm.specs.inner.Needs.{sketch_of, rows_ready, Ready}
 use Rattle.countsketch_l2_norm.proofs.Places.{cell-lt}
 use Rattle.countsketch_l2_norm.proofs.After.{cell_in_lem, read-cells}
 use Rattle.countsketch_ahead.specs.inner.Needs.{ahead_at, estimates_ahead, Countable, CountedIfReady}
@@ -48,15 +47,11 @@ ahead_before cols h w xs k r {at} {es} {v} p b e a =
     ∙ sym (ahead_more cols h w xs k r (to_z w64 (of_z w64 v)) (to_z-of_z {w = w64} (sfits_of b) ∙ e ∙ ap (λ (i : ℕ). ahead_at h w xs i r) p))
 
 -- a row says no
-pub told-not : {rows cols h w : ℕ} {xs : List ℤ} {ws : List ℕ} {m : TriedUpdate} → m ≡ not_made → false ≡ rows_ready cols h w (sketch_of xs ws rows) rows 0 → CountedIfReady rows cols h w xs ws m
-told-not {m = m} n e =
-    record { ready = not_now ∙ e; count = λ t. absurd (never (sym not_now ∙ t)); fits = subst (λ (t : TriedUpdate). mag t.count < 2 ^ 63) (sym n) (omega arith) }
-  where
-    not_now : m.made ≡ false
-    not_now = ap (λ (t : TriedUpdate). t.made) n
+pub told-not : {rows cols h w : ℕ} {xs : List ℤ} {ws : List ℕ} → false ≡ rows_ready cols h w (sketch_of xs ws rows) rows 0 → CountedIfReady rows cols h w xs ws None
+told-not e = record { ready = e; count = tt; fits = tt }
 
 -- every row says yes, and v is the median of the rows' estimates after the update, read back from its bits
 pub told-count : {rows cols h w : ℕ} {xs : List ℤ} {ws : List ℕ} {v z : ℤ} → true ≡ rows_ready cols h w (sketch_of xs ws rows) rows 0 → Countable rows cols h w xs → z ≡ v → mag v < 2 ^ 63
-    → v ≡ middle (sort_z (estimates_ahead cols h w xs rows 0)) → CountedIfReady rows cols h w xs ws (record { made = true; count = z })
+    → v ≡ middle (sort_z (estimates_ahead cols h w xs rows 0)) → CountedIfReady rows cols h w xs ws (Some z)
 told-count {rows} {ws = ws} e d b k a =
-    record { ready = e; count = λ _. b ∙ a ∙ ahead-count (norms_of ws rows) d; fits = subst (λ (n : ℤ). mag n < 2 ^ 63) (sym b) k }
+    record { ready = e; count = b ∙ a ∙ ahead-count (norms_of ws rows) d; fits = subst (λ (n : ℤ). mag n < 2 ^ 63) (sym b) k }

@@ -1,5 +1,5 @@
 // The count after an update of three rows and of five, which are common: straight code, with what a loop
-// keeps in a buffer in locals.
+// keeps in a buffer in locals. They stay twins for speed, as those of `countsketch_l2_norm` do.
 ghost use Rattle.std.specs.Prelude.{◌≡◌, ℕ, ◌*◌, ◌≤◌, length};
 ghost use Rattle.words.specs.Num.{top};
 ghost use Rattle.matrix_storage.specs.Bits.{hash_of};
@@ -9,7 +9,7 @@ ghost use Rattle.countsketch_l2_norm.specs.Sketch.{cell_of};
 ghost use Rattle.countsketch_ahead.specs.inner.Needs.{estimates_ahead, Countable, CountedIfReady};
 
 use crate::rows::row_ahead;
-use countsketch_l2_norm::{TriedUpdate, not_made, place, row_ready_at};
+use countsketch_l2_norm::{place, row_ready_at};
 
 // The count after an update of three rows at known places. Only the contract names `cols`.
 fn three_at(
@@ -40,7 +40,7 @@ pub fn three_if_ready(
     high: u64,
     low: u64,
     weight: u64,
-) -> TriedUpdate
+) -> Option<i64>
     requires shaped { Shaped 3 cols }
     requires cols_in_bounds { (3 * cols ≤ length counters.now) × ((6 ≤ length norms.now) × (weight ≤ top)) }
     ensures { CountedIfReady 3 cols (hash_of high low) weight counters.now norms.now result }
@@ -50,18 +50,15 @@ pub fn three_if_ready(
     let b = place(high, low, bits, cols, 1);
     let c = place(high, low, bits, cols, 2);
     if !row_ready_at(counters, norms, a, 0, cols, high, low, weight) {
-        return not_made();
+        return None;
     }
     if !row_ready_at(counters, norms, b, 1, cols, high, low, weight) {
-        return not_made();
+        return None;
     }
     if !row_ready_at(counters, norms, c, 2, cols, high, low, weight) {
-        return not_made();
+        return None;
     }
-    TriedUpdate {
-        made: true,
-        count: three_at(counters, cols, a, b, c, high, low, weight),
-    }
+    Some(three_at(counters, cols, a, b, c, high, low, weight))
 }
 
 // The same two of five rows.
@@ -97,7 +94,7 @@ pub fn five_if_ready(
     high: u64,
     low: u64,
     weight: u64,
-) -> TriedUpdate
+) -> Option<i64>
     requires shaped { Shaped 5 cols }
     requires cols_in_bounds { (5 * cols ≤ length counters.now) × ((10 ≤ length norms.now) × (weight ≤ top)) }
     ensures { CountedIfReady 5 cols (hash_of high low) weight counters.now norms.now result }
@@ -109,22 +106,19 @@ pub fn five_if_ready(
     let d = place(high, low, bits, cols, 3);
     let e = place(high, low, bits, cols, 4);
     if !row_ready_at(counters, norms, a, 0, cols, high, low, weight) {
-        return not_made();
+        return None;
     }
     if !row_ready_at(counters, norms, b, 1, cols, high, low, weight) {
-        return not_made();
+        return None;
     }
     if !row_ready_at(counters, norms, c, 2, cols, high, low, weight) {
-        return not_made();
+        return None;
     }
     if !row_ready_at(counters, norms, d, 3, cols, high, low, weight) {
-        return not_made();
+        return None;
     }
     if !row_ready_at(counters, norms, e, 4, cols, high, low, weight) {
-        return not_made();
+        return None;
     }
-    TriedUpdate {
-        made: true,
-        count: five_at(counters, cols, a, b, c, d, e, high, low, weight),
-    }
+    Some(five_at(counters, cols, a, b, c, d, e, high, low, weight))
 }

@@ -1,7 +1,7 @@
 -- Norms worked out anew, and sums of two lists. Assumes nothing.
 use mathlib.Core.Path.{◌≡◌, refl, sym, ap, ◌∙◌}
 use mathlib.Core.Bool.{Bool, true, false, ◌&&◌}
-use Prim.Native.Nat.{ℕ, zero, suc, ◌+◌, ◌*◌, ◌≤◌, ◌<◌}
+use Prim.Native.Nat.{ℕ, zero, suc, ◌+◌, ◌-◌, ◌*◌, ◌≤◌, ◌<◌}
 use native.Mathlib.Omega.{arith}
 use native.Mathlib.Numerals.{add-one}
 use mathlib.Core.List.{List, [], ◌∷◌, ◌++◌, append_assoc, append-nil}
@@ -9,6 +9,8 @@ use lib.ListN.{length, get_or, set, take, drop, length-set, drop_of_length-le}
 use lib.Seq.{drop-cons, take-suc-set, drop-set-lt, take_all, ext_get_or}
 use lib.IntN.{ℤ, pos, nat_abs, ◌+ℤ◌}
 use lib.Dec.{eqb}
+use Rattle.std.proofs.lemmas.List.{get_or-take, length-take, length-drop}
+use lib.Seq.{get_or-drop}
 use borrow.Author.Tests.{eqb-true, eqb-false}
 use Rattle.words.specs.Num.{top, square_cap, in_range, all_in, capped}
 use Rattle.words.proofs.Bools.{and_left, and_right}
@@ -27,6 +29,13 @@ squares-none a xs = refl
 pub squares_more : (a n : ℕ) (xs : List ℤ) → squares_from a (n + 1) xs ≡ squares_from a n xs + capped (cell_at xs (a + n))
 unfolding squares_from sum_below
 squares_more a n xs = rw add-one
+
+-- the counters of a row as a part of all of them: as many as there are columns
+pub row-length : (a cols : ℕ) (xs : List ℤ) → a + cols ≤ length xs → length (take (a + cols - a) (drop a xs)) ≡ cols
+row-length a cols xs h = omega (arith, length-take (a + cols - a) (drop a xs), length-drop a xs)
+
+pub row-cell : (a cols i : ℕ) (xs : List ℤ) → a + cols ≤ length xs → i < length (take (a + cols - a) (drop a xs)) → get_or (take (a + cols - a) (drop a xs)) i (pos 0) ≡ cell_at xs (a + i)
+row-cell a cols i xs h k = get_or-take (a + cols - a) (drop a xs) i (pos 0) (omega (arith, k, row-length a cols xs h)) ∙ get_or-drop a xs i (pos 0)
 
 -- "A norm's range is 0 to cols × 2^63."
 pub squares-most : (a n : ℕ) (xs : List ℤ) → squares_from a n xs ≤ n * square_cap
@@ -93,14 +102,35 @@ pub sums-step : (xs ys : List ℤ) (i : ℕ) → i < length xs → i < length ys
 unfolding sums
 sums-step xs ys i h k = rw (add-one, drop-cons xs i (pos 0) h, drop-cons ys i (pos 0) k)
 
-pub fit_on : (xs ys : List ℤ) (i : ℕ) → i < length xs → i < length ys
-    → all_in (sums (drop i xs) (drop i ys)) ≡ in_range (get_or xs i (pos 0) +ℤ get_or ys i (pos 0)) && all_in (sums (drop (i + 1) xs) (drop (i + 1) ys))
-unfolding all_in
-fit_on xs ys i h k = rw (sums-step xs ys i h k)
+-- two lists of counters that are walked together: what is left of them is in range and equally long
+pub record Paired (xs ys : List ℤ) : Type 0 where
+  pub in_xs : all_in xs ≡ true
+  pub in_ys : all_in ys ≡ true
+  pub same : length xs ≡ length ys
 
-pub fit_end : (xs ys : List ℤ) (i : ℕ) → length xs ≤ i → all_in (sums (drop i xs) (drop i ys)) ≡ true
+-- the pair in front
+pub pair_front : {x y : ℤ} {xs ys us bs : List ℤ} → us ≡ x ∷ xs → bs ≡ y ∷ ys → Paired us bs → (nat_abs x ≤ top) × (nat_abs y ≤ top)
+unfolding all_in
+pair_front {x} {y} {xs} {ys} e f p =
+    (range_bound x (and_left (in_range x) (all_in xs) (rw e at p.in_xs)), range_bound y (and_left (in_range y) (all_in ys) (rw f at p.in_ys)))
+
+-- and those behind it
+pub pair_next : {x y : ℤ} {xs ys us bs : List ℤ} → us ≡ x ∷ xs → bs ≡ y ∷ ys → Paired us bs → Paired xs ys
+unfolding all_in
+pair_next {x} {y} {xs} {ys} e f p =
+    record {
+      in_xs = and_right (in_range x) (all_in xs) (rw e at p.in_xs);
+      in_ys = and_right (in_range y) (all_in ys) (rw f at p.in_ys);
+      same = omega (arith, p.same, ap length e, ap length f);
+    }
+
+pub fit_on : {x y : ℤ} {xs ys us bs : List ℤ} → us ≡ x ∷ xs → bs ≡ y ∷ ys → all_in (sums us bs) ≡ in_range (x +ℤ y) && all_in (sums xs ys)
 unfolding all_in sums
-fit_end xs ys i h = rw (drop_of_length-le xs h)
+fit_on e f = rw (e, f)
+
+pub fit_end : {us : List ℤ} (bs : List ℤ) → us ≡ [] → all_in (sums us bs) ≡ true
+unfolding all_in sums
+fit_end bs e = rw e
 
 pub record Adding (xs₀ ys xs : List ℤ) (i : ℕ) : Type 0 where
   pub low : i ≤ length xs₀

@@ -5,17 +5,17 @@ use Prim.Native.Nat.{ℕ, suc, ◌+◌, ◌*◌, ◌^◌, ◌≤◌, ◌<◌}
 use native.Mathlib.Omega.{arith}
 use mathlib.Core.List.{List}
 use lib.ListN.{length}
+use Rattle.std.specs.Prelude.{None, Some}
 use lib.IntN.{ℤ, pos}
 use lib.Signed.{mag}
 use Rattle.words.specs.Num.{top}
-use Rattle.words.proofs.Bools.{never, and_left, and_right}
+use Rattle.words.proofs.Bools.{and_left, and_right}
 use Rattle.matrix_storage.specs.Bits.{max_rows, signed}
 use Rattle.matrix_storage.specs.inner.Shaped.{Shaped}
-use Rattle.countsketch_l2_norm.specs.declared.TriedUpdate.{TriedUpdate}
 use Rattle.countsketch_l2_norm.specs.Norms.{norm_at}
 use Rattle.countsketch_l2_norm.specs.Sketch.{cell_of, cell_at, add_rows, row_read, cell_fits, rows_read, rows_fit}
 use Rattle.countsketch_l2_norm.specs.Estimate.{estimate_of}
-use Rattle.countsketch_l2_norm.specs.inner.Needs.{sketch_of, rows_ready, Ready, not_made, MadeIfReady}
+use Rattle.countsketch_l2_norm.specs.inner.Needs.{sketch_of, rows_ready, Ready, MadeIfReady}
 use Rattle.countsketch_l2_norm.proofs.Places.{cell-lt}
 use Rattle.countsketch_l2_norm.proofs.Scans.{Scan, scan_start, scan_on, scan_stop, scan_end}
 use Rattle.countsketch_l2_norm.proofs.Rows.{ready-step, ready-none}
@@ -82,15 +82,10 @@ ready_of {rows} {cols} {h} {w} {xs} {ws} a e =
     }
 
 -- a row says no: nothing is touched
-pub made-not : {rows cols h w : ℕ} {xs : List ℤ} {ws : List ℕ} {m : TriedUpdate} → m ≡ not_made → false ≡ rows_ready cols h w (sketch_of xs ws rows) rows 0 → MadeIfReady rows cols h w xs ws xs ws m
-made-not {m = m} n e =
-    record { ready = not_now ∙ e; made = λ t. absurd (never (sym not_now ∙ t)); kept = λ _. (refl, refl); fits = subst (λ (t : TriedUpdate). mag t.count < 2 ^ 63) (sym n) (omega arith) }
-  where
-    not_now : m.made ≡ false
-    not_now = ap (λ (t : TriedUpdate). t.made) n
+pub made-not : {rows cols h w : ℕ} {xs : List ℤ} {ws : List ℕ} → false ≡ rows_ready cols h w (sketch_of xs ws rows) rows 0 → MadeIfReady rows cols h w xs ws xs ws None
+made-not e = record { ready = e; made = tt; kept = (refl, refl); fits = tt }
 
 -- the stores are made, and v is the count after them, read back from its bits
 pub made_done : {rows cols h w : ℕ} {xs : List ℤ} {ws : List ℕ} {ys : List ℤ} {vs : List ℕ} {v z : ℤ} → true ≡ rows_ready cols h w (sketch_of xs ws rows) rows 0 → z ≡ v → mag v < 2 ^ 63
-    → (sketch_of ys vs rows ≡ add_rows cols h w rows 0 (sketch_of xs ws rows)) × (v ≡ estimate_of rows cols h ys) → MadeIfReady rows cols h w xs ws ys vs (record { made = true; count = z })
-made_done e b k a =
-    record { ready = e; made = λ _. (a.0, b ∙ a.1); kept = λ t. absurd (never (sym t)); fits = subst (λ (n : ℤ). mag n < 2 ^ 63) (sym b) k }
+    → (sketch_of ys vs rows ≡ add_rows cols h w rows 0 (sketch_of xs ws rows)) × (v ≡ estimate_of rows cols h ys) → MadeIfReady rows cols h w xs ws ys vs (Some z)
+made_done e b k a = record { ready = e; made = (a.0, b ∙ a.1); kept = tt; fits = subst (λ (n : ℤ). mag n < 2 ^ 63) (sym b) k }

@@ -64,13 +64,9 @@ pub fn add_cell(counters: &mut [i64], norms: &mut [u64], at: usize, r: usize, de
 pub fn row_read(x: i64, w: Wide, cols: usize) -> bool
     ensures { result ≡ row_read x (value_of w) cols }
 {
-    if !words::in_range(x) {
-        return false;
-    }
-    if !words::at_most_caps(w.lo, w.hi, cols as u64) {
-        return false;
-    }
-    words::at_least(w.lo, w.hi, words::capped_square(x))
+    words::in_range(x)
+        && words::at_most_caps(w.lo, w.hi, cols as u64)
+        && words::at_least(w.lo, w.hi, words::capped_square(x))
 }
 
 // Whether what a delta reads is in range: its counter and its row's norm.
@@ -96,6 +92,7 @@ fn sum_in_range(x: i64, d: i64) -> bool
     requires { nat_abs x ≤ top }
     ensures { result ≡ in_range (x +ℤ d) }
 {
+    // two tests: of their conjunction neither outcome was proved, the first test being turned about
     if d < -words::TOP - x {
         return false;
     }

@@ -20,13 +20,6 @@ pub use merging::{add_all, all_in, merge, row_norm, row_norms, sums_fit};
 pub use norm::{l2, l2_squared, norms_in};
 pub use straight::row_ready_at;
 pub use update::{
-    not_made, place, rows_fit, rows_read, rows_ready, update_and_count, update_if_ready,
+    place, rows_fit, rows_read, rows_ready, update_and_count, update_if_ready,
     update_weighted_with_hash,
 };
-
-// What an update that is made only where it may be answers: whether it was made, and the count after it.
-#[derive(Clone, Copy)]
-pub struct TriedUpdate {
-    pub made: bool,
-    pub count: i64,
-}

@@ -36,11 +36,8 @@ fn sums_joined(xs: &[i64], ys: &[i64]) -> u64
     ensures { result < raised_top → all_in (sums xs.now ys.now) ≡ true }
 {
     let mut all: u64 = 0;
-    let mut i = 0;
-    while i < xs.len() {
-        let one = words::raised(sum_of(xs[i], ys[i]));
-        all = all | one;
-        i += 1;
+    for (x, y) in xs.iter().zip(ys) {
+        all |= words::raised(sum_of(*x, *y));
     }
     all
 }
@@ -55,13 +52,10 @@ pub fn sums_fit(xs: &[i64], ys: &[i64]) -> bool
         return true;
     }
     // one of the sums is 2^52, which is in range, or out of range: each is tested by itself
-    let mut i = 0;
-    while i < xs.len() {
-        let z = sum_of(xs[i], ys[i]);
-        if !words::in_range(z) {
+    for (x, y) in xs.iter().zip(ys) {
+        if !words::in_range(sum_of(*x, *y)) {
             return false;
         }
-        i += 1;
     }
     true
 }
@@ -74,11 +68,8 @@ pub fn add_all(xs: &mut [i64], ys: &[i64])
     requires xs_value { (all_in xs.old ≡ true) × (all_in ys.now ≡ true) }
     ensures { xs.new ≡ sums xs.old ys.now }
 {
-    let mut i = 0;
-    while i < xs.len() {
-        let z = sum_of(xs[i], ys[i]);
-        xs[i] = z;
-        i += 1;
+    for (i, x) in xs.iter_mut().enumerate() {
+        *x = sum_of(*x, ys[i]);
     }
 }
 
@@ -91,12 +82,8 @@ pub fn row_norm(counters: &[i64], cols: usize, r: usize) -> Wide
 {
     let a = r * cols;
     let mut acc = Wide { lo: 0, hi: 0 };
-    let mut i = 0;
-    while i < cols {
-        let at = a + i;
-        let square = words::capped_square(counters[at]);
-        acc = acc.plus(square);
-        i += 1;
+    for x in &counters[a..a + cols] {
+        acc = acc.plus(words::capped_square(*x));
     }
     acc
 }
@@ -107,11 +94,8 @@ pub fn row_norms(counters: &[i64], norms: &mut [u64], rows: usize, cols: usize)
     requires cols_in_bounds { (rows * cols ≤ length counters.now) × (2 * rows ≤ length norms.old) }
     ensures { norms_of norms.new rows ≡ row_norms cols counters.now rows 0 }
 {
-    let mut r = 0;
-    while r < rows {
-        let w = row_norm(counters, cols, r);
-        put_norm(norms, r, w);
-        r += 1;
+    for r in 0..rows {
+        put_norm(norms, r, row_norm(counters, cols, r));
     }
 }
 

@@ -5,10 +5,9 @@ ghost use Rattle.words.specs.Wide.{value_of};
 ghost use Rattle.matrix_storage.specs.Bits.{max_rows, max_cols, hash_bits, mask_bits, signed, hash_of};
 ghost use Rattle.matrix_storage.specs.inner.Shaped.{Shaped};
 ghost use Rattle.countsketch_l2_norm.specs.Sketch.{cell_of, add_rows, row_read, rows_read, rows_fit};
-ghost use Rattle.countsketch_l2_norm.specs.inner.Needs.{sketch_of, rows_ready, Ready, CellReady, RowAdded, not_made, MadeIfReady};
+ghost use Rattle.countsketch_l2_norm.specs.inner.Needs.{sketch_of, rows_ready, Ready, CellReady, RowAdded, MadeIfReady};
 ghost use Rattle.countsketch_l2_norm.specs.Estimate.{estimates, estimate_of, cells_in_range};
 
-use crate::TriedUpdate;
 use crate::cells::{add_cell, index_of, norm_of, row_read};
 use crate::estimate::row_estimate;
 use crate::straight::{update_five, update_five_if_ready, update_three, update_three_if_ready};
@@ -51,12 +50,10 @@ pub fn update_weighted_with_hash(
         ≡ add_rows cols (hash_of high low) weight rows 0 (sketch_of counters.old norms.old rows) }
 {
     let bits = matrix_storage::mask_bits(cols);
-    let mut r = 0;
-    while r < rows {
+    for r in 0..rows {
         let at = place(high, low, bits, cols, r);
         let delta = delta_at(high, low, r, weight);
         add_cell(counters, norms, at, r, delta);
-        r += 1;
     }
 }
 
@@ -99,12 +96,9 @@ fn update_rows(
     ensures buf_after { take rows buf.new ≡ estimates cols (hash_of high low) counters.new rows 0 }
 {
     let bits = matrix_storage::mask_bits(cols);
-    let mut r = 0;
-    while r < rows {
+    for r in 0..rows {
         let at = place(high, low, bits, cols, r);
-        let v = update_row(counters, norms, at, r, high, low, weight);
-        buf[r] = v;
-        r += 1;
+        buf[r] = update_row(counters, norms, at, r, high, low, weight);
     }
 }
 
@@ -151,13 +145,11 @@ pub fn rows_read(
     ensures { result ≡ rows_read cols (hash_of high low) (sketch_of counters.now norms.now rows) rows 0 }
 {
     let bits = matrix_storage::mask_bits(cols);
-    let mut r = 0;
-    while r < rows {
+    for r in 0..rows {
         let at = place(high, low, bits, cols, r);
         if !row_read(counters[at], norm_of(norms, r), cols) {
             return false;
         }
-        r += 1;
     }
     true
 }
@@ -177,15 +169,13 @@ pub fn rows_fit(
     ensures { result ≡ rows_fit cols (hash_of high low) weight counters.now rows 0 }
 {
     let bits = matrix_storage::mask_bits(cols);
-    let mut r = 0;
-    while r < rows {
+    for r in 0..rows {
         let at = place(high, low, bits, cols, r);
         let delta = delta_at(high, low, r, weight);
         let sum = counters[at] + delta;
         if !words::in_range(sum) {
             return false;
         }
-        r += 1;
     }
     true
 }
@@ -194,10 +184,7 @@ pub fn rows_fit(
 fn norm_ready(square: u64, w: Wide, cols: usize) -> bool
     ensures { result ≡ leb (value_of w) (cols * square_cap) && leb square (value_of w) }
 {
-    if !words::at_most_caps(w.lo, w.hi, cols as u64) {
-        return false;
-    }
-    words::at_least(w.lo, w.hi, square)
+    words::at_most_caps(w.lo, w.hi, cols as u64) && words::at_least(w.lo, w.hi, square)
 }
 
 // Whether a row may take the weight: what is read is in range, and so is the new counter. A short
@@ -206,15 +193,10 @@ pub fn row_ready(x: i64, w: Wide, cols: usize, high: u64, low: u64, r: usize, we
     requires { (r < max_rows) × (weight ≤ top) }
     ensures { result ≡ row_read x (value_of w) cols && in_range (x +ℤ signed (hash_of high low) r (pos weight)) }
 {
-    if words::is_short(x) {
-        if weight <= LIGHT_TOP {
-            return norm_ready(words::short_square(x), w, cols);
-        }
+    if words::is_short(x) && weight <= LIGHT_TOP {
+        return norm_ready(words::short_square(x), w, cols);
     }
-    if !row_read(x, w, cols) {
-        return false;
-    }
-    words::in_range(x + delta_at(high, low, r, weight))
+    row_read(x, w, cols) && words::in_range(x + delta_at(high, low, r, weight))
 }
 
 // Whether an update may be made: `rows_read` and `rows_fit` in one pass, where it does not matter which
@@ -233,28 +215,16 @@ pub fn rows_ready(
     ensures { result ≡ rows_ready cols (hash_of high low) weight (sketch_of counters.now norms.now rows) rows 0 }
 {
     let bits = matrix_storage::mask_bits(cols);
-    let mut r = 0;
-    while r < rows {
+    for r in 0..rows {
         let at = place(high, low, bits, cols, r);
         if !row_ready(counters[at], norm_of(norms, r), cols, high, low, r, weight) {
             return false;
         }
-        r += 1;
     }
     true
 }
 
-// The answer of an update that may not be made.
-pub fn not_made() -> TriedUpdate
-    ensures { result ≡ not_made }
-{
-    TriedUpdate {
-        made: false,
-        count: 0,
-    }
-}
-
-// `rows_ready`, and where it says yes `update_and_count`; where it says no nothing is touched.
+// `rows_ready`, and where it says yes `update_and_count`; where it says no `None`, and nothing is touched.
 pub fn update_if_ready(
     counters: &mut [i64],
     norms: &mut [u64],
@@ -263,7 +233,7 @@ pub fn update_if_ready(
     high: u64,
     low: u64,
     weight: u64,
-) -> TriedUpdate
+) -> Option<i64>
     requires shaped { Shaped rows cols }
     requires cols_in_bounds { (rows * cols ≤ length counters.old) × ((2 * rows ≤ length norms.old) × (weight ≤ top)) }
     ensures { MadeIfReady rows cols (hash_of high low) weight counters.old norms.old counters.new norms.new result }
@@ -275,10 +245,7 @@ pub fn update_if_ready(
         return update_five_if_ready(counters, norms, cols, high, low, weight);
     }
     if !rows_ready(&*counters, &*norms, rows, cols, high, low, weight) {
-        return not_made();
+        return None;
     }
-    TriedUpdate {
-        made: true,
-        count: update_and_count(counters, norms, rows, cols, high, low, weight),
-    }
+    Some(update_and_count(counters, norms, rows, cols, high, low, weight))
 }

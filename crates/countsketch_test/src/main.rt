@@ -18,30 +18,7 @@ const NORM_WORDS: usize = 2 * matrix_storage::MAX_ROWS;
 fn held(rows: usize, cols: usize, cells: usize, words: usize) -> bool
     ensures { result ≡ true → Shaped rows cols × ((rows * cols ≤ cells) × (2 * rows ≤ words)) }
 {
-    if matrix_storage::check_hash_bits(rows, cols) != 0 {
-        return false;
-    }
-    if cells < rows * cols {
-        return false;
-    }
-    2 * rows <= words
-}
-
-// 1: a fresh layer.
-fn clear(counters: &mut [i64]) {
-    let mut i = 0;
-    while i < counters.len() {
-        counters[i] = 0;
-        i += 1;
-    }
-}
-
-fn clear_norms(norms: &mut [u64]) {
-    let mut i = 0;
-    while i < norms.len() {
-        norms[i] = 0;
-        i += 1;
-    }
+    matrix_storage::check_hash_bits(rows, cols).is_ok() && rows * cols <= cells && 2 * rows <= words
 }
 
 // 4: the estimate of a hash's count, as a float and cut.
@@ -112,10 +89,7 @@ fn delta(
     if !held(rows, cols, counters.len(), norms.len()) {
         return Ok(());
     }
-    if rows <= row {
-        return vectors::print_refusal(output, 8);
-    }
-    if cols <= col {
+    if rows <= row || cols <= col {
         return vectors::print_refusal(output, 8);
     }
     if !countsketch_l2_norm::cell_read(&*counters, &*norms, rows, cols, row, col) {
@@ -148,16 +122,10 @@ fn l2(output: Stdout, norms: &[u64], rows: usize, cols: usize) -> io::Result<()>
 
 // A digest of the first n counters.
 fn digest(counters: &[i64], n: usize) -> u64 {
-    let mut d: u64 = 0;
-    let mut i = 0;
-    while i < n {
-        if counters.len() <= i {
-            return d;
-        }
-        d = vectors::mixed(d, vectors::unsigned(counters[i]));
-        i += 1;
-    }
-    d
+    counters
+        .iter()
+        .take(n)
+        .fold(0, |d, x| vectors::mixed(d, vectors::unsigned(*x)))
 }
 
 // 6: the state: a digest of the counters, and each row's norm, low word and high word.
@@ -173,10 +141,8 @@ fn state(
     }
     let n = rows * cols;
     vectors::print(output, digest(counters, n))?;
-    let mut i = 0;
-    while i < 2 * rows {
-        vectors::print(output, norms[i])?;
-        i += 1;
+    for word in &norms[..2 * rows] {
+        vectors::print(output, *word)?;
     }
     Ok(())
 }
@@ -186,15 +152,8 @@ fn keep(op: u64, counters: &[i64], other: &mut [i64]) {
     if op != 7 {
         return;
     }
-    let mut i = 0;
-    while i < other.len() {
-        if counters.len() <= i {
-            return;
-        }
-        let x = counters[i];
-        other[i] = x;
-        i += 1;
-    }
+    let n = other.len().min(counters.len());
+    other[..n].copy_from_slice(&counters[..n]);
 }
 
 // 8: the counters that were set aside are merged in.
@@ -212,10 +171,7 @@ fn merge(
     if counters.len() != other.len() {
         return Ok(());
     }
-    if !countsketch_l2_norm::all_in(&*counters) {
-        return vectors::print_refusal(output, 9);
-    }
-    if !countsketch_l2_norm::all_in(other) {
+    if !countsketch_l2_norm::all_in(&*counters) || !countsketch_l2_norm::all_in(other) {
         return vectors::print_refusal(output, 9);
     }
     if !countsketch_l2_norm::sums_fit(&*counters, other) {
@@ -227,14 +183,14 @@ fn merge(
 
 // 9 and 10: a counter or a word of the norms is set, to meet the refusals of what is read.
 fn set_cell(counters: &mut [i64], i: usize, x: i64) {
-    if i < counters.len() {
-        counters[i] = x;
+    if let Some(cell) = counters.get_mut(i) {
+        *cell = x;
     }
 }
 
 fn set_word(norms: &mut [u64], i: usize, x: u64) {
-    if i < norms.len() {
-        norms[i] = x;
+    if let Some(word) = norms.get_mut(i) {
+        *word = x;
     }
 }
 
@@ -267,33 +223,24 @@ fn ask(
     rows: usize,
     cols: usize,
 ) -> io::Result<()> {
-    let op = call.op;
-    if op == 4 {
-        return estimate(output, counters, rows, cols, call.a, call.b);
+    match call.op {
+        4 => estimate(output, counters, rows, cols, call.a, call.b),
+        5 => l2(output, norms, rows, cols),
+        6 => state(output, counters, norms, rows, cols),
+        _ => Ok(()),
     }
-    if op == 5 {
-        return l2(output, norms, rows, cols);
-    }
-    if op == 6 {
-        return state(output, counters, norms, rows, cols);
-    }
-    Ok(())
 }
 
-// The operations that set counters and norms by hand.
+// The operations that set counters and norms by hand. 1: a fresh layer.
 fn set(call: Call, counters: &mut [i64], norms: &mut [u64]) {
-    let op = call.op;
-    if op == 1 {
-        clear(counters);
-        clear_norms(norms);
-        return;
-    }
-    if op == 9 {
-        set_cell(counters, call.a as usize, vectors::signed(call.b));
-        return;
-    }
-    if op == 10 {
-        set_word(norms, call.a as usize, call.b);
+    match call.op {
+        1 => {
+            counters.fill(0);
+            norms.fill(0);
+        }
+        9 => set_cell(counters, call.a as usize, vectors::signed(call.b)),
+        10 => set_word(norms, call.a as usize, call.b),
+        _ => {}
     }
 }
 
@@ -307,28 +254,21 @@ fn change(
     rows: usize,
     cols: usize,
 ) -> io::Result<()> {
-    let op = call.op;
-    if op == 2 {
-        return add(output, counters, norms, rows, cols, call.a, call.b, call.c);
-    }
-    if op == 3 {
-        let row = call.a as usize;
-        let col = call.b as usize;
-        return delta(
+    match call.op {
+        2 => add(output, counters, norms, rows, cols, call.a, call.b, call.c),
+        3 => delta(
             output,
             counters,
             norms,
             rows,
             cols,
-            row,
-            col,
+            call.a as usize,
+            call.b as usize,
             vectors::signed(call.c),
-        );
+        ),
+        8 => merge(output, counters, norms, other, rows, cols),
+        _ => Ok(()),
     }
-    if op == 8 {
-        return merge(output, counters, norms, other, rows, cols);
-    }
-    Ok(())
 }
 
 fn serve(
@@ -340,8 +280,7 @@ fn serve(
 ) -> io::Result<()> {
     let mut rows = 0;
     let mut cols = 0;
-    let mut turns: u64 = 1000000;
-    while 0 < turns {
+    for _ in 0..1000000 {
         let call = next(input);
         let op = call.op;
         if op == 0 {
@@ -355,7 +294,6 @@ fn serve(
         ask(output, call, &*counters, &*norms, rows, cols)?;
         set(call, counters, norms);
         change(output, call, counters, norms, &*other, rows, cols)?;
-        turns -= 1;
     }
     Ok(())
 }

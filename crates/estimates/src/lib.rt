@@ -11,13 +11,6 @@ mod terminal;
 
 pub use calls::{estimate_cardinality, estimate_g_sum, estimate_l1, estimate_l2, panel_answer};
 
-// A refusal's number and +0.0, or 0 and the answer.
-#[derive(Clone, Copy)]
-pub struct Answer {
-    pub refusal: u64,
-    pub value: f64,
-}
-
 // A refusal's number and +0.0 three times, or 0 and the three answers.
 #[derive(Clone, Copy)]
 pub struct PanelAnswer {

@@ -11,14 +11,13 @@ use Rattle.countsketch_l2_norm.specs.Estimate.{estimate_f}
 use Rattle.countsketch_l2_norm.specs.Merge.{row_norm}
 use Rattle.header.specs.declared.Shape.{Shape}
 use Rattle.header.specs.OneTier.{one_tier}
-use Rattle.header.specs.declared.BottomLayer.{BottomLayer}
-use Rattle.header.specs.declared.BottomLayer.TheVariants as bottom
+use Rattle.refusal.specs.Refusals.{Answer as Judged}
 use Rattle.header.specs.Shape.{bottom_layer}
 use Rattle.layout.specs.Slices.{Lent}
 use Rattle.layout.specs.Outcomes.{left_by}
 use Rattle.univmon.specs.declared.Kind.TheVariants as kind
 use Rattle.univmon.specs.Calls.{new_call, update_call}
-use Rattle.estimates.specs.declared.Answer.{Answer}
+use Rattle.estimates.specs.Answers.{Answer}
 use Rattle.estimates.specs.Calls.{l2_call, cardinality_call}
 
 -- ---- a row, and whether it holds
@@ -46,9 +45,9 @@ abbrev pub bits_z : Float → ℤ
 bits_z x = pos (to_bits binary64 x)
 
 -- 0 and the layer, or the refusal's number and no layer
-abbrev pub layer_by : BottomLayer → List ℤ
-layer_by (bottom.At l) = pos 0 ∷ pos l ∷ []
-layer_by (bottom.Refused n) = pos n ∷ []
+abbrev pub layer_by : Judged ℕ → List ℤ
+layer_by (Judged.yes l) = pos 0 ∷ pos l ∷ []
+layer_by (Judged.no n) = pos n ∷ []
 
 -- a refusal's number, 0 for none, and the float's bits
 abbrev pub answer_words : Answer → List ℤ

@@ -1,8 +1,8 @@
 // Whole numbers as floats, the correctly rounded root, and floats cut to whole numbers.
 //
-// Rattle has no cast that rounds and no root, so each is worked out here. Every function takes every
-// input: what it answers at a NaN, an infinity or a number below zero is part of its definition, and
-// no caller has to rule one out.
+// The contract with the user has the root worked out by the program, digit by digit, and the digits counted.
+// Every function takes every input: what it answers at a NaN, an infinity or a number below zero is part of its
+// definition, and no caller has to rule one out.
 
 #![tactic(auto)]
 
@@ -23,47 +23,27 @@ const FIELD: u64 = 0x10_0000_0000_0000;
 // 2^53, the weight of the first of 54 digits.
 const FIRST_DIGIT: u64 = 0x20_0000_0000_0000;
 
-// The pattern of +infinity: above it, the sign left out, are the NaNs.
-const INFINITY: u64 = 0x7ff0_0000_0000_0000;
-
-// The pattern that is written for every NaN.
-const NAN: u64 = 0x7ff8_0000_0000_0000;
-
-// The weight of the sign in a pattern.
-const SIGN: u64 = 0x8000_0000_0000_0000;
-
-// 2^63, the first whole number past the range of i64.
-const PAST_I64: f64 = 9223372036854775808.0;
-
-// -2^63, the least whole number in the range of i64.
-const LEAST_I64: f64 = -9223372036854775808.0;
-
 // ---- patterns
 
 // The pattern of x. Every NaN has the same one.
 pub fn to_bits(x: f64) -> u64
     ensures { result ≡ to_bits binary64 x }
 {
-    if x != x {
-        return NAN;
-    }
-    f64::to_bits(x)
+    std::num::f64_to_bits_with_nan(x)
 }
 
 // The value of a pattern.
 pub fn from_bits(b: u64) -> f64
     ensures { result ≡ from_bits binary64 b }
 {
-    if INFINITY < b % SIGN {
-        return 0.0 / 0.0;
-    }
-    f64::from_bits(b)
+    std::num::f64_from_bits_with_nan(b)
 }
 
 // ---- whole numbers as floats
 
 // The f64 nearest to n, ties to even. Both halves have 32 digits, so each cast and the product are
-// exact, and the sum is the one rounding.
+// exact, and the sum is the one rounding. The contract with the user names this form, so it stays beside
+// the library's `nearest_u64_to_f64`.
 pub fn norm_to_f64(n: u64) -> f64
     ensures { result ≡ round binary64 false n 1 }
 {
@@ -76,13 +56,7 @@ pub fn norm_to_f64(n: u64) -> f64
 pub fn norm_clamped(lo: u64, hi: u64) -> u64
     ensures { result ≡ min (lo + 18446744073709551616 * hi) norm_top }
 {
-    if 0 < hi {
-        return NORM_TOP;
-    }
-    if NORM_TOP < lo {
-        return NORM_TOP;
-    }
-    lo
+    if 0 < hi { NORM_TOP } else { lo.min(NORM_TOP) }
 }
 
 // A norm of two words as it is read.
@@ -96,12 +70,7 @@ pub fn norm_read(lo: u64, hi: u64) -> f64
 pub fn count_to_f64(x: i64) -> f64
     ensures { result ≡ of_int binary64 x }
 {
-    if x < 0 {
-        // -1 - x is no less than 0 and in range for the least x too, where -x is not
-        let below = (-1 - x) as u64;
-        return -norm_to_f64(below + 1);
-    }
-    norm_to_f64(x as u64)
+    std::num::nearest_i64_to_f64(x)
 }
 
 // ---- the root
@@ -151,17 +120,17 @@ fn root_search(a: u64) -> RootDigits
         if search_ends(left, count) {
             break RootDigits {
                 root: twice / 2,
-                count: count,
+                count,
             };
         }
         let digit = FIRST_DIGIT >> count;
         let next = twice + digit;
         left = 2 * left;
         if next <= left {
-            left = left - next;
+            left -= next;
             twice = next + digit;
         }
-        count = count + 1;
+        count += 1;
     }
 }
 
@@ -191,7 +160,7 @@ fn root_bits(b: u64) -> RootBits
 {
     if b < FIELD {
         // a subnormal: its digits are moved up to 53
-        let z = u64::leading_zeros(b) as u64;
+        let z = u64::from(b.leading_zeros());
         root_at(b << (z - 11), 1035 - z)
     } else {
         root_at(b % FIELD + FIELD, b / FIELD + 1023)
@@ -209,7 +178,7 @@ pub fn sqrt_counted(x: f64) -> CountedRoot
             let found = root_bits(f64::to_bits(x));
             let value = f64::from_bits(found.bits);
             return CountedRoot {
-                value: value,
+                value,
                 count: found.count,
             };
         }
@@ -238,16 +207,7 @@ pub fn sqrt(x: f64) -> f64
 pub fn to_i64(x: f64) -> i64
     ensures { result ≡ to_signed 63 x }
 {
-    if x >= LEAST_I64 {
-        if x < PAST_I64 {
-            return std::num::truncating_f64_to_i64(x);
-        }
-        return 9223372036854775807;
-    }
-    if x < 0.0 {
-        return -9223372036854775808;
-    }
-    0
+    std::num::saturating_f64_to_i64(x)
 }
 
 // The middle of two values, for a median of an even number of them.

@@ -10,43 +10,26 @@ use std::io::{Stdin, Stdout};
 
 // The answer to a case, as a word.
 fn answer(function: u64, a: u64, b: u64, c: u64) -> u64 {
-    if function == 1 {
-        return float64::to_bits(float64::sqrt(float64::from_bits(a)));
-    }
-    if function == 2 {
-        return vectors::unsigned(float64::to_i64(float64::from_bits(a)));
-    }
-    if function == 3 {
-        return float64::to_bits(float64::norm_to_f64(a));
-    }
-    if function == 4 {
-        return float64::to_bits(float64::count_to_f64(vectors::signed(a)));
-    }
-    if function == 5 {
-        return float64::to_bits(float64::norm_read(a, b));
-    }
     let x = float64::from_bits(a);
-    if function == 6 {
-        return float64::to_bits(float64::middle(x, float64::from_bits(b)));
+    match function {
+        1 => float64::to_bits(float64::sqrt(x)),
+        2 => vectors::unsigned(float64::to_i64(x)),
+        3 => float64::to_bits(float64::norm_to_f64(a)),
+        4 => float64::to_bits(float64::count_to_f64(vectors::signed(a))),
+        5 => float64::to_bits(float64::norm_read(a, b)),
+        6 => float64::to_bits(float64::middle(x, float64::from_bits(b))),
+        7 => vectors::unsigned(float64::heavy_threshold(x, b as usize, c == 1)),
+        _ => float64::sqrt_counted(x).count,
     }
-    if function == 7 {
-        return vectors::unsigned(float64::heavy_threshold(x, b as usize, c == 1));
-    }
-    float64::sqrt_counted(x).count
 }
 
 // How many words a case has.
 fn width(function: u64) -> usize {
-    if function < 5 {
-        return 1;
+    match function {
+        5 | 6 => 2,
+        7 => 3,
+        _ => 1,
     }
-    if function < 7 {
-        return 2;
-    }
-    if function == 7 {
-        return 3;
-    }
-    1
 }
 
 // One case; false where the input ends.
@@ -69,9 +52,7 @@ fn group(input: Stdin, output: Stdout) -> io::Result<bool> {
         return Ok(false);
     }
     let function = vectors::word(&text, 0);
-    let mut left = vectors::word(&text, 1);
-    while 0 < left {
-        left -= 1;
+    for _ in 0..vectors::word(&text, 1) {
         if !case(input, output, function)? {
             return Ok(false);
         }
@@ -82,9 +63,7 @@ fn group(input: Stdin, output: Stdout) -> io::Result<bool> {
 fn main(rt: HostRuntime) -> io::Result<()> {
     let input = rt.stdin();
     let output = rt.stdout();
-    let mut groups = 0u64;
-    while groups < 8 {
-        groups += 1;
+    for _ in 0..8 {
         if !group(input, output)? {
             return Ok(());
         }

@@ -1,10 +1,8 @@
 -- Totals in range, and sums of totals that no test refuses. Assumes nothing.
-use mathlib.Core.Path.{◌≡◌, sym, ap, ◌∙◌}
+use mathlib.Core.Path.{◌≡◌, ap}
 use mathlib.Core.Bool.{true, not}
-use Prim.Native.Nat.{ℕ, ◌+◌, ◌-◌, ◌≤◌, ◌<◌}
-use native.Mathlib.Omega.{arith}
-use native.Mathlib.Decide.{dec_lt}
-use borrow.Author.Tests.{leb-true, le-leb, lt-leb, not-false}
+use Prim.Native.Nat.{◌+◌, ◌≤◌}
+use borrow.Author.Tests.{leb-true, le-leb, not-false}
 use lib.Dec.{leb}
 use Rattle.words.specs.Num.{top}
 use Rattle.words.proofs.Bools.{and_left, and_right, both}
@@ -36,11 +34,3 @@ totals_within a b o =
 
 pub totals_off : (a b : Totals) → Within (add_totals a b) → Off (totals_tests a b)
 totals_off a b w = (ap not (le-leb (a.weight + b.weight) top w.light), (ap not (le-leb (a.updates + b.updates) top w.few), tt))
-
--- a sum is judged without being formed
-pub sum_less : (a b n : ℕ) → b ≤ n → leb a (n - b) ≡ leb (a + b) n
-sum_less a b n h = go (dec_lt n (a + b))
-  where
-    go : Dec (n < a + b) → leb a (n - b) ≡ leb (a + b) n
-    go (yes p) = lt-leb a (n - b) (omega arith) ∙ sym (lt-leb (a + b) n p)
-    go (no p) = le-leb a (n - b) (omega arith) ∙ sym (le-leb (a + b) n (omega arith))

@@ -15,7 +15,7 @@ use Rattle.words.proofs.Bools.{and_left, and_right, or-false, or_first}
 use Rattle.header.specs.Shape.{max_layers, max_heap, empty_tier, bits_above, tier_above, shape_refusal, checked_shape}
 use Rattle.header.specs.inner.Accepted.{Accepted}
 use Rattle.header.specs.declared.Shape.{Shape}
-use Rattle.header.specs.declared.CheckedShape.TheVariants as checked
+use Rattle.refusal.specs.Refusals.{Answer}
 
 -- ---- one tier's rows and columns
 
@@ -177,19 +177,19 @@ module _ (sh : Shape) where
 -- ---- what the constructor answers
 
 -- a shape that it hands back is the one that was asked for, and is not refused
-pub checked_good : (sh s : Shape) → checked_shape sh ≡ checked.Good s → (shape_refusal sh ≡ 0) × (s ≡ sh)
+pub checked_good : (sh s : Shape) → checked_shape sh ≡ Answer.yes s → (shape_refusal sh ≡ 0) × (s ≡ sh)
 unfolding checked_shape
 checked_good sh s e = go (eqb (shape_refusal sh) 0) refl e
   where
-    go : (b : Bool) → eqb (shape_refusal sh) 0 ≡ b → cond b (checked.Good sh) (checked.Refused (shape_refusal sh)) ≡ checked.Good s → (shape_refusal sh ≡ 0) × (s ≡ sh)
+    go : (b : Bool) → eqb (shape_refusal sh) 0 ≡ b → cond b (Answer.yes sh) (Answer.no (shape_refusal sh)) ≡ Answer.yes s → (shape_refusal sh ≡ 0) × (s ≡ sh)
     go true q z = (eqb-true (shape_refusal sh) 0 q, cc)
     go false q z = let w : ◌≡◌ {A = ℕ} 0 1 = cc in absurd (omega arith)
 
 -- the number that it refuses with
-pub checked_refused : (sh : Shape) (n : ℕ) → checked_shape sh ≡ checked.Refused n → (shape_refusal sh ≡ n) × (shape_refusal sh ≡ 0 → ⊥)
+pub checked_refused : (sh : Shape) (n : ℕ) → checked_shape sh ≡ Answer.no n → (shape_refusal sh ≡ n) × (shape_refusal sh ≡ 0 → ⊥)
 unfolding checked_shape
 checked_refused sh n e = go (eqb (shape_refusal sh) 0) refl e
   where
-    go : (b : Bool) → eqb (shape_refusal sh) 0 ≡ b → cond b (checked.Good sh) (checked.Refused (shape_refusal sh)) ≡ checked.Refused n → (shape_refusal sh ≡ n) × (shape_refusal sh ≡ 0 → ⊥)
+    go : (b : Bool) → eqb (shape_refusal sh) 0 ≡ b → cond b (Answer.yes sh) (Answer.no (shape_refusal sh)) ≡ Answer.no n → (shape_refusal sh ≡ n) × (shape_refusal sh ≡ 0 → ⊥)
     go true q z = let w : ◌≡◌ {A = ℕ} 0 1 = cc in absurd (omega arith)
     go false q z = (cc, eqb-false (shape_refusal sh) 0 q)

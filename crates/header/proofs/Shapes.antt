@@ -1,6 +1,6 @@
 -- Shapes compared. Assumes nothing.
 use mathlib.Core.Path.{◌≡◌, refl, sym, subst}
-use mathlib.Core.Bool.{Bool, true, ◌&&◌}
+use mathlib.Core.Bool.{true, ◌&&◌}
 use Prim.Native.Nat.{ℕ}
 use lib.Dec.{eqb}
 use borrow.Author.Tests.{eq-eqb, eqb-true}
@@ -12,12 +12,6 @@ use Rattle.header.specs.Shape.{same_tier, same_shape}
 pub tier_of : (rows cols rows' cols' : ℕ) → same_tier rows cols rows' cols' ≡ true → (rows' ≡ rows) × (cols' ≡ cols)
 tier_of rows cols rows' cols' e =
     (sym (eqb-true rows rows' (and_left (eqb rows rows') (eqb cols cols') e)), sym (eqb-true cols cols' (and_right (eqb rows rows') (eqb cols cols') e)))
-
--- the code's way: the tiers' answers come from elsewhere
-pub same_is : (a b : Shape) (t u : Bool) → t ≡ same_tier a.elephant_rows a.elephant_cols b.elephant_rows b.elephant_cols
-    → u ≡ same_tier a.mouse_rows a.mouse_cols b.mouse_rows b.mouse_cols
-    → eqb a.layers b.layers && eqb a.heap_size b.heap_size && eqb a.elephant_layers b.elephant_layers && t && u ≡ same_shape a b
-same_is a b t u p q = rw (p, q)
 
 pub same_of : (a b : Shape) → same_shape a b ≡ true → b ≡ a
 same_of a b e =

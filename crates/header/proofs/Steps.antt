@@ -1,19 +1,18 @@
 -- The header's own steps: flags, lengths, the tests of a weight. Assumes nothing.
 use mathlib.Core.Path.{◌≡◌, refl, sym, ap, ◌∙◌}
 use mathlib.Core.Bool.{Bool, true, false, cond, not, and-false, ◌&&◌}
-use mathlib.Core.List.{List, ◌∷◌, ◌++◌}
-use Prim.Native.Nat.{ℕ, zero, suc, ◌+◌, ◌-◌, ◌≤◌, ◌<◌}
+use mathlib.Core.List.{List}
+use Prim.Native.Nat.{ℕ, zero, suc, ◌+◌, ◌≤◌, ◌<◌}
 use native.Mathlib.Omega.{arith}
 use native.Mathlib.Nat.{zero-add}
-use borrow.Author.Tests.{ltb-true, leb-true, lt-ltb, le-ltb, eq-eqb, ne_eqb, not-false}
-use lib.ListN.{get_or, set, replicate}
+use borrow.Author.Tests.{leb-true, lt-ltb, le-ltb, eq-eqb, ne_eqb, not-false}
+use lib.ListN.{get_or, set}
 use lib.Seq.{set-get_or}
-use lib.IntN.{ℤ, pos, negsuc, nat_abs}
-use lib.Signed.{lt_z, non_neg}
+use lib.IntN.{ℤ, nat_abs}
 use lib.Dec.{eqb, leb}
 use Rattle.words.specs.Num.{top}
 use Rattle.words.specs.Tests.{number}
-use Rattle.words.proofs.Bools.{never, and-true}
+use Rattle.words.proofs.Bools.{and-true}
 use Rattle.words.proofs.Tests.{number_off, off_number}
 use Rattle.header.proofs.Sweeps.{and_assoc}
 use Rattle.header.specs.Header.{with_totals, with_mode, with_flags, with_lens, with_layer, head_of, scalars_of, begun, begun_scalars, begin_tests, begin_of, begin_header, length_ok, lens_from}
@@ -21,19 +20,9 @@ use Rattle.header.specs.Totals.{update_totals, totals_tests}
 use Rattle.header.specs.declared.Shape.{Shape}
 use Rattle.header.specs.declared.Header.{Header}
 use Rattle.header.specs.declared.Scalars.{Scalars}
-use Rattle.header.specs.declared.AnsweredLent.{AnsweredLent}
-use Rattle.header.specs.declared.Answered.{Answered}
+use Rattle.header.specs.Answers.{AnsweredLent}
+use Rattle.header.specs.Answers.{Answered}
 use Rattle.header.specs.declared.Mode.{Mode}
-
--- ---- signs of a weight
-
-pub weight-negative : (z : ℤ) → lt_z z (pos 0) ≡ true → non_neg z ≡ false
-weight-negative (pos n) e = absurd (omega (arith, ltb-true n 0 e))
-weight-negative (negsuc n) e = refl
-
-pub weight_positive : (z : ℤ) → lt_z z (pos 0) ≡ false → non_neg z ≡ true
-weight_positive (pos n) e = refl
-weight_positive (negsuc n) e = absurd (never (sym e))
 
 -- ---- an update begins, with and without lengths and flags
 
@@ -124,19 +113,6 @@ touched-kept h l n b e = ap (λ (fs : List Bool). with_lens (with_flags h fs) (s
 pub touched_lost : (h : Header) (l n : ℕ) (b : Bool) → b ≡ false
     → with_flags (with_lens h (set h.lens l n)) (set h.flags l false) ≡ with_layer h l n (get_or h.flags l false && b)
 touched_lost h l n b e = ap (λ (fs : List Bool). with_lens (with_flags h fs) (set h.lens l n)) (flag_lost h.flags l b e)
-
--- ---- flags of a fresh state
-
-module _ {A : Type 0} (a b : A) where
-  -- one more of the first n places is filled
-  pub fill_step : (n l : ℕ) → l < n → set (replicate l a ++ replicate (n - l) b) l a ≡ replicate (l + 1) a ++ replicate (n - (l + 1)) b
-  fill_step n zero h = let e : n - 0 ≡ suc (n - 1) = omega arith in ap (λ (k : ℕ). set (replicate k b) 0 a) e
-  fill_step zero (suc l) h = absurd (omega arith)
-  fill_step (suc n) (suc l) h =
-      let p : suc n - suc l ≡ n - l = omega arith in
-      let q : suc l + 1 ≡ suc (l + 1) = omega arith in
-      let r : suc n - suc (l + 1) ≡ n - (l + 1) = omega arith in
-      rw (p, q, r) (ap (λ (xs : List A). a ∷ xs) (fill_step n l (omega arith)))
 
 -- ---- lengths in range
 

@@ -11,8 +11,8 @@ use Rattle.header.specs.declared.Mode.TheVariants as mode
 use Rattle.header.specs.declared.Totals.{Totals}
 use Rattle.header.specs.declared.Header.{Header}
 use Rattle.header.specs.declared.Scalars.{Scalars}
-use Rattle.header.specs.declared.AnsweredLent.{AnsweredLent}
-use Rattle.header.specs.declared.Answered.{Answered}
+use Rattle.header.specs.Answers.{AnsweredLent}
+use Rattle.header.specs.Answers.{Answered}
 
 -- ---- headers from nothing
 

@@ -1,3 +1,4 @@
+pub mod Answers
 pub mod Header
 pub mod Lending
 pub mod OneTier

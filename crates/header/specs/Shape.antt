@@ -4,10 +4,7 @@ use Rattle.std.specs.Prelude.{ℕ, zero, suc, ◌+◌, ◌-◌, ◌*◌, ◌/◌
 use Rattle.matrix_storage.specs.Bits.{max_rows, max_cols, hash_bits, mask_bits}
 use Rattle.heap_moves.specs.Cands.{most_cands}
 use Rattle.header.specs.declared.Shape.{Shape}
-use Rattle.header.specs.declared.CheckedShape.{CheckedShape}
-use Rattle.header.specs.declared.CheckedShape.TheVariants as checked
-use Rattle.header.specs.declared.BottomLayer.{BottomLayer}
-use Rattle.header.specs.declared.BottomLayer.TheVariants as bottom
+use Rattle.refusal.specs.Refusals.{Answer}
 
 -- "Layers 1 to 19, rows 1 to 20, cols 1 to 4,096, heap size 1 to 1,024"
 abbrev pub max_layers : ℕ
@@ -50,8 +47,8 @@ shape_refusal sh =
     0)))
 
 -- the shape, or its refusal
-unfoldable pub checked_shape : Shape → CheckedShape
-checked_shape sh = cond (eqb (shape_refusal sh) 0) (checked.Good sh) (checked.Refused (shape_refusal sh))
+unfoldable pub checked_shape : Shape → Answer Shape
+checked_shape sh = cond (eqb (shape_refusal sh) 0) (Answer.yes sh) (Answer.no (shape_refusal sh))
 
 -- 10 "layers, rows, cols or heap sizes differ in merge", "all seven dimensions": whether none does
 abbrev pub same_tier : ℕ → ℕ → ℕ → ℕ → Bool
@@ -72,8 +69,8 @@ unfoldable pub bottom_of : ℕ → ℕ → ℕ
 bottom_of h layers = bottom_from h (layers - 1) 1
 
 -- "a lone layer count: those of 1 to 4 that their numbers can meet"
-unfoldable pub bottom_layer : ℕ → ℕ → BottomLayer
+unfoldable pub bottom_layer : ℕ → ℕ → Answer ℕ
 bottom_layer h layers =
-    cond (eqb layers 0) (bottom.Refused 1)
-    (cond (ltb max_layers layers) (bottom.Refused 2)
-    (bottom.At (bottom_of h layers)))
+    cond (eqb layers 0) (Answer.no 1)
+    (cond (ltb max_layers layers) (Answer.no 2)
+    (Answer.yes (bottom_of h layers)))

@@ -8,6 +8,8 @@
 ghost use Rattle.std.specs.Prelude.{◌≡◌, Bool, true, false, ◌&&◌, ◌||◌, List, ℕ, ◌+◌, ◌-◌, ◌<◌, ◌≤◌, length, get_or, set, replicate, eqb, leb};
 ghost use Rattle.words.specs.Num.{top};
 ghost use Rattle.words.specs.Tests.{number};
+ghost use Rattle.refusal.specs.Refusals.{answer, refused};
+ghost use Rattle.header.specs.Answers.{answered_by, answered_lent_by};
 ghost use Rattle.matrix_storage.specs.inner.Shaped.{Shaped};
 ghost use Rattle.header.specs.declared.Mode.{Mode};
 ghost use Rattle.header.specs.Totals.{no_totals, update_totals, add_totals, set_weight, totals_ok, totals_tests};
@@ -15,10 +17,12 @@ ghost use Rattle.header.specs.Shape.{max_layers, two_tier, empty_tier, bits_abov
 ghost use Rattle.header.specs.OneTier.{one_tier, is_one_tier};
 ghost use Rattle.header.specs.Header.{zero_header, fresh_header, with_totals, with_mode, with_flags, with_lens, with_layer, with_layers, scalars_of, clash, joined, mode_number, mode_by, begun, begun_scalars, begin_tests, begin_of, begin_header, fresh_flags, lens_from, header_ok, head_of};
 
+use refusal::Refusal;
+
 // The dimensions of a state: heap size, layers, and rows and columns of two tiers. Layers below
 // `elephant_layers` are of the first, the others of the second. `UnivMon`'s four dimensions are a shape
 // whose tiers are alike (`Shape::one_tier`).
-#[derive(Clone, Copy)]
+#[derive(Clone, Copy, PartialEq, Eq)]
 pub struct Shape {
     pub heap_size: usize,
     pub layers: usize,
@@ -27,20 +31,6 @@ pub struct Shape {
     pub elephant_cols: usize,
     pub mouse_rows: usize,
     pub mouse_cols: usize,
-}
-
-// A shape that was checked, or its refusal.
-#[derive(Clone, Copy)]
-pub enum CheckedShape {
-    Good(Shape),
-    Refused(u64),
-}
-
-// The last layer that a key reaches, or a refusal.
-#[derive(Clone, Copy)]
-pub enum BottomLayer {
-    At(usize),
-    Refused(u64),
 }
 
 // How keys were sent to layers; a fresh state has no mode yet.
@@ -78,20 +68,6 @@ pub struct Scalars {
     pub mode: Mode,
 }
 
-// What a call on a header answers: a refusal and the header as it was, or 0 and the new header.
-#[derive(Clone, Copy)]
-pub struct Answered {
-    pub refusal: u64,
-    pub header: Header,
-}
-
-// The same where lengths and flags are lent.
-#[derive(Clone, Copy)]
-pub struct AnsweredLent {
-    pub refusal: u64,
-    pub scalars: Scalars,
-}
-
 impl Shape {
     pub const MAX_LAYERS: usize = 19;
 
@@ -101,28 +77,28 @@ impl Shape {
 
     pub const MAX_HEAP_SIZE: usize = heap_moves::MAX_HEAP_SIZE;
 
-    // 0, or the refusal of the dimensions: 1, 2, 3, 4 in this order, each over both tiers. Tests that are
+    // Whether the dimensions are accepted: 1, 2, 3, 4 in this order, each over both tiers. Tests that are
     // joined by `|` have no jump.
-    pub fn refusal(self) -> u64
-        ensures { result ≡ shape_refusal self }
+    pub fn check(self) -> Result<(), Refusal>
+        ensures { refused result ≡ shape_refusal self }
     {
         let elephants = empty_tier(self.elephant_rows, self.elephant_cols);
         let mice = empty_tier(self.mouse_rows, self.mouse_cols);
         if (self.heap_size == 0) | ((self.layers == 0) | (elephants | mice)) {
-            return 1;
+            return Err(Refusal::ZeroDimension);
         }
         if (Self::MAX_LAYERS < self.layers) | (Self::MAX_LAYERS < self.elephant_layers) {
-            return 2;
+            return Err(Refusal::TooManyLayers);
         }
         if self.bits_above() {
-            return 3;
+            return Err(Refusal::TooManyHashBits);
         }
         let wide = tier_above(self.elephant_rows, self.elephant_cols);
         let narrow = tier_above(self.mouse_rows, self.mouse_cols);
         if wide | (narrow | (Self::MAX_HEAP_SIZE < self.heap_size)) {
-            return 4;
+            return Err(Refusal::AboveDomain);
         }
-        0
+        Ok(())
     }
 
     // Whether a tier takes more hash bits than there are. Tiers that are alike are asked once.
@@ -130,18 +106,10 @@ impl Shape {
         requires { (1 ≤ self.elephant_cols) × (1 ≤ self.mouse_cols) }
         ensures { result ≡ bits_above self.elephant_rows self.elephant_cols || bits_above self.mouse_rows self.mouse_cols }
     {
-        if matrix_storage::bits_above(self.mouse_rows, self.mouse_cols) {
-            return true;
-        }
-        if same_tier(
-            self.elephant_rows,
-            self.elephant_cols,
-            self.mouse_rows,
-            self.mouse_cols,
-        ) {
-            return false;
-        }
-        matrix_storage::bits_above(self.elephant_rows, self.elephant_cols)
+        let elephants = (self.elephant_rows, self.elephant_cols);
+        let mice = (self.mouse_rows, self.mouse_cols);
+        matrix_storage::bits_above(mice.0, mice.1)
+            || elephants != mice && matrix_storage::bits_above(elephants.0, elephants.1)
     }
 
     // Whether every dimension is of its usual range, in which nothing is refused and no hash bits need to
@@ -162,21 +130,15 @@ impl Shape {
     pub fn accepted(self) -> bool
         ensures { result ≡ eqb (shape_refusal self) 0 }
     {
-        if self.usual() {
-            return true;
-        }
-        self.refusal() == 0
+        self.usual() || self.check().is_ok()
     }
 
-    // The shape itself, or its refusal.
-    fn checked(self) -> CheckedShape
-        ensures { result ≡ checked_shape self }
+    // The shape itself, if it is accepted.
+    fn checked(self) -> Result<Self, Refusal>
+        ensures { answer result ≡ checked_shape self }
     {
-        let n = self.refusal();
-        if n != 0 {
-            return CheckedShape::Refused(n);
-        }
-        CheckedShape::Good(self)
+        self.check()?;
+        Ok(self)
     }
 
     // The shape of these dimensions, if none is refused.
@@ -188,8 +150,8 @@ impl Shape {
         mouse_rows: usize,
         mouse_cols: usize,
         layers: usize,
-    ) -> CheckedShape
-        ensures { result ≡ checked_shape (two_tier heap_size elephant_layers elephant_rows elephant_cols mouse_rows mouse_cols layers) }
+    ) -> Result<Self, Refusal>
+        ensures { answer result ≡ checked_shape (two_tier heap_size elephant_layers elephant_rows elephant_cols mouse_rows mouse_cols layers) }
     {
         let shape = Shape {
             heap_size,
@@ -204,8 +166,13 @@ impl Shape {
     }
 
     // The same of the four dimensions of `UnivMon`.
-    pub fn new_one_tier(heap_size: usize, rows: usize, cols: usize, layers: usize) -> CheckedShape
-        ensures { result ≡ checked_shape (one_tier heap_size rows cols layers) }
+    pub fn new_one_tier(
+        heap_size: usize,
+        rows: usize,
+        cols: usize,
+        layers: usize,
+    ) -> Result<Self, Refusal>
+        ensures { answer result ≡ checked_shape (one_tier heap_size rows cols layers) }
     {
         Shape::one_tier(heap_size, rows, cols, layers).checked()
     }
@@ -242,23 +209,7 @@ impl Shape {
     pub fn same(self, other: Shape) -> bool
         ensures { result ≡ same_shape self other }
     {
-        let elephants = same_tier(
-            self.elephant_rows,
-            self.elephant_cols,
-            other.elephant_rows,
-            other.elephant_cols,
-        );
-        let mice = same_tier(
-            self.mouse_rows,
-            self.mouse_cols,
-            other.mouse_rows,
-            other.mouse_cols,
-        );
-        (self.layers == other.layers)
-            & (self.heap_size == other.heap_size)
-            & (self.elephant_layers == other.elephant_layers)
-            & elephants
-            & mice
+        self == other
     }
 }
 
@@ -283,17 +234,11 @@ fn tier_above(rows: usize, cols: usize) -> bool
     (Shape::MAX_ROWS < rows) | (Shape::MAX_COLS < cols)
 }
 
-fn same_tier(rows: usize, cols: usize, other_rows: usize, other_cols: usize) -> bool
-    ensures { result ≡ same_tier rows cols other_rows other_cols }
+// Whether the four dimensions of `UnivMon` are accepted.
+pub fn check_shape(heap_size: usize, rows: usize, cols: usize, layers: usize) -> Result<(), Refusal>
+    ensures { refused result ≡ shape_refusal (one_tier heap_size rows cols layers) }
 {
-    (rows == other_rows) & (cols == other_cols)
-}
-
-// 0, or the refusal of the four dimensions of `UnivMon`.
-pub fn check_shape(heap_size: usize, rows: usize, cols: usize, layers: usize) -> u64
-    ensures { result ≡ shape_refusal (one_tier heap_size rows cols layers) }
-{
-    Shape::one_tier(heap_size, rows, cols, layers).refusal()
+    Shape::one_tier(heap_size, rows, cols, layers).check()
 }
 
 // The last layer that a key with this bottom hash reaches: the number of ones in a row from bit 1 on, at
@@ -303,24 +248,20 @@ pub fn bottom_of(hash: u64, layers: usize) -> usize
     ensures { (result ≡ bottom_of hash layers) × (result < layers) }
 {
     let ones = u64::trailing_zeros(u64::MAX - (hash >> 1)) as usize;
-    let last = layers - 1;
-    if ones < last {
-        return ones;
-    }
-    last
+    ones.min(layers - 1)
 }
 
 // The same for any number of layers: 1 for none, 2 above the domain.
-pub fn bottom_layer_for_hash(hash: u64, layers: usize) -> BottomLayer
-    ensures { result ≡ bottom_layer hash layers }
+pub fn bottom_layer_for_hash(hash: u64, layers: usize) -> Result<usize, Refusal>
+    ensures { answer result ≡ bottom_layer hash layers }
 {
     if layers == 0 {
-        return BottomLayer::Refused(1);
+        return Err(Refusal::ZeroDimension);
     }
     if Shape::MAX_LAYERS < layers {
-        return BottomLayer::Refused(2);
+        return Err(Refusal::TooManyLayers);
     }
-    BottomLayer::At(bottom_of(hash, layers))
+    Ok(bottom_of(hash, layers))
 }
 
 // ---- modes
@@ -328,19 +269,10 @@ pub fn bottom_layer_for_hash(hash: u64, layers: usize) -> BottomLayer
 pub fn clashes(a: Mode, b: Mode) -> bool
     ensures { result ≡ clash a b }
 {
-    match a {
-        Mode::Unset => false,
-        Mode::Standard => match b {
-            Mode::Unset => false,
-            Mode::Standard => false,
-            Mode::Terminal => true,
-        },
-        Mode::Terminal => match b {
-            Mode::Unset => false,
-            Mode::Standard => true,
-            Mode::Terminal => false,
-        },
-    }
+    matches!(
+        (a, b),
+        (Mode::Standard, Mode::Terminal) | (Mode::Terminal, Mode::Standard)
+    )
 }
 
 pub fn join(a: Mode, b: Mode) -> Mode
@@ -348,8 +280,7 @@ pub fn join(a: Mode, b: Mode) -> Mode
 {
     match a {
         Mode::Unset => b,
-        Mode::Standard => Mode::Standard,
-        Mode::Terminal => Mode::Terminal,
+        Mode::Standard | Mode::Terminal => a,
     }
 }
 
@@ -368,13 +299,11 @@ pub fn mode_number(mode: Mode) -> u64
 pub fn mode_of(n: u64) -> Mode
     ensures { result ≡ mode_by n }
 {
-    if n == 1 {
-        return Mode::Standard;
+    match n {
+        1 => Mode::Standard,
+        2 => Mode::Terminal,
+        _ => Mode::Unset,
     }
-    if n == 2 {
-        return Mode::Terminal;
-    }
-    Mode::Unset
 }
 
 // ---- the header's own steps
@@ -398,13 +327,11 @@ impl Header {
         requires { shape.layers ≤ max_layers }
         ensures { result ≡ fresh_header shape }
     {
-        let layers = shape.layers;
-        let flags = fresh_flags(layers);
         Header {
             shape,
             totals: Totals::zero(),
             mode: Mode::Unset,
-            flags,
+            flags: fresh_flags(shape.layers),
             lens: [0usize; Shape::MAX_LAYERS],
         }
     }
@@ -413,46 +340,23 @@ impl Header {
     pub fn scalars(self) -> Scalars
         ensures { result ≡ scalars_of self }
     {
-        let shape = self.shape;
-        let totals = self.totals;
-        let mode = self.mode;
         Scalars {
-            shape,
-            totals,
-            mode,
+            shape: self.shape,
+            totals: self.totals,
+            mode: self.mode,
         }
     }
 
     pub fn with_totals(self, totals: Totals) -> Self
         ensures { result ≡ with_totals self totals }
     {
-        let shape = self.shape;
-        let mode = self.mode;
-        let flags = self.flags;
-        let lens = self.lens;
-        Header {
-            shape,
-            totals,
-            mode,
-            flags,
-            lens,
-        }
+        Header { totals, ..self }
     }
 
     pub fn with_mode(self, mode: Mode) -> Self
         ensures { result ≡ with_mode self mode }
     {
-        let shape = self.shape;
-        let totals = self.totals;
-        let flags = self.flags;
-        let lens = self.lens;
-        Header {
-            shape,
-            totals,
-            mode,
-            flags,
-            lens,
-        }
+        Header { mode, ..self }
     }
 
     pub fn clear_flag(mut self, layer: usize) -> Self
@@ -519,38 +423,39 @@ impl Header {
         requires { number (totals_tests self.totals totals) ≡ 0 }
         ensures { result ≡ begun self totals mode }
     {
-        let scalars = self.scalars().begin(totals, mode);
-        let sum = scalars.totals;
-        let next = scalars.mode;
-        self.with_totals(sum).with_mode(next)
+        let Scalars { totals, mode, .. } = self.scalars().begin(totals, mode);
+        Header {
+            totals,
+            mode,
+            ..self
+        }
     }
 
-    // Totals and mode of an update: 5, 6, 7 or 14 and the header as it was, or 0 and the header that the
-    // update begins with.
-    pub fn begin_update(self, weight: i64, mode: Mode) -> Answered
-        ensures { result ≡ begin_header self weight mode }
+    // Totals and mode of an update come in, 5, 6, 7 and 14: the header that the update begins with.
+    pub fn begin_update(self, weight: i64, mode: Mode) -> Result<Self, Refusal>
+        ensures { answered_by self result ≡ begin_header self weight mode }
     {
-        let begun = self.scalars().begin_update(weight, mode);
-        let scalars = begun.scalars;
-        let totals = scalars.totals;
-        let next = scalars.mode;
-        Answered {
-            refusal: begun.refusal,
-            header: self.with_totals(totals).with_mode(next),
-        }
+        let Scalars { totals, mode, .. } = self.scalars().begin_update(weight, mode)?;
+        Ok(Header {
+            totals,
+            mode,
+            ..self
+        })
     }
 
     // Whether dimensions, totals, lengths and flags are in range.
     pub fn in_range(self) -> bool
         ensures { result ≡ header_ok self }
     {
-        if self.shape.refusal() != 0 {
-            return false;
-        }
         let shape = self.shape;
-        let lens = self.lens;
-        let flags = self.flags;
-        rest_in_range(shape.layers, shape.heap_size, self.totals, &lens, &flags)
+        shape.accepted()
+            && rest_in_range(
+                shape.layers,
+                shape.heap_size,
+                self.totals,
+                &self.lens,
+                &self.flags,
+            )
     }
 }
 
@@ -559,10 +464,7 @@ impl Header {
 fn sum_within(a: u64, b: u64) -> bool
     ensures { result ≡ leb (a + b) top }
 {
-    if words::MAX_WEIGHT < b {
-        return false;
-    }
-    a <= words::MAX_WEIGHT - b
+    b <= words::MAX_WEIGHT && a <= words::MAX_WEIGHT - b
 }
 
 impl Totals {
@@ -585,10 +487,7 @@ impl Totals {
     pub fn with_weight(self, weight: u64) -> Self
         ensures { result ≡ set_weight self weight }
     {
-        Totals {
-            weight,
-            updates: self.updates,
-        }
+        Totals { weight, ..self }
     }
 
     // The number of updates has the weight's bound.
@@ -598,20 +497,20 @@ impl Totals {
         (self.weight <= words::MAX_WEIGHT) & (self.updates <= words::MAX_WEIGHT)
     }
 
-    // 7 where the weights of two totals would pass 2^52, else 14 where their updates would, else 0; for
-    // totals out of range too.
-    pub fn sum_refusal(self, more: Totals) -> u64
-        ensures { result ≡ number (totals_tests self more) }
+    // Whether two totals may be added: 7 where their weights would pass 2^52, else 14 where their updates
+    // would; for totals out of range too.
+    pub fn check_sum(self, more: Totals) -> Result<(), Refusal>
+        ensures { refused result ≡ number (totals_tests self more) }
     {
         let light = sum_within(self.weight, more.weight);
         let few = sum_within(self.updates, more.updates);
         if !light {
-            return 7;
+            return Err(Refusal::WeightAbove);
         }
         if !few {
-            return 14;
+            return Err(Refusal::UpdatesAbove);
         }
-        0
+        Ok(())
     }
 
     pub fn plus(self, more: Totals) -> Self
@@ -626,19 +525,18 @@ impl Totals {
 }
 
 impl Scalars {
-    // The number that an update's beginning is refused with, 0 for none: 5, 6, 7, 14.
-    pub fn begin_refusal(self, weight: i64, mode: Mode) -> u64
-        ensures { result ≡ number (begin_tests self weight mode) }
+    // Whether an update may begin: 5, 6, 7, 14.
+    pub fn check_begin(self, weight: i64, mode: Mode) -> Result<(), Refusal>
+        ensures { refused result ≡ number (begin_tests self weight mode) }
     {
         if weight < 0 {
-            return 5;
+            return Err(Refusal::NegativeWeight);
         }
-        let before = self.mode;
-        if clashes(before, mode) {
-            return 6;
+        if clashes(self.mode, mode) {
+            return Err(Refusal::MixedModes);
         }
         self.totals
-            .sum_refusal(Totals::of_update(words::magnitude(weight)))
+            .check_sum(Totals::of_update(words::magnitude(weight)))
     }
 
     // The totals of an update or of a second state come in, once they are judged, and an unset mode
@@ -647,31 +545,20 @@ impl Scalars {
         requires { number (totals_tests self.totals totals) ≡ 0 }
         ensures { result ≡ begun_scalars self totals mode }
     {
-        let shape = self.shape;
-        let before = self.mode;
         Scalars {
-            shape,
             totals: self.totals.plus(totals),
-            mode: join(before, mode),
+            mode: join(self.mode, mode),
+            ..self
         }
     }
 
     // An update's beginning without lengths and flags, which it does not change; for any totals that
     // were there.
-    pub fn begin_update(self, weight: i64, mode: Mode) -> AnsweredLent
-        ensures { result ≡ begin_of self weight mode }
+    pub fn begin_update(self, weight: i64, mode: Mode) -> Result<Self, Refusal>
+        ensures { answered_lent_by self result ≡ begin_of self weight mode }
     {
-        let refusal = self.begin_refusal(weight, mode);
-        if refusal != 0 {
-            return AnsweredLent {
-                refusal,
-                scalars: self,
-            };
-        }
-        AnsweredLent {
-            refusal: 0,
-            scalars: self.begin(Totals::of_update(words::magnitude(weight)), mode),
-        }
+        self.check_begin(weight, mode)?;
+        Ok(self.begin(Totals::of_update(words::magnitude(weight)), mode))
     }
 }
 
@@ -681,11 +568,7 @@ fn fresh_flags(layers: usize) -> [bool; Shape::MAX_LAYERS]
     ensures { result ≡ fresh_flags layers }
 {
     let mut flags = [false; Shape::MAX_LAYERS];
-    let mut l = 0;
-    while l < layers {
-        flags[l] = true;
-        l += 1;
-    }
+    flags[..layers].fill(true);
     flags
 }
 
@@ -698,10 +581,8 @@ fn lens_few(lens: &[usize], layers: usize, heap_size: usize) -> bool
     ensures { (flags : List Bool) → result ≡ lens_from layers heap_size lens.now flags layers 0 }
 {
     let mut few = true;
-    let mut l = 0;
-    while l < layers {
-        few = few & (lens[l] <= heap_size);
-        l += 1;
+    for len in &lens[..layers] {
+        few &= *len <= heap_size;
     }
     few
 }
@@ -712,10 +593,8 @@ fn rest_clear(lens: &[usize], flags: &[bool], layers: usize) -> bool
     ensures { (size : ℕ) → result ≡ lens_from layers size lens.now flags.now (max_layers - layers) layers }
 {
     let mut clear = true;
-    let mut l = layers;
-    while l < Shape::MAX_LAYERS {
-        clear = clear & (lens[l] == 0) & !flags[l];
-        l += 1;
+    for l in layers..Shape::MAX_LAYERS {
+        clear &= (lens[l] == 0) & !flags[l];
     }
     clear
 }
@@ -731,12 +610,7 @@ fn rest_in_range(
     requires { (layers ≤ max_layers) × ((length lens.now ≡ max_layers) × (length flags.now ≡ max_layers)) }
     ensures { result ≡ totals_ok totals && lens_from layers heap_size lens.now flags.now max_layers 0 }
 {
-    if !totals.in_range() {
-        return false;
-    }
-    let few = lens_few(lens, layers, heap_size);
-    let clear = rest_clear(lens, flags, layers);
-    few & clear
+    totals.in_range() && lens_few(lens, layers, heap_size) & rest_clear(lens, flags, layers)
 }
 
 // Whether dimensions, totals, lengths and flags are in range; of the mode nothing is asked. For the
@@ -745,8 +619,5 @@ pub fn fields_in_range(shape: Shape, totals: Totals, lens: &[usize], flags: &[bo
     requires { (length lens.now ≡ max_layers) × (length flags.now ≡ max_layers) }
     ensures { (m : Mode) → result ≡ header_ok (head_of (record { shape = shape; totals = totals; mode = m }) lens.now flags.now) }
 {
-    if !shape.accepted() {
-        return false;
-    }
-    rest_in_range(shape.layers, shape.heap_size, totals, lens, flags)
+    shape.accepted() && rest_in_range(shape.layers, shape.heap_size, totals, lens, flags)
 }

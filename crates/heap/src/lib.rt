@@ -7,7 +7,7 @@
 mod blocks;
 mod tell;
 
-ghost use Rattle.std.specs.Prelude.{◌≡◌, ℕ, ◌≤◌, ◌<◌, ◌*◌, List, length, take, ℤ};
+ghost use Rattle.std.specs.Prelude.{◌≡◌, ℕ, ◌≤◌, ◌<◌, ◌*◌, List, length, take, unwrap_or, IfSome, ℤ};
 ghost use Rattle.words.specs.Num.{all_in};
 ghost use Rattle.heap_moves.specs.Cands.{most_cands, recount, update_at};
 ghost use Rattle.heap_moves.specs.Flat.{cands_of, cand_of, entries_of, counts_of};
@@ -27,19 +27,14 @@ pub enum Answer {
     TurnedAway,
 }
 
-// The first of the n entries with the key; n if there is none. A scan over every fourth word.
-pub fn find(entries: &[u64], n: usize, key: u64) -> usize
+// The first of the n entries with the key, if there is one. A scan over every fourth word.
+pub fn find(entries: &[u64], n: usize, key: u64) -> Option<usize>
     requires { 4 * n ≤ length entries.now }
-    ensures { ((ns : List ℤ) → n ≤ length ns → result ≡ Rattle.heap.specs.Offer.find key (take n (cands_of entries.now ns))) × (result ≤ n) }
+    ensures first_match { (ns : List ℤ) → n ≤ length ns → unwrap_or result n ≡ Rattle.heap.specs.Offer.find key (take n (cands_of entries.now ns)) }
+    ensures within { IfSome result (λ i. i < n) }
 {
-    let mut i = blocks::front_other(entries, n, key);
-    while i < n {
-        if entries[4 * i] == key {
-            return i;
-        }
-        i += 1;
-    }
-    n
+    let seen = blocks::front_other(entries, n, key);
+    (seen..n).find(|i| entries[4 * *i] == key)
 }
 
 // A known key's new count: its entry keeps its words, and moves down or else up.
@@ -97,8 +92,7 @@ pub fn offer(
     ensures value { result ≡ (offered entries.old counts.old size len w v).answer }
     ensures len_value { len_by result len ≡ (offered entries.old counts.old size len w v).table.len }
 {
-    let at = find(&*entries, len, w.key);
-    if at < len {
+    if let Some(at) = find(&*entries, len, w.key) {
         rescore(entries, counts, len, at, v);
         return Answer::Rescored;
     }
@@ -115,10 +109,8 @@ pub fn len_after(len: usize, a: Answer) -> usize
     ensures { result ≡ len_by a len }
 {
     match a {
-        Answer::Rescored => len,
         Answer::Seated => len + 1,
-        Answer::Displaced(k) => len,
-        Answer::TurnedAway => len,
+        Answer::Rescored | Answer::Displaced(_) | Answer::TurnedAway => len,
     }
 }
 
@@ -126,12 +118,7 @@ pub fn len_after(len: usize, a: Answer) -> usize
 pub fn kept(a: Answer) -> bool
     ensures { result ≡ kept_by a }
 {
-    match a {
-        Answer::Rescored => true,
-        Answer::Seated => true,
-        Answer::Displaced(k) => false,
-        Answer::TurnedAway => false,
-    }
+    matches!(a, Answer::Rescored | Answer::Seated)
 }
 
 // Whether the counts of the first n candidates lie within ±2^52.

@@ -10,10 +10,11 @@ use native.Mathlib.Decide.{ℕ_discrete}
 use lib.ListN.{length}
 use lib.Dec.{eqb, leb, ltb}
 use borrow.Author.Tests.{eq-eqb, ne_eqb, eqb-true, le-leb, leb-true, lt-ltb, ltb-true}
+use Rattle.std.proofs.Common.{Option, Some, None}
 use Rattle.words.proofs.Bools.{and_left, and_right, both}
 use Rattle.heap_moves.specs.Cands.{Cand}
 use Rattle.heap_index.specs.declared.Lookup.{Lookup}
-use Rattle.heap_index.specs.declared.Lookup.TheVariants.{Met, Vacant, Refused}
+use Rattle.heap_index.specs.declared.Lookup.TheVariants.{Met, Vacant}
 use Rattle.heap_index.specs.Index.{home, dist, word, key_at, look_from, look, under_by, found_under, entries_ok, place_ok, places_ok, index_ok}
 use Rattle.heap_index.specs.inner.Indexes.{home_on, Indexes, Ranged}
 use Rattle.heap_index.proofs.LookupEnds.{MetAt, found_met}
@@ -24,15 +25,15 @@ module _ (xs : List ℕ) (n : ℕ) (cs : List Cand) where
   pub record At (i p : ℕ) : Type 0 where
     pub number : word xs p ≡ suc i
     pub probes : ℕ
-    pub ends : look xs n cs (key_at cs i) ≡ Met p probes
+    pub ends : look xs n cs (key_at cs i) ≡ Some (Met p probes)
     pub met : MetAt xs n cs (key_at cs i) (home (length xs) (key_at cs i)) p
 
   pub place_at : (i : ℕ) → found_under xs n cs i < length xs → At i (found_under xs n cs i)
   unfolding found_under look
   place_at i h = go (look_from (length xs) xs n cs (key_at cs i) (home (length xs) (key_at cs i)) 0) refl h
     where
-      go : (l : Lookup) → look_from (length xs) xs n cs (key_at cs i) (home (length xs) (key_at cs i)) 0 ≡ l → under_by xs i l < length xs → At i (under_by xs i l)
-      go (Met p d) e h = by (ℕ_discrete (word xs p) (suc i)) h
+      go : (l : Option Lookup) → look_from (length xs) xs n cs (key_at cs i) (home (length xs) (key_at cs i)) 0 ≡ l → under_by xs i l < length xs → At i (under_by xs i l)
+      go (Some (Met p d)) e h = by (ℕ_discrete (word xs p) (suc i)) h
         where
           by : Dec (word xs p ≡ suc i) → cond (eqb (word xs p) (suc i)) p (length xs) < length xs → At i (cond (eqb (word xs p) (suc i)) p (length xs))
           by (yes s) h =
@@ -44,8 +45,8 @@ module _ (xs : List ℕ) (n : ℕ) (cs : List Cand) where
                 met = found_met xs n cs (key_at cs i) (length xs) (home (length xs) (key_at cs i)) 0 p d (mod-lt (key_at cs i) (omega (arith, rw (eq-eqb (word xs p) (suc i) s) at h))) e;
               })
           by (no s) h = absurd (omega (arith, rw (ne_eqb (word xs p) (suc i) s) at h))
-      go (Vacant p d) e h = absurd (omega (arith, h))
-      go Refused e h = absurd (omega (arith, h))
+      go (Some (Vacant p d)) e h = absurd (omega (arith, h))
+      go None e h = absurd (omega (arith, h))
 
   -- ---- from the check
 
@@ -105,7 +106,7 @@ module _ (xs : List ℕ) (n : ℕ) (cs : List Cand) where
       distinct i j hi hj s =
           let a = place_at i (entry i hi) in
           let b = place_at j (entry j hj) in
-          let same : Met (found_under xs n cs i) a.probes ≡ Met (found_under xs n cs j) b.probes = sym a.ends ∙ ap (look xs n cs) s ∙ b.ends in
+          let same : Some (Met (found_under xs n cs i) a.probes) ≡ Some (Met (found_under xs n cs j) b.probes) = sym a.ends ∙ ap (look xs n cs) s ∙ b.ends in
           let pl : found_under xs n cs i ≡ found_under xs n cs j = cc in
           omega (arith, a.number, b.number, ap (word xs) pl)
 

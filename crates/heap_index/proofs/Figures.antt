@@ -4,9 +4,10 @@ use mathlib.Core.Bool.{true, false}
 use mathlib.Core.List.{[], ◌∷◌}
 use Prim.Native.Nat.{ℕ}
 use lib.IntN.{pos}
+use Rattle.std.proofs.Common.{Some, None}
 use Rattle.words.specs.Num.{in_range}
 use Rattle.heap_moves.specs.Cands.{Cand}
-use Rattle.heap_index.specs.declared.Lookup.TheVariants.{Met, Vacant, Refused}
+use Rattle.heap_index.specs.declared.Lookup.TheVariants.{Met, Vacant}
 use Rattle.heap_index.specs.Index.{round_up, index_length, next_place, dist, is_name, look_from, look, close, found_under, remove_at, remove, exchange_at, exchange, entries_ok, place_ok, places_ok, index_ok, enter_all, build, step_to, no_step}
 
 cand : ℕ → Cand
@@ -22,20 +23,20 @@ unfolding cand build enter_all look look_from is_name next_place in_range
 built = refl
 
 -- the probes of 4, and of a key that is not there
-probed : look (2 ∷ 3 ∷ 0 ∷ 1 ∷ []) 3 (cand 3 ∷ cand 7 ∷ cand 4 ∷ []) 4 ≡ Met 1 2
+probed : look (2 ∷ 3 ∷ 0 ∷ 1 ∷ []) 3 (cand 3 ∷ cand 7 ∷ cand 4 ∷ []) 4 ≡ Some (Met 1 2)
 unfolding cand look look_from is_name next_place in_range
 probed = refl
 
-missed : look (2 ∷ 3 ∷ 0 ∷ 1 ∷ []) 3 (cand 3 ∷ cand 7 ∷ cand 4 ∷ []) 11 ≡ Vacant 2 4
+missed : look (2 ∷ 3 ∷ 0 ∷ 1 ∷ []) 3 (cand 3 ∷ cand 7 ∷ cand 4 ∷ []) 11 ≡ Some (Vacant 2 4)
 unfolding cand look look_from is_name next_place in_range
 missed = refl
 
 -- a place that names no candidate, and a table with no empty place
-strayed : look (9 ∷ 3 ∷ 0 ∷ 1 ∷ []) 3 (cand 3 ∷ cand 7 ∷ cand 4 ∷ []) 11 ≡ Refused
+strayed : look (9 ∷ 3 ∷ 0 ∷ 1 ∷ []) 3 (cand 3 ∷ cand 7 ∷ cand 4 ∷ []) 11 ≡ None
 unfolding cand look look_from is_name next_place in_range
 strayed = refl
 
-filled : look (2 ∷ 3 ∷ 3 ∷ 1 ∷ []) 3 (cand 3 ∷ cand 7 ∷ cand 4 ∷ []) 11 ≡ Refused
+filled : look (2 ∷ 3 ∷ 3 ∷ 1 ∷ []) 3 (cand 3 ∷ cand 7 ∷ cand 4 ∷ []) 11 ≡ None
 unfolding cand look look_from is_name next_place in_range
 filled = refl
 

@@ -3,19 +3,20 @@ use mathlib.Core.Path.{◌≡◌, refl, sym, ap, ◌∙◌, subst}
 use mathlib.Core.Logic.{◌≢◌}
 use mathlib.Core.Bool.{Bool, true, false, cond, ◌&&◌}
 use mathlib.Core.List.{List}
-use Prim.Native.Nat.{ℕ, zero, suc, ◌+◌, ◌-◌, ◌*◌, ◌%◌, ◌^◌, ◌≤◌, ◌<◌}
+use Prim.Native.Nat.{ℕ, zero, suc, ◌+◌, ◌-◌, ◌*◌, ◌/◌, max, ◌^◌, ◌≤◌, ◌<◌}
 use native.Mathlib.Omega.{arith}
-use native.Mathlib.Nat.{pow-suc, mul_assoc, mul_comm, mul-le-mul, le_refl, lt_of_not-le, one-mul}
+use native.Mathlib.Nat.{pow-suc, mul_assoc, mul_comm, mul-le-mul, le_refl, lt_of_not-le}
 use native.Mathlib.Numerals.{add-one}
 use lib.ListN.{length, set, replicate, length-set, length-replicate}
-use lib.Seq.{set_out}
+use native.Mathlib.Decide.{ℕ_discrete}
 use lib.Dec.{eqb, leb, ltb}
-use lib.Pow.{pow_pos, pow_mono, shl_exact}
-use lib.Count.{count_leading_zeros, leading_top}
-use borrow.Author.Tests.{eq-eqb, ne_eqb, le-leb, lt-leb, leb-true}
+use lib.Pow.{pow_pos, pow_mono}
+use borrow.Author.Tests.{eq-eqb, ne_eqb, le-leb, lt-leb, leb-true, lt-ltb, le-ltb}
+use Rattle.std.specs.Option.{option_eq}
+use Rattle.std.proofs.Common.{Option, Some, None, IfSome, is_some, unwrap_or}
 use Rattle.heap_moves.specs.Cands.{Cand}
 use Rattle.heap_index.specs.declared.Lookup.{Lookup}
-use Rattle.heap_index.specs.declared.Lookup.TheVariants.{Met, Vacant, Refused}
+use Rattle.heap_index.specs.declared.Lookup.TheVariants.{Met, Vacant}
 use Rattle.heap_index.specs.Index.{word, key_at, look, found_under, round_up, index_length, entries_ok, place_ok, places_ok, index_ok, enter_by, enter_all, build}
 
 -- ---- the check
@@ -57,6 +58,16 @@ module _ (xs : List ℕ) (n : ℕ) (cs : List Cand) where
   unfolding index_ok
   index_by b e q = rw e q
 
+-- a place that was found is one of m
+pub some_below : (o : Option ℕ) (m : ℕ) (b : Bool) → IfSome o (λ p. p < m) → is_some o ≡ b → ltb (unwrap_or o m) m ≡ b
+some_below None m b h e = le-ltb m m (omega arith) ∙ e
+some_below (Some p) m b h e = lt-ltb p m h ∙ e
+
+-- and whether it is the place p
+pub same_some : (o : Option ℕ) (m p : ℕ) → p < m → option_eq eqb o (Some p) ≡ eqb (unwrap_or o m) p
+same_some None m p h = sym (ne_eqb m p (λ y. omega (arith, y)))
+same_some (Some q) m p h = refl
+
 -- ---- the length of an index
 
 double_out : (p f : ℕ) → p * 2 ^ suc f ≡ 2 * p * 2 ^ f
@@ -84,35 +95,17 @@ round_at (suc k) (suc f) p n h a b =
 pub none-length : (size : ℕ) → size ≡ 0 → 1 ≡ index_length size
 none-length size e = sym (round_first 11 1 (2 * size) (omega (arith, e)))
 
--- the number of binary digits of the number before twice the size, and two to it
-pub record Digits (size : ℕ) : Type 0 where
-  pub digits : ℕ
-  pub zeros : count_leading_zeros 64 (2 * size - 1) + digits ≡ 64
-  pub few : digits ≤ 11
-  pub is : 2 ^ digits ≡ index_length size
-
-pub length_digits : (size : ℕ) → size ≢ 0 → size ≤ 1024 → Digits size
-length_digits size z h = go (leading_top 64 (2 * size - 1) (omega (arith, z)) (omega (arith, h)))
+-- the first power of two that is not below twice the size
+pub length_power : (size r : ℕ) → size ≤ 1024 → (k : ℕ) × (r ≡ 2 ^ k) → 2 * size ≤ r → r / 2 < max 1 (2 * size) → r ≡ index_length size
+length_power size r h p low high = go (ℕ_discrete size 0) p.0 p.1
   where
-    go : (j : ℕ) × (count_leading_zeros 64 (2 * size - 1) + suc j ≡ 64) × (2 ^ j ≤ 2 * size - 1) × (2 * size - 1 < 2 ^ suc j) → Digits size
-    go t =
-        let few : t.0 < 11 = lt_of_not-le (λ (g : 11 ≤ t.0). omega (arith, h, t.2, pow_mono g)) in
-        let twice : 2 ^ suc t.0 ≡ 2 ^ t.0 * 2 = pow-suc 2 t.0 in
-        record {
-          digits = suc t.0;
-          zeros = t.1;
-          few = few;
-          is = let e = round_at (suc t.0) 11 1 (2 * size) few (omega (arith, z, t.3)) (omega (arith, z, t.2, twice)) in omega (arith, e);
-        }
-
--- what the code makes of the leading zeros
-pub length_shift : (size d : ℕ) → size ≢ 0 → size ≤ 1024 → d ≡ 64 - count_leading_zeros 64 (2 * size - 1) → (1 * 2 ^ d) % 2 ^ 64 ≡ index_length size
-length_shift size d z h e = go (length_digits size z h)
-  where
-    go : Digits size → (1 * 2 ^ d) % 2 ^ 64 ≡ index_length size
-    go g =
-        let q : d ≡ g.digits = omega (arith, e, g.zeros) in
-        shl_exact 1 d 64 (omega arith) (omega (arith, q, g.few)) ∙ ap (λ (x : ℕ). 1 * 2 ^ x) q ∙ one-mul (2 ^ g.digits) ∙ g.is
+    go : Dec (size ≡ 0) → (k : ℕ) → r ≡ 2 ^ k → r ≡ index_length size
+    go (yes z) k e = let some : 0 < 2 ^ k = pow_pos k in omega (arith, none-length size z, some)
+    go (no z) zero e = let q = round_at 0 11 1 (2 * size) (omega arith) (omega (arith, e)) (omega arith) in omega (arith, e, q)
+    go (no z) (suc k) e =
+        let twice : 2 ^ suc k ≡ 2 ^ k * 2 = pow-suc 2 k in
+        let few : k < 11 = lt_of_not-le (λ (g : 11 ≤ k). omega (arith, h, z, pow_mono g, twice)) in
+        let q = round_at (suc k) 11 1 (2 * size) few (omega (arith, e)) (omega (arith, z, twice, e)) in omega (arith, e, q)
 
 -- there is room for every entry
 round_room : (f p n : ℕ) → n ≤ p * 2 ^ f → n ≤ round_up f p n
@@ -158,10 +151,10 @@ unfolding build
 enter-start m n xs cs e = record { long = ap length e ∙ length-replicate {A = ℕ} m 0; left = n; all = omega arith; goes = ap (λ (x : List ℕ). enter_all n x cs 0) e }
 
 -- an entry that comes in leaves the table as long as it was
-enter-long : (xs : List ℕ) (i : ℕ) (l : Lookup) → length (enter_by xs i l) ≡ length xs
-enter-long xs i (Met p d) = refl
-enter-long xs i (Vacant p d) = length-set xs p (suc i)
-enter-long xs i Refused = refl
+enter-long : (xs : List ℕ) (i : ℕ) (l : Option Lookup) → length (enter_by xs i l) ≡ length xs
+enter-long xs i (Some (Met p d)) = refl
+enter-long xs i (Some (Vacant p d)) = length-set xs p (suc i)
+enter-long xs i None = refl
 
 enter_all-long : (k : ℕ) (xs : List ℕ) (cs : List Cand) (i : ℕ) → length (enter_all k xs cs i) ≡ length xs
 unfolding enter_all
@@ -196,19 +189,17 @@ enter_end goal m n xs cs i v h = go v.left v.all v.goes
     go zero a g = g
     go (suc f) a g = absurd (omega (arith, a))
 
-pub enter_is : (xs : List ℕ) (cs : List Cand) (i k : ℕ) (l : Lookup) → key_at cs i ≡ k → look xs i cs k ≡ l → enter_by xs i l ≡ enter_by xs i (look xs i cs (key_at cs i))
+pub enter_is : (xs : List ℕ) (cs : List Cand) (i k : ℕ) (l : Option Lookup) → key_at cs i ≡ k → look xs i cs k ≡ l → enter_by xs i l ≡ enter_by xs i (look xs i cs (key_at cs i))
 enter_is xs cs i k l e q = ap (enter_by xs i) (sym (ap (look xs i cs) e ∙ q))
 
--- where it comes in, of a table of m places: a store past its end changes nothing
-module _ (m : ℕ) (l : Lookup) (xs : List ℕ) (i : ℕ) (long : length xs ≡ m) where
-  past_end : enter_by xs i l ≡ xs → set xs m (i + 1) ≡ enter_by xs i l
-  past_end e = set_out xs m (i + 1) (omega (arith, long)) ∙ sym e
+-- where it comes in
+module _ (xs : List ℕ) (cs : List Cand) (i k : ℕ) (q : key_at cs i ≡ k) where
+  pub enter_vacant : (p d : ℕ) → look xs i cs k ≡ Some (Vacant p d) → set xs p (i + 1) ≡ enter_by xs i (look xs i cs (key_at cs i))
+  enter_vacant p d e = ap (set xs p) (add-one i) ∙ enter_is xs cs i k (Some (Vacant p d)) q e
 
-  pub enter_met : (p d : ℕ) → l ≡ Met p d → set xs m (i + 1) ≡ enter_by xs i l
-  enter_met p d e = past_end (ap (enter_by xs i) e)
+  pub enter_met : (l : Lookup) → look xs i cs k ≡ Some l → ((p d : ℕ) → l ≡ Vacant p d → ⊥) → xs ≡ enter_by xs i (look xs i cs (key_at cs i))
+  enter_met (Met p d) e h = enter_is xs cs i k (Some (Met p d)) q e
+  enter_met (Vacant p d) e h = absurd (h p d refl)
 
-  pub enter_vacant : (p d : ℕ) → l ≡ Vacant p d → set xs p (i + 1) ≡ enter_by xs i l
-  enter_vacant p d e = ap (set xs p) (add-one i) ∙ sym (ap (enter_by xs i) e)
-
-  pub enter-refused : l ≡ Refused → set xs m (i + 1) ≡ enter_by xs i l
-  enter-refused e = past_end (ap (enter_by xs i) e)
+  pub enter-refused : look xs i cs k ≡ None → xs ≡ enter_by xs i (look xs i cs (key_at cs i))
+  enter-refused e = enter_is xs cs i k None q e

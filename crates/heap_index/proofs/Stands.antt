@@ -8,6 +8,7 @@ use native.Mathlib.Omega.{arith}
 use native.Mathlib.Nat.{mod-lt}
 use lib.ListN.{length}
 use borrow.Author.Tests.{eq-eqb}
+use Rattle.std.proofs.Common.{Some}
 use Rattle.heap_moves.specs.Cands.{Cand}
 use Rattle.heap_index.specs.declared.Lookup.TheVariants.{Met, Vacant}
 use Rattle.heap_index.specs.Index.{home, dist, word, key_at, key_on, is_name, look_from, look, under_by, found_under}
@@ -35,7 +36,7 @@ module _ (xs : List ℕ) (n : ℕ) (cs : List Cand) (o : ℕ) (v : Indexes xs n 
     pub place : ℕ
     pub below : place < length xs
     pub number : word xs place ≡ suc j
-    pub ends : look xs n cs (key_at cs j) ≡ Met place (dist (length xs) (home (length xs) (key_at cs j)) place + 1)
+    pub ends : look xs n cs (key_at cs j) ≡ Some (Met place (dist (length xs) (home (length xs) (key_at cs j)) place + 1))
     pub found : found_under xs n cs j ≡ place
 
   pub stands : (j : ℕ) → j < n → j ≢ o → Stands j
@@ -71,8 +72,8 @@ module _ (xs : List ℕ) (n : ℕ) (cs : List Cand) (o : ℕ) (v : Indexes xs n 
               let zq : word xs q ≢ 0 = v.reach p q hp hq z (subst (λ (x : ℕ). dist (length xs) (home (length xs) x) q < dist (length xs) (home (length xs) x) p) (sym key) l) in
               (zq, λ y. let s : p ≡ q = same_place p q hp hq z zq (key ∙ sym y) in omega (arith, l, ap (λ (x : ℕ). dist (length xs) h x) s))
 
-          ends : look_from (length xs) xs n cs (key_at cs j) (home (length xs) (key_at cs j)) 0 ≡ Met w.0 (dist (length xs) (home (length xs) (key_at cs j)) w.0 + 1)
-          ends = found_from xs n cs (key_at cs j) (length xs) h 0 p good hh hp z key before (dist-lt (length xs) h p hh hp) ∙ ap (λ (x : ℕ). Met p (x + 1)) (omega arith)
+          ends : look_from (length xs) xs n cs (key_at cs j) (home (length xs) (key_at cs j)) 0 ≡ Some (Met w.0 (dist (length xs) (home (length xs) (key_at cs j)) w.0 + 1))
+          ends = found_from xs n cs (key_at cs j) (length xs) h 0 p good hh hp z key before (dist-lt (length xs) h p hh hp) ∙ ap (λ (x : ℕ). Some (Met p (x + 1))) (omega arith)
 
   -- ---- another key
 
@@ -89,7 +90,7 @@ module _ (xs : List ℕ) (n : ℕ) (cs : List Cand) (o : ℕ) (v : Indexes xs n 
     pub below : place < length xs
     pub empty : word xs place ≡ 0
     pub before : (q : ℕ) → q < length xs → dist (length xs) (home (length xs) k) q < dist (length xs) (home (length xs) k) place → word xs q ≢ 0
-    pub ends : look xs n cs k ≡ Vacant place (dist (length xs) (home (length xs) k) place + 1)
+    pub ends : look xs n cs k ≡ Some (Vacant place (dist (length xs) (home (length xs) k) place + 1))
 
   pub other_ends : (k : ℕ) → n < length xs → Other k → Ends k
   unfolding look
@@ -98,4 +99,4 @@ module _ (xs : List ℕ) (n : ℕ) (cs : List Cand) (o : ℕ) (v : Indexes xs n 
       let hh : home (length xs) k < length xs = mod-lt k (omega (arith, h)) in
       let e = vacant_from xs n cs k (length xs) (home (length xs) k) 0 t.0 good
       (λ q hq z. other (word xs q - 1) (omega (arith, v.named q hq, z)) (λ y. v.out q hq (omega (arith, y, z)))) hh t.1 t.2 (dist-lt (length xs) (home (length xs) k) t.0 hh t.1) in
-      record { place = e.place; below = e.below; empty = e.empty; before = e.before; ends = e.ends ∙ ap (λ (x : ℕ). Vacant e.place (x + 1)) (omega arith) }
+      record { place = e.place; below = e.below; empty = e.empty; before = e.before; ends = e.ends ∙ ap (λ (x : ℕ). Some (Vacant e.place (x + 1))) (omega arith) }

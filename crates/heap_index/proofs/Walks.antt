@@ -12,14 +12,16 @@ use lib.ListN.{length, get_or, set, length-set}
 use lib.IntN.{ℤ, pos}
 use lib.Dec.{eqb, leb}
 use borrow.Author.Tests.{eq-eqb, ne_eqb, le-leb, lt-leb, leb-true, lt-ltb, le-ltb}
+use Rattle.std.proofs.Common.{Option, Some, None, IfSome, unwrap_or}
+use Rattle.std.specs.Bool.{then_some}
 use Rattle.words.specs.Num.{in_range}
 use Rattle.words.proofs.Bools.{and_left}
 use Rattle.heap_moves.specs.Cands.{Cand, count_at}
 use Rattle.heap_moves.specs.Flat.{cands_of}
 use Rattle.heap_moves.proofs.Views.{cand_at, count_at_lem}
 use Rattle.heap_index.specs.declared.Lookup.{Lookup}
-use Rattle.heap_index.specs.declared.Lookup.TheVariants.{Met, Vacant, Refused}
-use Rattle.heap_index.specs.Index.{home, next_place, dist, word, key_at, key_on, is_name, look_from, look, insert_at, insert, close, under_by, found_under, remove_at, remove, exchange_at, exchange, IndexStep, step_to, no_step}
+use Rattle.heap_index.specs.declared.Lookup.TheVariants.{Met, Vacant}
+use Rattle.heap_index.specs.Index.{ends_at, home, next_place, dist, word, key_at, key_on, is_name, look_from, look, insert_at, insert, close, under_by, found_under, remove_at, remove, exchange_at, exchange, IndexStep, step_to, no_step}
 use Rattle.heap_index.proofs.Circle.{next-lt}
 use Rattle.heap_index.proofs.LookupEnds.{found_met}
 
@@ -68,7 +70,7 @@ pub record LookInv (xs : List ℕ) (n : ℕ) (cs : List Cand) (k p d : ℕ) : Ty
   pub goes : look_from left xs n cs k p d ≡ look xs n cs k
 
 module _ (xs : List ℕ) (n : ℕ) (cs : List Cand) (k : ℕ) where
-  pub look_none : length xs ≡ 0 → Refused ≡ look xs n cs k
+  pub look_none : length xs ≡ 0 → None ≡ look xs n cs k
   unfolding look look_from
   look_none e = rw e
 
@@ -90,97 +92,105 @@ module _ (xs : List ℕ) (n : ℕ) (cs : List Cand) (k : ℕ) where
             goes = ap (λ (x : ℕ). look_from f xs n cs k x (d + 1)) q ∙ (rw (ne_eqb (word xs p) 0 z, w, ne_eqb (key_on xs cs p) k e) at g);
           }
 
-  pub look_vacant : (p d : ℕ) → LookInv xs n cs k p d → d < length xs → word xs p ≡ 0 → Vacant p (d + 1) ≡ look xs n cs k
+  pub look_vacant : (p d : ℕ) → LookInv xs n cs k p d → d < length xs → word xs p ≡ 0 → Some (Vacant p (d + 1)) ≡ look xs n cs k
   unfolding look_from
   look_vacant p d v h z = go v.left v.all v.goes
     where
-      go : (f : ℕ) → f + d ≡ length xs → look_from f xs n cs k p d ≡ look xs n cs k → Vacant p (d + 1) ≡ look xs n cs k
+      go : (f : ℕ) → f + d ≡ length xs → look_from f xs n cs k p d ≡ look xs n cs k → Some (Vacant p (d + 1)) ≡ look xs n cs k
       go zero a g = absurd (omega arith)
       go (suc f) a g = rw (eq-eqb (word xs p) 0 z) at g
 
-  pub look_stray : (p d : ℕ) → LookInv xs n cs k p d → d < length xs → word xs p ≢ 0 → is_name n cs (word xs p) ≡ false → Refused ≡ look xs n cs k
+  pub look_stray : (p d : ℕ) → LookInv xs n cs k p d → d < length xs → word xs p ≢ 0 → is_name n cs (word xs p) ≡ false → None ≡ look xs n cs k
   unfolding look_from
   look_stray p d v h z w = go v.left v.all v.goes
     where
-      go : (f : ℕ) → f + d ≡ length xs → look_from f xs n cs k p d ≡ look xs n cs k → Refused ≡ look xs n cs k
+      go : (f : ℕ) → f + d ≡ length xs → look_from f xs n cs k p d ≡ look xs n cs k → None ≡ look xs n cs k
       go zero a g = absurd (omega arith)
       go (suc f) a g = rw (ne_eqb (word xs p) 0 z, w) at g
 
-  pub look-found : (p d : ℕ) → LookInv xs n cs k p d → d < length xs → word xs p ≢ 0 → is_name n cs (word xs p) ≡ true → key_on xs cs p ≡ k → Met p (d + 1) ≡ look xs n cs k
+  pub look-found : (p d : ℕ) → LookInv xs n cs k p d → d < length xs → word xs p ≢ 0 → is_name n cs (word xs p) ≡ true → key_on xs cs p ≡ k → Some (Met p (d + 1)) ≡ look xs n cs k
   unfolding look_from
   look-found p d v h z w e = go v.left v.all v.goes
     where
-      go : (f : ℕ) → f + d ≡ length xs → look_from f xs n cs k p d ≡ look xs n cs k → Met p (d + 1) ≡ look xs n cs k
+      go : (f : ℕ) → f + d ≡ length xs → look_from f xs n cs k p d ≡ look xs n cs k → Some (Met p (d + 1)) ≡ look xs n cs k
       go zero a g = absurd (omega arith)
       go (suc f) a g = rw (ne_eqb (word xs p) 0 z, w, eq-eqb (key_on xs cs p) k e) at g
 
-  pub look_end : (p d : ℕ) → LookInv xs n cs k p d → length xs ≤ d → Refused ≡ look xs n cs k
+  pub look_end : (p d : ℕ) → LookInv xs n cs k p d → length xs ≤ d → None ≡ look xs n cs k
   unfolding look_from
   look_end p d v h = go v.left v.all v.goes
     where
-      go : (f : ℕ) → f + d ≡ length xs → look_from f xs n cs k p d ≡ look xs n cs k → Refused ≡ look xs n cs k
+      go : (f : ℕ) → f + d ≡ length xs → look_from f xs n cs k p d ≡ look xs n cs k → None ≡ look xs n cs k
       go zero a g = g
       go (suc f) a g = absurd (omega arith)
 
   -- ---- where it ended is a place
 
-  vacant_below : (f p d q e : ℕ) → p < length xs → look_from f xs n cs k p d ≡ Vacant q e → q < length xs
+  vacant_below : (f p d q e : ℕ) → p < length xs → look_from f xs n cs k p d ≡ Some (Vacant q e) → q < length xs
   unfolding look_from
   vacant_below zero p d q e h s = let z : ◌≡◌ {A = ℕ} 0 1 = cc in absurd (omega (arith, z))
   vacant_below (suc f) p d q e h s =
       go (vacant_below f (next_place (length xs) p) (d + 1) q e (next-lt (length xs) p h)) (eqb (word xs p) 0) (is_name n cs (word xs p)) (eqb (key_on xs cs p) k) s
     where
-      go : (look_from f xs n cs k (next_place (length xs) p) (d + 1) ≡ Vacant q e → q < length xs) → (a b c : Bool)
-          → cond a (Vacant p (d + 1)) (cond (not b) Refused (cond c (Met p (d + 1)) (look_from f xs n cs k (next_place (length xs) p) (d + 1)))) ≡ Vacant q e → q < length xs
+      go : (look_from f xs n cs k (next_place (length xs) p) (d + 1) ≡ Some (Vacant q e) → q < length xs) → (a b c : Bool)
+          → cond a (Some (Vacant p (d + 1))) (cond (not b) None (cond c (Some (Met p (d + 1))) (look_from f xs n cs k (next_place (length xs) p) (d + 1)))) ≡ Some (Vacant q e) → q < length xs
       go ih true b c s = let y : p ≡ q = cc in omega (arith, y, h)
       go ih false false c s = let z : ◌≡◌ {A = ℕ} 0 1 = cc in absurd (omega (arith, z))
       go ih false true true s = let z : ◌≡◌ {A = ℕ} 0 1 = cc in absurd (omega (arith, z))
       go ih false true false s = ih s
 
   -- a lookup that was not refused has a table
-  some : (l : Lookup) → look xs n cs k ≡ l → l ≢ Refused → 0 < length xs
+  some : (l : Option Lookup) → look xs n cs k ≡ l → l ≢ None → 0 < length xs
   some l e ne = go (ℕ_discrete (length xs) 0)
     where
       go : Dec (length xs ≡ 0) → 0 < length xs
       go (yes z) = absurd (ne (sym e ∙ sym (look_none z)))
       go (no z) = omega (arith, z)
 
-  pub found-place : (q e : ℕ) → look xs n cs k ≡ Met q e → q < length xs
+  pub found-place : (q e : ℕ) → look xs n cs k ≡ Some (Met q e) → q < length xs
   unfolding look
   found-place q e s =
-      let h = some (Met q e) s (λ y. let z : ◌≡◌ {A = ℕ} 0 1 = cc in omega (arith, z)) in
+      let h = some (Some (Met q e)) s (λ y. let z : ◌≡◌ {A = ℕ} 0 1 = cc in omega (arith, z)) in
       (found_met xs n cs k (length xs) (home (length xs) k) 0 q e (mod-lt k h) s).below
 
   -- and it holds the number of a candidate
-  pub found_number : (q e : ℕ) → look xs n cs k ≡ Met q e → (0 < word xs q) × (word xs q ≤ n)
+  pub found_number : (q e : ℕ) → look xs n cs k ≡ Some (Met q e) → (0 < word xs q) × (word xs q ≤ n)
   unfolding look
   found_number q e s =
-      let h = some (Met q e) s (λ y. let z : ◌≡◌ {A = ℕ} 0 1 = cc in omega (arith, z)) in
+      let h = some (Some (Met q e)) s (λ y. let z : ◌≡◌ {A = ℕ} 0 1 = cc in omega (arith, z)) in
       let t = found_met xs n cs k (length xs) (home (length xs) k) 0 q e (mod-lt k h) s in
       (omega (arith, t.there), t.named)
 
-  pub vacant_place : (q e : ℕ) → look xs n cs k ≡ Vacant q e → q < length xs
+  pub vacant_place : (q e : ℕ) → look xs n cs k ≡ Some (Vacant q e) → q < length xs
   unfolding look
   vacant_place q e s =
-      let h = some (Vacant q e) s (λ y. let z : ◌≡◌ {A = ℕ} 0 1 = cc in omega (arith, z)) in vacant_below (length xs) (home (length xs) k) 0 q e (mod-lt k h) s
+      let h = some (Some (Vacant q e)) s (λ y. let z : ◌≡◌ {A = ℕ} 0 1 = cc in omega (arith, z)) in vacant_below (length xs) (home (length xs) k) 0 q e (mod-lt k h) s
 
   -- ---- a key comes in there
 
-  pub insert_is : (i : ℕ) (l : Lookup) → look xs n cs k ≡ l → insert xs n cs k i ≡ insert_at xs i l
+  -- wherever it ended
+  pub ends_place : (l : Lookup) → look xs n cs k ≡ Some l → ends_at l < length xs
+  ends_place (Met q e) s = found-place q e s
+  ends_place (Vacant q e) s = vacant_place q e s
+
+  pub insert_is : (i : ℕ) (l : Option Lookup) → look xs n cs k ≡ l → insert xs n cs k i ≡ insert_at xs i l
   unfolding insert
   insert_is i l e = ap (insert_at xs i) e
 
 -- ---- the place of an entry
 
-pub place_is : (xs : List ℕ) (n : ℕ) (cs : List Cand) (i k : ℕ) (l : Lookup) → key_at cs i ≡ k → look xs n cs k ≡ l → found_under xs n cs i ≡ under_by xs i l
+pub place_is : (xs : List ℕ) (n : ℕ) (cs : List Cand) (i k : ℕ) (l : Option Lookup) → key_at cs i ≡ k → look xs n cs k ≡ l → found_under xs n cs i ≡ under_by xs i l
 unfolding found_under
 place_is xs n cs i k l q e = ap (under_by xs i) (ap (look xs n cs) q ∙ e)
 
-pub place_yes : (xs : List ℕ) (n : ℕ) (cs : List Cand) (i k p d : ℕ) → key_at cs i ≡ k → look xs n cs k ≡ Met p d → word xs p ≡ i + 1 → p ≡ found_under xs n cs i
-place_yes xs n cs i k p d q e w = sym (place_is xs n cs i k (Met p d) q e ∙ rw (eq-eqb (word xs p) (suc i) (omega (arith, w))))
-
-pub place_no : (xs : List ℕ) (n : ℕ) (cs : List Cand) (i k p d : ℕ) → key_at cs i ≡ k → look xs n cs k ≡ Met p d → (word xs p ≡ i + 1 → ⊥) → length xs ≡ found_under xs n cs i
-place_no xs n cs i k p d q e w = sym (place_is xs n cs i k (Met p d) q e ∙ rw (ne_eqb (word xs p) (suc i) (λ y. w (omega (arith, y)))))
+-- where the key was met: whether its place bears the number i
+pub place_told : (xs : List ℕ) (n : ℕ) (cs : List Cand) (i k p d : ℕ) (r : Option ℕ) → key_at cs i ≡ k → look xs n cs k ≡ Some (Met p d) → r ≡ then_some (eqb (word xs p) (i + 1)) p
+    → (unwrap_or r (length xs) ≡ found_under xs n cs i) × IfSome r (λ j. j < length xs)
+place_told xs n cs i k p d r q e s = rw (s, add-one i, place_is xs n cs i k (Some (Met p d)) q e) (go (eqb (word xs p) (suc i)))
+  where
+    go : (b : Bool) → (unwrap_or (then_some b p) (length xs) ≡ cond b p (length xs)) × IfSome (then_some b p) (λ j. j < length xs)
+    go true = (refl, found-place xs n cs k p d e)
+    go false = (refl, tt)
 
 -- ---- closing a gap
 
@@ -318,14 +328,12 @@ module _ (xs : List ℕ) (h g p a b : ℕ) (ea : a ≡ dist (length xs) g p) (eb
 -- ---- an insertion, with the code's number
 
 module _ (xs : List ℕ) (n : ℕ) (cs : List Cand) (k i : ℕ) where
-  pub insert-found : (p d : ℕ) → look xs n cs k ≡ Met p d → (true ≡ (insert xs n cs k i).fine) × (set xs p (i + 1) ≡ (insert xs n cs k i).table)
-  insert-found p d e = parts true (set xs p (i + 1)) (insert xs n cs k i) (rw (add-one i) (sym (insert_is xs n cs k i (Met p d) e)))
+  pub insert_ends : (l : Lookup) → look xs n cs k ≡ Some l → (true ≡ (insert xs n cs k i).fine) × (set xs (ends_at l) (i + 1) ≡ (insert xs n cs k i).table)
+  insert_ends (Met p d) e = parts true (set xs p (i + 1)) (insert xs n cs k i) (rw (add-one i) (sym (insert_is xs n cs k i (Some (Met p d)) e)))
+  insert_ends (Vacant p d) e = parts true (set xs p (i + 1)) (insert xs n cs k i) (rw (add-one i) (sym (insert_is xs n cs k i (Some (Vacant p d)) e)))
 
-  pub insert_vacant : (p d : ℕ) → look xs n cs k ≡ Vacant p d → (true ≡ (insert xs n cs k i).fine) × (set xs p (i + 1) ≡ (insert xs n cs k i).table)
-  insert_vacant p d e = parts true (set xs p (i + 1)) (insert xs n cs k i) (rw (add-one i) (sym (insert_is xs n cs k i (Vacant p d) e)))
-
-  pub insert-refused : look xs n cs k ≡ Refused → (false ≡ (insert xs n cs k i).fine) × (xs ≡ (insert xs n cs k i).table)
-  insert-refused e = parts false xs (insert xs n cs k i) (sym (insert_is xs n cs k i Refused e))
+  pub insert-refused : look xs n cs k ≡ None → (false ≡ (insert xs n cs k i).fine) × (xs ≡ (insert xs n cs k i).table)
+  insert-refused e = parts false xs (insert xs n cs k i) (sym (insert_is xs n cs k i None e))
 
 -- ---- a removal, with the code's parts
 

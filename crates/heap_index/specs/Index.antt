@@ -1,9 +1,9 @@
 -- The index of one layer's candidates, as 02 (W6) says it.
-use Rattle.std.specs.Prelude.{ℕ, zero, suc, ◌+◌, ◌-◌, ◌*◌, ◌%◌, Bool, true, false, cond, not, ◌&&◌, List, length, get_or, set, replicate, ltb, leb, eqb}
+use Rattle.std.specs.Prelude.{ℕ, zero, suc, ◌+◌, ◌-◌, ◌*◌, ◌%◌, Bool, true, false, cond, not, ◌&&◌, List, length, get_or, set, replicate, ltb, leb, eqb, Option, Some, None}
 use Rattle.words.specs.Num.{in_range}
 use Rattle.heap_moves.specs.Cands.{Cand, no_cand, count_at}
 use Rattle.heap_index.specs.declared.Lookup.{Lookup}
-use Rattle.heap_index.specs.declared.Lookup.TheVariants.{Met, Vacant, Refused}
+use Rattle.heap_index.specs.declared.Lookup.TheVariants.{Met, Vacant}
 
 -- "a lent table of twice the heap size, rounded up to a power of two": the first number bounds the doublings; 11 are enough for 1,024
 unfoldable pub round_up : ℕ → ℕ → ℕ → ℕ
@@ -42,16 +42,16 @@ is_name n cs w = leb w n && in_range (count_at cs (w - 1))
 
 -- A lookup of the key k from place p on, d places having been probed. "It is refused with 9 where such a candidate is out of range, such a
 -- place names no candidate, a lookup meets neither the key nor an empty place." The first number bounds the places.
-unfoldable pub look_from : ℕ → List ℕ → ℕ → List Cand → ℕ → ℕ → ℕ → Lookup
-look_from zero xs n cs k p d = Refused
+unfoldable pub look_from : ℕ → List ℕ → ℕ → List Cand → ℕ → ℕ → ℕ → Option Lookup
+look_from zero xs n cs k p d = None
 look_from (suc f) xs n cs k p d =
-    cond (eqb (word xs p) 0) (Vacant p (d + 1))
-    (cond (not (is_name n cs (word xs p))) Refused
-    (cond (eqb (key_on xs cs p) k) (Met p (d + 1))
+    cond (eqb (word xs p) 0) (Some (Vacant p (d + 1)))
+    (cond (not (is_name n cs (word xs p))) None
+    (cond (eqb (key_on xs cs p) k) (Some (Met p (d + 1)))
     (look_from f xs n cs k (next_place (length xs) p) (d + 1))))
 
 -- "Each lookup reports its probes, equal to the places from home to the key or to the first empty place, both ends counted."
-unfoldable pub look : List ℕ → ℕ → List Cand → ℕ → Lookup
+unfoldable pub look : List ℕ → ℕ → List Cand → ℕ → Option Lookup
 look xs n cs k = look_from (length xs) xs n cs k (home (length xs) k) 0
 
 -- a table after a step, and whether the step was not refused
@@ -65,11 +65,16 @@ step_to xs = record { fine = true; table = xs }
 abbrev pub no_step : List ℕ → IndexStep
 no_step xs = record { fine = false; table = xs }
 
+-- the place where a lookup ends
+abbrev pub ends_at : Lookup → ℕ
+ends_at (Met p d) = p
+ends_at (Vacant p d) = p
+
 -- a key comes in where its lookup ends, under its entry's number
-abbrev pub insert_at : List ℕ → ℕ → Lookup → IndexStep
-insert_at xs i (Met p d) = step_to (set xs p (suc i))
-insert_at xs i (Vacant p d) = step_to (set xs p (suc i))
-insert_at xs i Refused = no_step xs
+abbrev pub insert_at : List ℕ → ℕ → Option Lookup → IndexStep
+insert_at xs i (Some (Met p d)) = step_to (set xs p (suc i))
+insert_at xs i (Some (Vacant p d)) = step_to (set xs p (suc i))
+insert_at xs i None = no_step xs
 
 unfoldable pub insert : List ℕ → ℕ → List Cand → ℕ → ℕ → IndexStep
 insert xs n cs k i = insert_at xs i (look xs n cs k)
@@ -86,10 +91,10 @@ close (suc f) xs n cs g p =
     (close f xs n cs g (next_place (length xs) p))))
 
 -- "a key to be moved or taken out isn't found under its entry's number": the place where the key of entry i stands under i, or the table's length
-abbrev pub under_by : List ℕ → ℕ → Lookup → ℕ
-under_by xs i (Met p d) = cond (eqb (word xs p) (suc i)) p (length xs)
-under_by xs i (Vacant p d) = length xs
-under_by xs i Refused = length xs
+abbrev pub under_by : List ℕ → ℕ → Option Lookup → ℕ
+under_by xs i (Some (Met p d)) = cond (eqb (word xs p) (suc i)) p (length xs)
+under_by xs i (Some (Vacant p d)) = length xs
+under_by xs i None = length xs
 
 unfoldable pub found_under : List ℕ → ℕ → List Cand → ℕ → ℕ
 found_under xs n cs i = under_by xs i (look xs n cs (key_at cs i))
@@ -132,10 +137,10 @@ index_ok xs n cs = entries_ok n xs n cs 0 && places_ok (length xs) xs n cs 0
 -- ---- "After a text is read the index is built in heap order, a key's second entry left out."
 
 -- an entry comes in unless its key is met
-abbrev pub enter_by : List ℕ → ℕ → Lookup → List ℕ
-enter_by xs i (Met p d) = xs
-enter_by xs i (Vacant p d) = set xs p (suc i)
-enter_by xs i Refused = xs
+abbrev pub enter_by : List ℕ → ℕ → Option Lookup → List ℕ
+enter_by xs i (Some (Met p d)) = xs
+enter_by xs i (Some (Vacant p d)) = set xs p (suc i)
+enter_by xs i None = xs
 
 -- k entries from i on, where the first i have come in
 unfoldable pub enter_all : ℕ → List ℕ → List Cand → ℕ → List ℕ

@@ -1,5 +1,5 @@
 // A new index.
-ghost use Rattle.std.specs.Prelude.{◌≡◌, List, ℕ, ◌+◌, ◌≤◌, ◌<◌, length, set};
+ghost use Rattle.std.specs.Prelude.{◌≡◌, ℕ, ◌≤◌, ◌<◌, length};
 ghost use Rattle.heap_moves.specs.Cands.{most_cands};
 ghost use Rattle.heap_moves.specs.Flat.{cands_of};
 ghost use Rattle.heap_index.specs.Index;
@@ -9,30 +9,12 @@ ghost use Rattle.heap_index.specs.inner.Needs.{Cover};
 use crate::Lookup;
 use crate::lookups::look;
 
-// The length of an index for a heap of `size` entries: two to the number of binary digits of the number before
-// twice the size.
+// The length of an index for a heap of `size` entries: the first power of two that is not below twice the size.
 pub fn index_length(size: usize) -> usize
     requires { size ≤ most_cands }
     ensures { result ≡ index_length size }
 {
-    if size == 0 {
-        return 1;
-    }
-    let below = 2 * size as u64 - 1;
-    let digits = 64 - u64::leading_zeros(below) as u64;
-    (1u64 << digits) as usize
-}
-
-// The place where an entry comes in after the lookup of its key in m places: m, where there is none, if its key
-// was met.
-fn place_for(m: usize, l: Lookup) -> usize
-    ensures { (xs : List ℕ) (i : ℕ) → length xs ≡ m → set xs result (i + 1) ≡ enter_by xs i l }
-{
-    match l {
-        Lookup::Met(p, d) => m,
-        Lookup::Vacant(p, d) => p,
-        Lookup::Refused => m,
-    }
+    (2 * size).next_power_of_two()
 }
 
 // Entry i comes in, where the first i have, unless its key is found.
@@ -41,10 +23,10 @@ fn enter(index: &mut [u64], entries: &[u64], counts: &[i64], i: usize)
     requires i_in_bounds { i < length counts.now }
     ensures { index.new ≡ enter_by index.old i (Rattle.heap_index.specs.Index.look index.old i (cands_of entries.now counts.now) (key_at (cands_of entries.now counts.now) i)) }
 {
-    let key = entries[4 * i];
-    let l = look(&*index, entries, counts, i, key);
-    let p = place_for(index.len(), l);
-    if p < index.len() {
+    let Some(l) = look(&*index, entries, counts, i, entries[4 * i]) else {
+        return;
+    };
+    if let Lookup::Vacant(p, _) = l {
         index[p] = i as u64 + 1;
     }
 }
@@ -54,10 +36,8 @@ pub fn build(index: &mut [u64], entries: &[u64], counts: &[i64], n: usize)
     requires { Cover (length entries.now) (length counts.now) n }
     ensures { index.new ≡ Rattle.heap_index.specs.Index.build (length index.old) n (cands_of entries.now counts.now) }
 {
-    words::zero_words(index);
-    let mut i = 0;
-    while i < n {
+    index.fill(0);
+    for i in 0..n {
         enter(index, entries, counts, i);
-        i += 1;
     }
 }

@@ -6,7 +6,7 @@ ghost use Rattle.heap_index.specs.Index.{dist, word, close};
 ghost use Rattle.heap_index.specs.inner.Needs.{Cover};
 
 use crate::lookups::{found_under, is_name, look};
-use crate::{Lookup, after, home_of, steps};
+use crate::{after, home_of, steps};
 
 // The key of entry i comes in where its lookup ends; whether it was not refused.
 pub fn insert(
@@ -22,18 +22,11 @@ pub fn insert(
     ensures value { result ≡ (Rattle.heap_index.specs.Index.insert index.old n (cands_of entries.now counts.now) key i).fine }
     ensures index_after { index.new ≡ (Rattle.heap_index.specs.Index.insert index.old n (cands_of entries.now counts.now) key i).table }
 {
-    let l = look(&*index, entries, counts, n, key);
-    match l {
-        Lookup::Met(p, d) => {
-            index[p] = i as u64 + 1;
-            true
-        }
-        Lookup::Vacant(p, d) => {
-            index[p] = i as u64 + 1;
-            true
-        }
-        Lookup::Refused => false,
-    }
+    let Some(l) = look(&*index, entries, counts, n, key) else {
+        return false;
+    };
+    index[l.place()] = i as u64 + 1;
+    true
 }
 
 // The entry at p moves into the gap at g if its lookup, from its home h, passes it; the gap's place then.
@@ -73,8 +66,7 @@ pub fn close_from(
     let m = index.len();
     let mut g = gap;
     let mut p = start;
-    let mut left = many;
-    while left > 0 {
+    for _ in 0..many {
         let w = index[p];
         if w == 0 {
             return true;
@@ -86,7 +78,6 @@ pub fn close_from(
         let h = home_of(m, entries[4 * i]);
         g = shift(index, h, g, p);
         p = after(m, p);
-        left -= 1;
     }
     false
 }
@@ -98,14 +89,13 @@ pub fn remove(index: &mut [u64], entries: &[u64], counts: &[i64], n: usize, i: u
     ensures value { result ≡ (Rattle.heap_index.specs.Index.remove index.old n (cands_of entries.now counts.now) i).fine }
     ensures index_after { index.new ≡ (Rattle.heap_index.specs.Index.remove index.old n (cands_of entries.now counts.now) i).table }
 {
-    let gap = found_under(&*index, entries, counts, n, i);
-    if gap < index.len() {
-        index[gap] = 0;
-        let m = index.len();
-        let start = after(m, gap);
-        return close_from(index, entries, counts, n, gap, start, m);
-    }
-    false
+    let Some(gap) = found_under(&*index, entries, counts, n, i) else {
+        return false;
+    };
+    index[gap] = 0;
+    let m = index.len();
+    let start = after(m, gap);
+    close_from(index, entries, counts, n, gap, start, m)
 }
 
 // The numbers of the entries i and j are exchanged; whether both keys were found under them.
@@ -122,14 +112,13 @@ pub fn exchange(
     ensures value { result ≡ (Rattle.heap_index.specs.Index.exchange index.old n (cands_of entries.now counts.now) i j).fine }
     ensures index_after { index.new ≡ (Rattle.heap_index.specs.Index.exchange index.old n (cands_of entries.now counts.now) i j).table }
 {
-    let p = found_under(&*index, entries, counts, n, i);
-    if p < index.len() {
-        let q = found_under(&*index, entries, counts, n, j);
-        if q < index.len() {
-            index[p] = j as u64 + 1;
-            index[q] = i as u64 + 1;
-            return true;
-        }
-    }
-    false
+    let Some(p) = found_under(&*index, entries, counts, n, i) else {
+        return false;
+    };
+    let Some(q) = found_under(&*index, entries, counts, n, j) else {
+        return false;
+    };
+    index[p] = j as u64 + 1;
+    index[q] = i as u64 + 1;
+    true
 }

@@ -12,14 +12,10 @@ fn entries_ok(index: &[u64], entries: &[u64], counts: &[i64], n: usize) -> bool
     requires { Cover (length entries.now) (length counts.now) n }
     ensures { result ≡ entries_ok n index.now n (cands_of entries.now counts.now) 0 }
 {
-    let m = index.len();
-    let mut i = 0;
-    while i < n {
-        let p = found_under(index, entries, counts, n, i);
-        if m <= p {
+    for i in 0..n {
+        if found_under(index, entries, counts, n, i).is_none() {
             return false;
         }
-        i += 1;
     }
     true
 }
@@ -35,11 +31,7 @@ fn place_ok(index: &[u64], entries: &[u64], counts: &[i64], n: usize, p: usize) 
         return true;
     }
     let i = w as usize;
-    if n < i {
-        return false;
-    }
-    let q = found_under(index, entries, counts, n, i - 1);
-    q == p
+    i <= n && found_under(index, entries, counts, n, i - 1) == Some(p)
 }
 
 // Whether all places are so.
@@ -47,13 +39,10 @@ fn places_ok(index: &[u64], entries: &[u64], counts: &[i64], n: usize) -> bool
     requires { Cover (length entries.now) (length counts.now) n }
     ensures { result ≡ places_ok (length index.now) index.now n (cands_of entries.now counts.now) 0 }
 {
-    let mut p = 0;
-    while p < index.len() {
-        let t = place_ok(index, entries, counts, n, p);
-        if !t {
+    for p in 0..index.len() {
+        if !place_ok(index, entries, counts, n, p) {
             return false;
         }
-        p += 1;
     }
     true
 }
@@ -63,8 +52,5 @@ pub fn index_ok(index: &[u64], entries: &[u64], counts: &[i64], n: usize) -> boo
     requires { Cover (length entries.now) (length counts.now) n }
     ensures { result ≡ index_ok index.now n (cands_of entries.now counts.now) }
 {
-    if !entries_ok(index, entries, counts, n) {
-        return false;
-    }
-    places_ok(index, entries, counts, n)
+    entries_ok(index, entries, counts, n) && places_ok(index, entries, counts, n)
 }

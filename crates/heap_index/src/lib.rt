@@ -13,19 +13,30 @@ mod checking;
 mod lookups;
 
 ghost use Rattle.std.specs.Prelude.{◌≡◌, ℕ, ◌<◌};
-ghost use Rattle.heap_index.specs.Index.{next_place, dist, home};
+ghost use Rattle.heap_index.specs.Index.{next_place, dist, home, ends_at};
 
 pub use building::{build, index_length};
 pub use changes::{close_from, exchange, insert, remove};
 pub use checking::index_ok;
 pub use lookups::{found_under, is_name, look};
 
-// Where a lookup ended: at the key or at an empty place, with its probes; or it was refused.
+// Where a lookup that is not refused ended: at the key or at an empty place, with its probes.
 #[derive(Clone, Copy)]
 pub enum Lookup {
     Met(usize, usize),
     Vacant(usize, usize),
-    Refused,
+}
+
+impl Lookup {
+    // The place where it ended.
+    pub fn place(self) -> usize
+        ensures { result ≡ ends_at self }
+    {
+        match self {
+            Lookup::Met(p, _) => p,
+            Lookup::Vacant(p, _) => p,
+        }
+    }
 }
 
 // The place after p.

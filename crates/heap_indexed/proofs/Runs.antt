@@ -7,6 +7,7 @@ use Prim.Native.Nat.{ℕ, ◌≤◌, ◌<◌}
 use native.Mathlib.Omega.{arith}
 use lib.ListN.{length}
 use lib.IntN.{pos}
+use Rattle.std.proofs.Common.{Option, None}
 use Rattle.words.specs.Num.{in_range}
 use Rattle.words.specs.Lists.{All}
 use Rattle.words.proofs.Bools.{both}
@@ -16,7 +17,6 @@ use Rattle.heap.specs.Offer.{Table, Offered, rescore, seat, replace_root, offer,
 use Rattle.heap.proofs.Cases.{offer_cases}
 use Rattle.heap.proofs.Sounds.{offer-len, offer-long}
 use Rattle.heap_index.specs.declared.Lookup.{Lookup}
-use Rattle.heap_index.specs.declared.Lookup.TheVariants.{Refused}
 use Rattle.heap_index.specs.Index.{index_ok, look}
 use Rattle.heap_index.specs.inner.Indexes.{Ranged}
 use Rattle.heap_index.proofs.Checks.{check_holds, holds_check}
@@ -75,12 +75,12 @@ module _ (size : ℕ) (xs : List ℕ) (t : Table) (c : Cand) (p : Passes size xs
   one-length = agrees.went.long
 
 -- a lookup of an offer that is not refused was not refused
-pub fine_looked : (size : ℕ) (xs : List ℕ) (t : Table) (c : Cand) → (offer_in size xs t c).after.fine ≡ true → look xs t.len t.cands c.item.key ≡ Refused → ⊥
+pub fine_looked : (size : ℕ) (xs : List ℕ) (t : Table) (c : Cand) → (offer_in size xs t c).after.fine ≡ true → look xs t.len t.cands c.item.key ≡ None → ⊥
 unfolding offer_in
-fine_looked size xs t c f e = true≢false (sym f ∙ ap (λ (l : Lookup). (offer_by size xs t c l).after.fine) e)
+fine_looked size xs t c f e = true≢false (sym f ∙ ap (λ (l : Option Lookup). (offer_by size xs t c l).after.fine) e)
 
 -- so a layer that passes the check looks up every key
-pub passes_looked : (size : ℕ) (xs : List ℕ) (t : Table) → Passes size xs t → (k : ℕ) → look xs t.len t.cands k ≡ Refused → ⊥
+pub passes_looked : (size : ℕ) (xs : List ℕ) (t : Table) → Passes size xs t → (k : ℕ) → look xs t.len t.cands k ≡ None → ⊥
 unfolding in_range
 passes_looked size xs t p k = fine_looked size xs t c (one-fine size xs t c p refl)
   where

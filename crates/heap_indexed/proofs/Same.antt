@@ -12,6 +12,7 @@ use lib.Seq.{get_or-set_same, get_or-set_other, get_or-take, length-take-le}
 use lib.Signed.{lt_z}
 use lib.Dec.{ltb}
 use borrow.Author.Tests.{lt-ltb, le-ltb, ltb-true, ltb-false}
+use Rattle.std.proofs.Common.{Some}
 use Rattle.words.specs.Num.{in_range}
 use Rattle.heap_moves.specs.Cands.{Cand, no_cand, count_at, recount, up, down, update_at}
 use Rattle.heap_moves.proofs.Moved.{each_set, each_next}
@@ -160,7 +161,7 @@ module _ (size : ℕ) (xs : List ℕ) (t : Table) (c : Cand) (v : Ready size xs 
   agrees_known i h e =
       let s = stands xs t.len t.cands t.len v.holds v.ranged i h (λ y. omega (arith, y, h)) in
       let number : word xs s.place - 1 ≡ i = omega (arith, s.number) in
-      let found : look xs t.len t.cands c.item.key ≡ Met s.place (dist (length xs) (home (length xs) (key_at t.cands i)) s.place + 1) = ap (look xs t.len t.cands) (sym e) ∙ s.ends in
+      let found : look xs t.len t.cands c.item.key ≡ Some (Met s.place (dist (length xs) (home (length xs) (key_at t.cands i)) s.place + 1)) = ap (look xs t.len t.cands) (sym e) ∙ s.ends in
       rw (found, number, ← place_known t c.item.key i h fits distinct e, lt-ltb i t.len h) (record { answer = refl; went = rescored i h })
 
   agrees_full : 0 < t.len → ((j : ℕ) → j < t.len → key_at t.cands j ≢ c.item.key) → Agrees (length xs) (displace t c) (displace_in xs t c)

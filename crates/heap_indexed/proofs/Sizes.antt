@@ -7,11 +7,12 @@ use native.Mathlib.Omega.{arith}
 use lib.Dec.{ltb}
 use lib.Signed.{lt_z}
 use borrow.Author.Tests.{ltb-true}
+use Rattle.std.proofs.Common.{Option, Some, None}
 use Rattle.words.specs.Num.{in_range}
 use Rattle.heap_moves.specs.Cands.{Cand, count_at}
 use Rattle.heap.specs.Offer.{Table, len_by}
 use Rattle.heap_index.specs.declared.Lookup.{Lookup}
-use Rattle.heap_index.specs.declared.Lookup.TheVariants.{Met, Vacant, Refused}
+use Rattle.heap_index.specs.declared.Lookup.TheVariants.{Met, Vacant}
 use Rattle.heap_index.specs.Index.{look}
 use Rattle.heap_indexed.specs.Offers.{offer_in, offer_by, displace_in}
 
@@ -29,11 +30,11 @@ pub offer-few : (size : ℕ) (xs : List ℕ) (t : Table) (c : Cand) → t.len �
 unfolding offer_in
 offer-few size xs t c h = go (look xs t.len t.cands c.item.key)
   where
-    seated : (b : Bool) → ltb t.len size ≡ b → (p d : ℕ) → len_by (offer_by size xs t c (Vacant p d)).answer t.len ≤ size
+    seated : (b : Bool) → ltb t.len size ≡ b → (p d : ℕ) → len_by (offer_by size xs t c (Some (Vacant p d))).answer t.len ≤ size
     seated true e p d = rw e (omega (arith, ltb-true t.len size e))
     seated false e p d = rw e (subst (λ (n : ℕ). n ≤ size) (sym (displaced_len xs t c)) h)
 
-    go : (k : Lookup) → len_by (offer_by size xs t c k).answer t.len ≤ size
-    go (Met p d) = h
-    go (Vacant p d) = seated (ltb t.len size) refl p d
-    go Refused = h
+    go : (k : Option Lookup) → len_by (offer_by size xs t c k).answer t.len ≤ size
+    go (Some (Met p d)) = h
+    go (Some (Vacant p d)) = seated (ltb t.len size) refl p d
+    go None = h

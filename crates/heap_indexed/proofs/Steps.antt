@@ -14,6 +14,7 @@ use mir.Val.{to_z, of_z}
 use mir.Facts.{to_z-of_z}
 use borrow.Author.Rules.{sfits_of}
 use borrow.Author.Tests.{eq-eqb, ne_eqb, lt-ltb, le-ltb}
+use Rattle.std.proofs.Common.{Option, Some, None}
 use Rattle.words.specs.Num.{in_range}
 use Rattle.heap_moves.specs.declared.Item.{Item}
 use Rattle.heap_moves.specs.Cands.{Cand, count_at, recount, smaller, swapped, parent, lower}
@@ -22,7 +23,7 @@ use Rattle.heap_moves.proofs.Views.{cand_at, count_at_lem, recount-view}
 use Rattle.heap.specs.declared.Answer.TheVariants.{Rescored, Seated, Displaced, TurnedAway}
 use Rattle.heap.specs.inner.Slices.{table_of}
 use Rattle.heap_index.specs.declared.Lookup.{Lookup}
-use Rattle.heap_index.specs.declared.Lookup.TheVariants.{Met, Vacant, Refused}
+use Rattle.heap_index.specs.declared.Lookup.TheVariants.{Met, Vacant}
 use Rattle.heap_index.specs.Index.{word, key_at, look, insert, remove, exchange}
 use Rattle.heap_indexed.specs.Moves.{IndexedCands, child_in, swap_in, climb, sink, resettle, moved_to, not_moved}
 use Rattle.heap_indexed.specs.Offers.{IndexedOffer, rescore_in, seat_in, come_in, replace_in, displace_in, offer_by, offer_in}
@@ -301,27 +302,27 @@ module _ (xs es : List ℕ) (ns : List ℤ) (len : ℕ) (w : Item) (v v' : ℤ) 
 
   -- ---- the whole offer
 
-  module _ (size : ℕ) (l : Lookup) (found : look xs len (cands_of es ns) w.key ≡ l) where
+  module _ (size : ℕ) (l : Option Lookup) (found : look xs len (cands_of es ns) w.key ≡ l) where
     offer-by : offer_in size xs (table_of es ns len) (cand_of w v) ≡ offer_by size xs (table_of es ns len) (cand_of w v) l
     unfolding offer_in
     offer-by = ap (offer_by size xs (table_of es ns len) (cand_of w v)) found
 
-  pub offer_known : (size p d i : ℕ) → look xs len (cands_of es ns) w.key ≡ Met p d → word xs p - 1 ≡ i → (ly : IndexedCands) → ly ≡ rescore_in xs (table_of es ns len) i (cand_of w v')
+  pub offer_known : (size p d i : ℕ) → look xs len (cands_of es ns) w.key ≡ Some (Met p d) → word xs p - 1 ≡ i → (ly : IndexedCands) → ly ≡ rescore_in xs (table_of es ns len) i (cand_of w v')
       → ◌≡◌ {A = IndexedOffer} (record { after = ly; answer = Rescored }) (offer_in size xs (table_of es ns len) (cand_of w v))
   offer_known size p d i f e ly q =
-      (λ j. record { after = (q ∙ ap (λ (x : ℤ). rescore_in xs (table_of es ns len) i (cand_of w x)) same_v) j; answer = Rescored }) ∙ ap (λ (x : ℕ). record { after = rescore_in xs (table_of es ns len) x (cand_of w v); answer = Rescored }) (sym e) ∙ sym (offer-by size (Met p d) f)
+      (λ j. record { after = (q ∙ ap (λ (x : ℤ). rescore_in xs (table_of es ns len) i (cand_of w x)) same_v) j; answer = Rescored }) ∙ ap (λ (x : ℕ). record { after = rescore_in xs (table_of es ns len) x (cand_of w v); answer = Rescored }) (sym e) ∙ sym (offer-by size (Some (Met p d)) f)
 
-  pub offer-seat : (size p d : ℕ) → look xs len (cands_of es ns) w.key ≡ Vacant p d → len < size → (ly : IndexedCands) → ly ≡ seat_in xs (table_of es ns len) p (cand_of w v')
+  pub offer-seat : (size p d : ℕ) → look xs len (cands_of es ns) w.key ≡ Some (Vacant p d) → len < size → (ly : IndexedCands) → ly ≡ seat_in xs (table_of es ns len) p (cand_of w v')
       → ◌≡◌ {A = IndexedOffer} (record { after = ly; answer = Seated }) (offer_in size xs (table_of es ns len) (cand_of w v))
-  offer-seat size p d f h ly q = (λ j. record { after = (q ∙ ap (λ (x : ℤ). seat_in xs (table_of es ns len) p (cand_of w x)) same_v) j; answer = Seated }) ∙ sym (offer-by size (Vacant p d) f ∙ rw (lt-ltb len size h))
+  offer-seat size p d f h ly q = (λ j. record { after = (q ∙ ap (λ (x : ℤ). seat_in xs (table_of es ns len) p (cand_of w x)) same_v) j; answer = Seated }) ∙ sym (offer-by size (Some (Vacant p d)) f ∙ rw (lt-ltb len size h))
 
-  pub offer_full : (size p d : ℕ) → look xs len (cands_of es ns) w.key ≡ Vacant p d → size ≤ len → (o : IndexedOffer) → o ≡ displace_in xs (table_of es ns len) (cand_of w v')
+  pub offer_full : (size p d : ℕ) → look xs len (cands_of es ns) w.key ≡ Some (Vacant p d) → size ≤ len → (o : IndexedOffer) → o ≡ displace_in xs (table_of es ns len) (cand_of w v')
       → o ≡ offer_in size xs (table_of es ns len) (cand_of w v)
-  offer_full size p d f h o q = q ∙ ap (λ (x : ℤ). displace_in xs (table_of es ns len) (cand_of w x)) same_v ∙ sym (offer-by size (Vacant p d) f ∙ rw (le-ltb len size h))
+  offer_full size p d f h o q = q ∙ ap (λ (x : ℤ). displace_in xs (table_of es ns len) (cand_of w x)) same_v ∙ sym (offer-by size (Some (Vacant p d)) f ∙ rw (le-ltb len size h))
 
-  pub offer-refused : (size : ℕ) → look xs len (cands_of es ns) w.key ≡ Refused
+  pub offer-refused : (size : ℕ) → look xs len (cands_of es ns) w.key ≡ None
       → ◌≡◌ {A = IndexedOffer} (record { after = cands_with xs es ns false; answer = TurnedAway }) (offer_in size xs (table_of es ns len) (cand_of w v))
-  offer-refused size f = sym (offer-by size Refused f)
+  offer-refused size f = sym (offer-by size None f)
 
 -- all three slices are as long as before
 pub record Long (xs₀ es₀ : List ℕ) (ns₀ : List ℤ) (xs es : List ℕ) (ns : List ℤ) : Type 0 where

@@ -1,5 +1,5 @@
 -- A candidate offered to a table with an index.
-use Rattle.std.specs.Prelude.{ℕ, suc, ◌+◌, ◌-◌, cond, not, List, set, ltb}
+use Rattle.std.specs.Prelude.{ℕ, suc, ◌+◌, ◌-◌, cond, not, List, set, ltb, Option, Some, None}
 use Rattle.std.specs.Int.Signed.{lt_z}
 use Rattle.words.specs.Num.{in_range}
 use Rattle.heap_moves.specs.Cands.{Cand, count_at, recount}
@@ -7,7 +7,7 @@ use Rattle.heap.specs.declared.Answer.{Answer}
 use Rattle.heap.specs.declared.Answer.TheVariants.{Rescored, Seated, Displaced, TurnedAway}
 use Rattle.heap.specs.Offer.{Table}
 use Rattle.heap_index.specs.declared.Lookup.{Lookup}
-use Rattle.heap_index.specs.declared.Lookup.TheVariants.{Met, Vacant, Refused}
+use Rattle.heap_index.specs.declared.Lookup.TheVariants.{Met, Vacant}
 use Rattle.heap_index.specs.Index.{word, key_at, look, insert, remove}
 use Rattle.heap_indexed.specs.Moves.{IndexedCands, moved_to, not_moved, climb, sink, resettle}
 
@@ -43,11 +43,11 @@ displace_in xs t c =
     (record { after = replace_in xs t c; answer = Displaced (key_at t.cands 0) })
     (record { after = moved_to t.cands xs; answer = TurnedAway }))
 
-abbrev pub offer_by : ℕ → List ℕ → Table → Cand → Lookup → IndexedOffer
-offer_by size xs t c (Met p d) = record { after = rescore_in xs t (word xs p - 1) c; answer = Rescored }
-offer_by size xs t c (Vacant p d) =
+abbrev pub offer_by : ℕ → List ℕ → Table → Cand → Option Lookup → IndexedOffer
+offer_by size xs t c (Some (Met p d)) = record { after = rescore_in xs t (word xs p - 1) c; answer = Rescored }
+offer_by size xs t c (Some (Vacant p d)) =
     cond (ltb t.len size) (record { after = seat_in xs t p c; answer = Seated }) (displace_in xs t c)
-offer_by size xs t c Refused = record { after = not_moved t.cands xs; answer = TurnedAway }
+offer_by size xs t c None = record { after = not_moved t.cands xs; answer = TurnedAway }
 
 -- a candidate offered to a table of `size` places with the index xs
 unfoldable pub offer_in : ℕ → List ℕ → Table → Cand → IndexedOffer

@@ -13,7 +13,8 @@ use heap::Answer;
 pub use moves::child_in;
 pub use offers::{come_in, offer};
 
-// What an offer did, and whether it was made: a lookup of its moves may have been refused.
+// What an offer did, and whether it was made: a lookup of its moves may have been refused. Not an `Option` of
+// the answer: the clauses of `layer_indexed::add` and `apply_delta` tell the answer where it was not made, too.
 #[derive(Clone, Copy)]
 pub struct TriedOffer {
     pub made: bool,

@@ -11,10 +11,7 @@ pub fn child_in(counts: &[i64], n: usize, j: usize) -> bool
     requires { n ≤ length counts.now }
     ensures { (es : List ℕ) → result ≡ child_in n (cands_of es counts.now) j }
 {
-    if j < n {
-        return words::in_range(counts[j]);
-    }
-    true
+    n <= j || words::in_range(counts[j])
 }
 
 // Exchanges two entries and their numbers; whether both keys were found.

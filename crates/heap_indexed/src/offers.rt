@@ -135,9 +135,14 @@ pub fn offer(
     requires { Room (length entries.old) (length counts.old) size len }
     ensures { offered_with index.new entries.new counts.new result ≡ offer_in size index.old (table_of entries.old counts.old len) (cand_of w v) }
 {
-    let l = heap_index::look(&*index, &*entries, &*counts, len, w.key);
+    let Some(l) = heap_index::look(&*index, &*entries, &*counts, len, w.key) else {
+        return TriedOffer {
+            made: false,
+            answer: Answer::TurnedAway,
+        };
+    };
     match l {
-        Lookup::Met(p, d) => {
+        Lookup::Met(p, _) => {
             let i = index[p] as usize - 1;
             let made = rescore(index, entries, counts, len, i, w, v);
             TriedOffer {
@@ -145,7 +150,7 @@ pub fn offer(
                 answer: Answer::Rescored,
             }
         }
-        Lookup::Vacant(p, d) => {
+        Lookup::Vacant(p, _) => {
             if len < size {
                 let made = seat(index, entries, counts, len, p, w, v);
                 return TriedOffer {
@@ -154,12 +159,6 @@ pub fn offer(
                 };
             }
             displace(index, entries, counts, len, w, v)
-        }
-        Lookup::Refused => {
-            TriedOffer {
-                made: false,
-                answer: Answer::TurnedAway,
-            }
         }
     }
 }

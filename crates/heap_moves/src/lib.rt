@@ -58,7 +58,8 @@ pub fn put_cand(entries: &mut [u64], counts: &mut [i64], i: usize, w: Item, n: i
     counts[i] = n;
 }
 
-// Exchanges two entries with their counts.
+// Exchanges two entries with their counts. `counts.swap(i, j)` would first ask which of i and j is less: two
+// jumps more for each exchange of the hot path.
 pub fn swap_entries(entries: &mut [u64], counts: &mut [i64], i: usize, j: usize)
     requires { Two (length entries.old) (length counts.old) i j }
     ensures { cands_of entries.new counts.new ≡ swapped (cands_of entries.old counts.old) i j }
@@ -104,10 +105,7 @@ fn left_or(counts: &[i64], n: usize, i: usize) -> usize
     ensures { ((es : List ℕ) → result ≡ left_or n (cands_of es counts.now) i) × ((i ≤ result) × (result < n)) }
 {
     let left = 2 * i + 1;
-    if n <= left {
-        return i;
-    }
-    if should_swap(counts, i, left) {
+    if left < n && should_swap(counts, i, left) {
         return left;
     }
     i
@@ -121,10 +119,7 @@ pub fn lowest(counts: &[i64], n: usize, i: usize) -> usize
 {
     let j = left_or(counts, n, i);
     let right = 2 * i + 2;
-    if n <= right {
-        return j;
-    }
-    if should_swap(counts, j, right) {
+    if right < n && should_swap(counts, j, right) {
         return right;
     }
     j
@@ -154,9 +149,7 @@ pub fn update_at(entries: &mut [u64], counts: &mut [i64], n: usize, i: usize)
     requires i_lt_n { (i < n) × (n ≤ length counts.old) }
     ensures { cands_of entries.new counts.new ≡ update_at n (cands_of entries.old counts.old) i }
 {
-    let moved = bubble_down(entries, counts, n, i);
-    if moved {
-        return;
+    if !bubble_down(entries, counts, n, i) {
+        bubble_up(entries, counts, i);
     }
-    bubble_up(entries, counts, i);
 }

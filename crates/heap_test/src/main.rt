@@ -13,17 +13,12 @@ use std::io::{Stdin, Stdout};
 struct Lone {
     size: usize,
     len: usize,
-    more: bool,
 }
 
 // Which of four things an offer did, and the displaced key.
 fn print_answer(output: Stdout, a: Answer) -> io::Result<()> {
-    match a {
-        Answer::Rescored => print_two(output, 1, 0),
-        Answer::Seated => print_two(output, 2, 0),
-        Answer::Displaced(k) => print_two(output, 3, k),
-        Answer::TurnedAway => print_two(output, 4, 0),
-    }
+    let [code, key] = <[u64; 2]>::from(a);
+    print_two(output, code, key)
 }
 
 fn print_two(output: Stdout, a: u64, b: u64) -> io::Result<()> {
@@ -35,26 +30,13 @@ fn print_two(output: Stdout, a: u64, b: u64) -> io::Result<()> {
 fn new(entries: &mut [u64; 64], counts: &mut [i64; 16], size: usize) -> Lone {
     *entries = [0u64; 64];
     *counts = [0i64; 16];
-    Lone {
-        size,
-        len: 0,
-        more: true,
-    }
+    Lone { size, len: 0 }
 }
 
 // The whole slices are the heap: `size` counts, and four words for each.
 fn offer_all(entries: &mut [u64], counts: &mut [i64], len: usize, w: Item, v: i64) -> Answer {
     let size = counts.len();
-    if size == 0 {
-        return Answer::TurnedAway;
-    }
-    if 16 < size {
-        return Answer::TurnedAway;
-    }
-    if entries.len() != 4 * size {
-        return Answer::TurnedAway;
-    }
-    if size < len {
+    if size == 0 || 16 < size || entries.len() != 4 * size || size < len {
         return Answer::TurnedAway;
     }
     heap::offer(entries, counts, size, len, w, v)
@@ -71,27 +53,14 @@ fn offer(
 ) -> io::Result<Lone> {
     let size = h.size;
     let len = h.len;
-    if 16 < size {
-        return Ok(h);
-    }
-    if 16 < len {
-        return Ok(h);
-    }
-    if entries.len() < 64 {
-        return Ok(h);
-    }
-    if counts.len() < 16 {
+    if 16 < size || 16 < len || entries.len() < 64 || counts.len() < 16 {
         return Ok(h);
     }
     let words = 4 * size;
     let a = offer_all(&mut entries[..words], &mut counts[..size], len, w, v);
     let after = heap::len_after(len, a);
     report(output, a, after, entries[0], counts[0])?;
-    Ok(Lone {
-        size,
-        len: after,
-        more: true,
-    })
+    Ok(Lone { len: after, ..h })
 }
 
 // What an offer answered, the length, and the root.
@@ -106,7 +75,7 @@ fn report(output: Stdout, a: Answer, len: usize, key: u64, count: i64) -> io::Re
 fn find(output: Stdout, entries: &[u64; 64], h: Lone, key: u64) -> io::Result<()> {
     let len = h.len;
     if len <= 16 {
-        vectors::print(output, heap::find(entries, len, key) as u64)?;
+        vectors::print(output, heap::find(entries, len, key).unwrap_or(len) as u64)?;
     }
     Ok(())
 }
@@ -118,11 +87,9 @@ fn show(output: Stdout, entries: &[u64; 64], counts: &[i64; 16], h: Lone) -> io:
     if 16 < len {
         return Ok(());
     }
-    let mut i = 0;
-    while i < len {
+    for i in 0..len {
         let w = heap_moves::item_at(entries, i);
         show_entry(output, w, counts[i])?;
-        i += 1;
     }
     Ok(())
 }
@@ -153,59 +120,40 @@ fn run(
     text: &[u8],
 ) -> io::Result<Lone> {
     let a = vectors::word(text, 0);
-    if op == 1 {
-        return Ok(new(entries, counts, a as usize));
-    }
-    if op == 2 {
-        let v = vectors::signed(vectors::word(text, 1));
-        let bottom = vectors::word(text, 2);
-        let high = vectors::word(text, 3);
-        let low = vectors::word(text, 4);
-        return offer(
-            output,
-            entries,
-            counts,
-            h,
-            Item {
+    match op {
+        1 => return Ok(new(entries, counts, a as usize)),
+        2 => {
+            let v = vectors::signed(vectors::word(text, 1));
+            let w = Item {
                 key: a,
-                bottom,
-                high,
-                low,
-            },
-            v,
-        );
-    }
-    if op == 3 {
-        find(output, entries, h, a)?;
-    }
-    if op == 4 {
-        show(output, entries, counts, h)?;
-    }
-    if op == 5 {
-        in_range(output, counts, h)?;
+                bottom: vectors::word(text, 2),
+                high: vectors::word(text, 3),
+                low: vectors::word(text, 4),
+            };
+            return offer(output, entries, counts, h, w, v);
+        }
+        3 => find(output, entries, h, a)?,
+        4 => show(output, entries, counts, h)?,
+        5 => in_range(output, counts, h)?,
+        _ => {}
     }
     Ok(h)
 }
 
-// One line: `more` is false at the end of the input.
+// One line; `None` at the end of the input.
 fn step(
     input: Stdin,
     output: Stdout,
     entries: &mut [u64; 64],
     counts: &mut [i64; 16],
     h: Lone,
-) -> io::Result<Lone> {
-    let end = Lone {
-        size: h.size,
-        len: h.len,
-        more: false,
-    };
+) -> io::Result<Option<Lone>> {
     let mut text = [0u8; 85];
     let line = vectors::next(input, &mut text);
     if line.op == 0 {
-        return Ok(end);
+        return Ok(None);
     }
-    run(output, entries, counts, h, line.op, &text)
+    Ok(Some(run(output, entries, counts, h, line.op, &text)?))
 }
 
 fn main(rt: HostRuntime) -> io::Result<()> {
@@ -213,18 +161,12 @@ fn main(rt: HostRuntime) -> io::Result<()> {
     let output = rt.stdout();
     let mut entries = [0u64; 64];
     let mut counts = [0i64; 16];
-    let mut h = Lone {
-        size: 0,
-        len: 0,
-        more: true,
-    };
-    let mut turns: u64 = 1000000;
-    while 0 < turns {
-        h = step(input, output, &mut entries, &mut counts, h)?;
-        if !h.more {
+    let mut h = Lone { size: 0, len: 0 };
+    for _ in 0..1000000u64 {
+        let Some(next) = step(input, output, &mut entries, &mut counts, h)? else {
             return Ok(());
-        }
-        turns -= 1;
+        };
+        h = next;
     }
     Ok(())
 }

@@ -1,6 +1,6 @@
 -- A swap that is taken back leaves everything as it was.
 use mathlib.Core.Path.{◌≡◌, refl, sym, ap, ◌∙◌, subst}
-use mathlib.Core.Logic.{◌≢◌, ◌⊎◌, inl, inr}
+use mathlib.Core.Logic.{◌≢◌}
 use mathlib.Core.Bool.{Bool, true, false, cond, not, ◌&&◌}
 use mathlib.Core.List.{List}
 use Prim.Native.Nat.{ℕ, zero, suc, ◌+◌, ◌-◌, ◌*◌, ◌^◌, ◌≤◌, ◌<◌}
@@ -11,16 +11,18 @@ use lib.ListN.{length, get_or, set, length-set}
 use lib.Seq.{get_or-set_same, get_or-set_other, set-set, set_comm, set-get_or}
 use lib.Dec.{eqb, ltb}
 use borrow.Author.Tests.{eq-eqb, ne_eqb, lt-ltb}
+use Rattle.std.proofs.Common.{Some, None}
 use Rattle.words.specs.Num.{in_range}
 use Rattle.heap_moves.specs.Cands.{Cand, no_cand, count_at, recount, smaller, swapped, parent, left_or, lower}
 use Rattle.heap_moves.proofs.Moved.{lower-lt}
-use Rattle.heap_index.specs.Index.{word, look, found_under, exchange, no_step}
+use Rattle.heap_index.specs.Index.{ends_at, word, look, found_under, exchange, no_step}
 use Rattle.heap_index.proofs.Checks.{place_at}
 use Rattle.heap_index.proofs.Walks.{exchange_yes, exchange-left, exchange-right, insert_is}
 use Rattle.heap_indexed.specs.Moves.{IndexedCands, child_in, swap_in, climb, sink, resettle, moved_to, not_moved}
 use Rattle.heap_indexed.specs.Offers.{IndexedOffer, rescore_in, seat_in, come_in, replace_in, displace_in, offer_in}
 use Rattle.heap_trial.specs.inner.Trials.{enter_sink}
-use Rattle.heap_index.specs.declared.Lookup.TheVariants.{Met, Vacant, Refused}
+use Rattle.heap_index.specs.declared.Lookup.{Lookup}
+use Rattle.heap_index.specs.declared.Lookup.TheVariants.{Met, Vacant}
 use Rattle.heap_indexed.proofs.Steps.{settle-left, settle-right, settle-up, settle-down, rescore_is, seat_is, displace-range, displace-less, displace_more, offer_known, offer-seat, offer_full, offer-refused}
 use Rattle.heap_moves.specs.declared.Item.{Item}
 use Rattle.heap_moves.specs.Flat.{cands_of, cand_of, item_of}
@@ -265,12 +267,12 @@ module _ (xs es : List ℕ) (ns : List ℤ) (len : ℕ) (w : Item) (v v' : ℤ) 
 -- ---- the new key for the root's
 
 module _ (n : ℕ) (xs : List ℕ) (cs : List Cand) (k : ℕ) (r : Bool) where
-  pub insert_at-place : (p d : ℕ) → (look xs n cs k ≡ Met p d) ⊎ (look xs n cs k ≡ Vacant p d) → r ≡ (sink n n (set xs p 1) cs 0).fine → r ≡ (enter_sink n xs cs k).fine
-  insert_at-place p d (inl e) q = rw (insert_is xs n cs k 0 (Met p d) e) q
-  insert_at-place p d (inr e) q = rw (insert_is xs n cs k 0 (Vacant p d) e) q
+  pub insert_at-place : (l : Lookup) → look xs n cs k ≡ Some l → r ≡ (sink n n (set xs (ends_at l) 1) cs 0).fine → r ≡ (enter_sink n xs cs k).fine
+  insert_at-place (Met p d) e q = rw (insert_is xs n cs k 0 (Some (Met p d)) e) q
+  insert_at-place (Vacant p d) e q = rw (insert_is xs n cs k 0 (Some (Vacant p d)) e) q
 
-  pub insert_nowhere : look xs n cs k ≡ Refused → false ≡ (enter_sink n xs cs k).fine
-  insert_nowhere e = rw (insert_is xs n cs k 0 Refused e)
+  pub insert_nowhere : look xs n cs k ≡ None → false ≡ (enter_sink n xs cs k).fine
+  insert_nowhere e = rw (insert_is xs n cs k 0 None e)
 
 pub try_came : (xs es : List ℕ) (ns : List ℤ) (n : ℕ) (w : Item) (v v' : ℤ) → v' ≡ v → (ds : List Cand) → ds ≡ set (cands_of es ns) 0 (cand_of w v') → (r : Bool) → r ≡ (enter_sink n xs ds w.key).fine
     → r ≡ (come_in xs (table_of es ns n) (cand_of w v)).fine
@@ -292,17 +294,17 @@ module _ (xs es : List ℕ) (ns : List ℤ) (len : ℕ) (w : Item) (v v' : ℤ) 
       try_more t b q = q ∙ ap (λ (o : IndexedOffer). o.after.fine) (displace_more xs es ns len w v v' same_v some r fits t (get_or es 0 0) refl (replace_in xs (table_of es ns len) (cand_of w v')) refl)
 
   module _ (size : ℕ) (b : Bool) where
-    pub try_known : (p d : ℕ) → look xs len (cands_of es ns) w.key ≡ Met p d → b ≡ (rescore_in xs (table_of es ns len) (word xs p - 1) (cand_of w v')).fine → b ≡ (offer_in size xs (table_of es ns len) (cand_of w v)).after.fine
+    pub try_known : (p d : ℕ) → look xs len (cands_of es ns) w.key ≡ Some (Met p d) → b ≡ (rescore_in xs (table_of es ns len) (word xs p - 1) (cand_of w v')).fine → b ≡ (offer_in size xs (table_of es ns len) (cand_of w v)).after.fine
     try_known p d f q = q ∙ ap (λ (o : IndexedOffer). o.after.fine) (offer_known xs es ns len w v v' same_v size p d (word xs p - 1) f refl (rescore_in xs (table_of es ns len) (word xs p - 1) (cand_of w v')) refl)
 
-    pub try_new : (p d : ℕ) → look xs len (cands_of es ns) w.key ≡ Vacant p d → len < size → b ≡ (seat_in xs (table_of es ns len) p (cand_of w v')).fine → b ≡ (offer_in size xs (table_of es ns len) (cand_of w v)).after.fine
+    pub try_new : (p d : ℕ) → look xs len (cands_of es ns) w.key ≡ Some (Vacant p d) → len < size → b ≡ (seat_in xs (table_of es ns len) p (cand_of w v')).fine → b ≡ (offer_in size xs (table_of es ns len) (cand_of w v)).after.fine
     try_new p d f h q = q ∙ ap (λ (o : IndexedOffer). o.after.fine) (offer-seat xs es ns len w v v' same_v size p d f h (seat_in xs (table_of es ns len) p (cand_of w v')) refl)
 
-    pub try_full : (p d : ℕ) → look xs len (cands_of es ns) w.key ≡ Vacant p d → size ≤ len → b ≡ (displace_in xs (table_of es ns len) (cand_of w v')).after.fine
+    pub try_full : (p d : ℕ) → look xs len (cands_of es ns) w.key ≡ Some (Vacant p d) → size ≤ len → b ≡ (displace_in xs (table_of es ns len) (cand_of w v')).after.fine
         → b ≡ (offer_in size xs (table_of es ns len) (cand_of w v)).after.fine
     try_full p d f h q = q ∙ ap (λ (o : IndexedOffer). o.after.fine) (offer_full xs es ns len w v v' same_v size p d f h (displace_in xs (table_of es ns len) (cand_of w v')) refl)
 
-  pub try_nowhere : (size : ℕ) → look xs len (cands_of es ns) w.key ≡ Refused → false ≡ (offer_in size xs (table_of es ns len) (cand_of w v)).after.fine
+  pub try_nowhere : (size : ℕ) → look xs len (cands_of es ns) w.key ≡ None → false ≡ (offer_in size xs (table_of es ns len) (cand_of w v)).after.fine
   try_nowhere size f = ap (λ (o : IndexedOffer). o.after.fine) (offer-refused xs es ns len w v v' same_v size f)
 
 pub one_less : {w n : ℕ} → (0 < w) × (w ≤ n) → w - 1 < n

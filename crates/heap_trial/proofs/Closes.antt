@@ -1,21 +1,19 @@
 -- The gap that the root's key leaves: passed over, closed and filled, on the table itself or on a copy.
 use mathlib.Core.Path.{◌≡◌, refl, sym, ap, ◌∙◌, subst}
 use mathlib.Core.Logic.{◌≢◌}
-use mathlib.Core.Bool.{Bool, true, false, cond, not, false≢true}
+use mathlib.Core.Bool.{Bool, true, false, cond, not}
 use mathlib.Core.List.{List}
 use Prim.Native.Nat.{ℕ, suc, ◌-◌, ◌*◌, ◌≤◌, ◌<◌}
 use native.Mathlib.Omega.{arith}
-use lib.ListN.{length, get_or, set, take, length-set}
+use lib.ListN.{length, get_or, set}
 use lib.Seq.{get_or-set_same}
-use lib.IntN.{ℤ, pos}
-use borrow.Author.Tests.{eq-eqb, ne_eqb, lt-ltb, le-leb, lt-leb}
-use Rattle.words.specs.inner.Copies.{Front}
-use Rattle.words.proofs.Fills.{front_take}
+use lib.IntN.{ℤ}
+use lib.Dec.{leb}
+use borrow.Author.Tests.{eq-eqb, ne_eqb, lt-ltb}
 use Rattle.heap_moves.specs.declared.Item.{Item}
 use Rattle.heap_moves.specs.Cands.{Cand}
 use Rattle.heap_moves.specs.Flat.{cands_of, cand_of}
 use Rattle.heap.specs.Offer.{Table}
-use Rattle.heap.specs.inner.Slices.{table_of}
 use Rattle.heap_index.specs.inner.Needs.{Cover}
 use Rattle.heap_index.specs.Index.{word, key_at, key_on, home, next_place, dist, is_name, close, remove, remove_at, found_under, IndexStep}
 use Rattle.heap_index.proofs.Checks.{place_at}
@@ -32,22 +30,14 @@ name_key es ns n w e z h = key-read es ns (w - 1) (omega (arith, name_le n (cand
 
 -- ---- one place: its entry stays, or moves into the gap
 
--- what a test says that was not met
-pub unmet : {A : Type 0} → false ≡ true → A
-unmet e = absurd (false≢true e)
-
 module _ (xs : List ℕ) (n : ℕ) (cs : List Cand) (g p : ℕ) (z : word xs p ≢ 0) (w : is_name n cs (word xs p) ≡ true) (key h back way : ℕ) (ek : key_on xs cs p ≡ key) (eh : h ≡ home (length xs) key)
     (eb : back ≡ dist (length xs) g p) (ew : way ≡ dist (length xs) h p) where
   from_home : dist (length xs) (home (length xs) (key_on xs cs p)) p ≡ way
   from_home = ap (λ (x : ℕ). dist (length xs) x p) (ap (home (length xs)) ek ∙ sym eh) ∙ sym ew
 
-  pub stay_on : way < back → (f : ℕ) → close (suc f) xs n cs g p ≡ close f xs n cs g (next_place (length xs) p)
+  pub gap_step : (f : ℕ) → close (suc f) xs n cs g p ≡ cond (leb back way) (close f (set (set xs g (word xs p)) p 0) n cs p (next_place (length xs) p)) (close f xs n cs g (next_place (length xs) p))
   unfolding close
-  stay_on l f = rw (ne_eqb (word xs p) 0 z, w, lt-leb (dist (length xs) g p) (dist (length xs) (home (length xs) (key_on xs cs p)) p) (omega (arith, from_home, eb, l)))
-
-  pub move_on : back ≤ way → (f : ℕ) → close (suc f) xs n cs g p ≡ close f (set (set xs g (word xs p)) p 0) n cs p (next_place (length xs) p)
-  unfolding close
-  move_on l f = rw (ne_eqb (word xs p) 0 z, w, le-leb (dist (length xs) g p) (dist (length xs) (home (length xs) (key_on xs cs p)) p) (omega (arith, from_home, eb, l)))
+  gap_step f = rw (ne_eqb (word xs p) 0 z, w, from_home, sym eb)
 
 -- ---- places that are passed over
 
@@ -56,21 +46,6 @@ pub record Skipping (xs : List ℕ) (n : ℕ) (cs : List Cand) (g start many pla
   pub goes : close left xs n cs g place ≡ close many xs n cs g start
   pub here : place < length xs
   pub most : left ≤ many
-
-pub skip-start : (xs : List ℕ) (n : ℕ) (cs : List Cand) (g start many : ℕ) → start < length xs → Skipping xs n cs g start many start many
-skip-start xs n cs g start many h = record { goes = refl; here = h; most = omega arith }
-
-pub skip_on : (xs : List ℕ) (n : ℕ) (cs : List Cand) (g start many place place' left : ℕ) → Skipping xs n cs g start many place left → 0 < left
-    → ((f : ℕ) → close (suc f) xs n cs g place ≡ close f xs n cs g (next_place (length xs) place)) → (place' ≡ next_place (length xs) place) × (place' < length xs)
-    → Skipping xs n cs g start many place' (left - 1)
-skip_on xs n cs g start many place place' left v h stays to =
-    record {
-      goes =
-          ap (close (left - 1) xs n cs g) to.0 ∙ sym (stays (left - 1))
-          ∙ ap (λ (x : ℕ). close x xs n cs g place) (omega (arith, h)) ∙ v.goes;
-      here = to.1;
-      most = omega (arith, v.most);
-    }
 
 -- ---- closed, and the new key comes in
 
@@ -88,18 +63,6 @@ as_then s t w v v' e r q = q ∙ ap (λ (x : ℤ). then_in s t (cand_of w x)) e
 
 pub as_came : (xs : List ℕ) (t : Table) (w : Item) (v v' : ℤ) → v' ≡ v → (r : Bool) → r ≡ (come_in xs t (cand_of w v')).fine → r ≡ (come_in xs t (cand_of w v)).fine
 as_came xs t w v v' e r q = q ∙ ap (λ (x : ℤ). (come_in xs t (cand_of w x)).fine) e
-
--- on a copy of the three slices
-pub on_copy : (xs es xs' es' : List ℕ) (ns ns' : List ℤ) (n g p many : ℕ) (c : Cand) → Front 0 (length xs) xs xs' → Front 0 (length es) es es' → Front (pos 0) (length ns) ns ns'
-    → length xs ≤ length xs' → length es ≤ length es' → length ns ≤ length ns' → (r : Bool)
-    → r ≡ then_in (close many (take (length xs) xs') n (cands_of (take (length es) es') (take (length ns) ns')) g p) (table_of (take (length es) es') (take (length ns) ns') n) c
-    → r ≡ then_in (close many xs n (cands_of es ns) g p) (table_of es ns n) c
-on_copy xs es xs' es' ns ns' n g p many c fx fe fn lx le ln r q =
-    q ∙ ap (λ (x : List ℕ). then_in (close many x n (cands_of (take (length es) es') (take (length ns) ns')) g p) (table_of (take (length es) es') (take (length ns) ns') n) c)
-    (front_take 0 (length xs) xs xs' fx refl lx) ∙ ap (λ (x : List Cand). then_in (close many xs n x g p) (record { cands = x; len = n }) c) same
-  where
-    same : cands_of (take (length es) es') (take (length ns) ns') ≡ cands_of es ns
-    same = ap (λ (x : List ℕ). cands_of x (take (length ns) ns')) (front_take 0 (length es) es es' fe refl le) ∙ ap (cands_of es) (front_take (pos 0) (length ns) ns ns' fn refl ln)
 
 -- ---- tried from a place q that was skipped to, with k places left
 
@@ -131,9 +94,6 @@ module _ (xs : List ℕ) (n : ℕ) (cs : List Cand) (g p f q k : ℕ) (skipped :
 pub gap_back : (xs ys : List ℕ) (g p : ℕ) → word xs g ≡ 0 → word xs p ≢ 0 → ys ≡ set (set xs g (word xs p)) p 0 → set (set ys g 0) p (word xs p) ≡ xs
 gap_back xs ys g p e z q =
     ap (λ (l : List ℕ). set (set l g 0) p (word xs p)) q ∙ set_back 0 xs g p (word xs p) 0 0 (word xs p) (λ s. z (sym (ap (word xs) s) ∙ e)) e refl
-
-pub gap_zero : (xs : List ℕ) (g p x : ℕ) → p < length xs → word (set (set xs g x) p 0) p ≡ 0
-gap_zero xs g p x h = get_or-set_same (set xs g x) p 0 0 (subst (λ (l : ℕ). p < l) (sym (length-set xs g x)) h)
 
 -- ---- out and in, from the place of the root's key
 

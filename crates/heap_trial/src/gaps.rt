@@ -1,5 +1,5 @@
 // The gap that a displaced key leaves, closed and the new key come in, tried.
-ghost use Rattle.std.specs.Prelude.{◌≡◌, true, ℕ, suc, ◌*◌, ◌≤◌, ◌<◌, length, set};
+ghost use Rattle.std.specs.Prelude.{◌≡◌, cond, IfSome, ℕ, suc, ◌*◌, ◌≤◌, ◌<◌, length, set};
 ghost use Rattle.heap_moves.specs.Flat.{cands_of, cand_of};
 ghost use Rattle.heap.specs.inner.Slices.{table_of};
 ghost use Rattle.heap_index.specs.Index.{word, close, next_place};
@@ -10,7 +10,6 @@ ghost use Rattle.heap_trial.specs.inner.Trials.{enter_sink, then_in, Small};
 
 use crate::Spot;
 use crate::paths::try_sink;
-use heap_index::Lookup;
 use heap_moves::Item;
 
 // How many entries may move into a gap before the rest is made on a copy.
@@ -45,12 +44,10 @@ fn try_insert(
     ensures index_unchanged { index.new ≡ index.old }
     ensures counts_unchanged { cands_of entries.new counts.new ≡ cands_of entries.old counts.old }
 {
-    let l = heap_index::look(&*index, &*entries, &*counts, n, key);
-    match l {
-        Lookup::Met(p, d) => try_at(index, entries, counts, n, p),
-        Lookup::Vacant(p, d) => try_at(index, entries, counts, n, p),
-        Lookup::Refused => false,
-    }
+    let Some(l) = heap_index::look(&*index, &*entries, &*counts, n, key) else {
+        return false;
+    };
+    try_at(index, entries, counts, n, l.place())
 }
 
 // Whether a new key could come in for the root's, which is out of the index.
@@ -76,26 +73,35 @@ fn try_come_in(
     r
 }
 
-// Whether the place p names a candidate whose lookup does not pass the gap at g.
-fn stays(index: &[u64], entries: &[u64], counts: &[i64], n: usize, g: usize, p: usize) -> bool
+// Whether the lookup of the candidate named at the place p passes the gap at g, so that the word moves there;
+// `None` where no candidate is named.
+fn passes_gap(
+    index: &[u64],
+    entries: &[u64],
+    counts: &[i64],
+    n: usize,
+    g: usize,
+    p: usize,
+) -> Option<bool>
     requires cover { Cover (length entries.now) (length counts.now) n }
     requires g_in_bounds { (g < length index.now) × (p < length index.now) }
-    ensures { result ≡ true → (f : ℕ) → close (suc f) index.now n (cands_of entries.now counts.now) g p
-        ≡ close f index.now n (cands_of entries.now counts.now) g (next_place (length index.now) p) }
+    ensures { IfSome result (λ moves. (f : ℕ) → close (suc f) index.now n (cands_of entries.now counts.now) g p
+        ≡ cond moves (close f (set (set index.now g (word index.now p)) p 0) n (cands_of entries.now counts.now) p (next_place (length index.now) p))
+        (close f index.now n (cands_of entries.now counts.now) g (next_place (length index.now) p))) }
 {
     let x = index[p];
     if x == 0 {
-        return false;
+        return None;
     }
     if !heap_index::is_name(counts, n, x) {
-        return false;
+        return None;
     }
     let m = index.len();
     let i = x as usize - 1;
     let h = heap_index::home_of(m, entries[4 * i]);
     let back = heap_index::steps(m, g, p);
     let way = heap_index::steps(m, h, p);
-    way < back
+    Some(back <= way)
 }
 
 // From p on, over at most `many` places, those whose entries' lookups do not pass the gap at g: where they end,
@@ -116,34 +122,16 @@ fn skip(
 {
     let m = index.len();
     let mut place = start;
-    let mut left = many;
-    while left > 0 {
-        if !stays(index, entries, counts, n, g, place) {
-            return Spot { place, left };
-        }
+    for passed in 0..many {
+        let Some(false) = passes_gap(index, entries, counts, n, g, place) else {
+            return Spot {
+                place,
+                left: many - passed,
+            };
+        };
         place = heap_index::after(m, place);
-        left -= 1;
     }
-    Spot { place, left }
-}
-
-// Whether the place p names a candidate whose lookup passes the gap at g, so that it moves there.
-fn moves(index: &[u64], entries: &[u64], counts: &[i64], n: usize, g: usize, p: usize) -> bool
-    requires cover { Cover (length entries.now) (length counts.now) n }
-    requires g_in_bounds { (g < length index.now) × ((p < length index.now) × (0 < word index.now p)) }
-    ensures { result ≡ true → (f : ℕ) → close (suc f) index.now n (cands_of entries.now counts.now) g p
-        ≡ close f (set (set index.now g (word index.now p)) p 0) n (cands_of entries.now counts.now) p (next_place (length index.now) p) }
-{
-    let x = index[p];
-    if !heap_index::is_name(counts, n, x) {
-        return false;
-    }
-    let m = index.len();
-    let i = x as usize - 1;
-    let h = heap_index::home_of(m, entries[4 * i]);
-    let back = heap_index::steps(m, g, p);
-    let way = heap_index::steps(m, h, p);
-    back <= way
+    Spot { place, left: 0 }
 }
 
 // The gap at g is closed from p on, over at most `many` places, and the new key comes in; whether nothing was
@@ -192,23 +180,13 @@ fn close_on_copy(
     let mut places = [0u64; 2 * heap_moves::MAX_HEAP_SIZE];
     let mut words = [0u64; 4 * heap_moves::MAX_HEAP_SIZE];
     let mut numbers = [0i64; heap_moves::MAX_HEAP_SIZE];
-    let a = index.len();
-    let b = entries.len();
-    let c = counts.len();
-    words::copy_words(index, &mut places, a);
-    words::copy_words(entries, &mut words, b);
-    words::copy_counts(counts, &mut numbers, c);
-    close_and_come_in(
-        &mut places[..a],
-        &mut words[..b],
-        &mut numbers[..c],
-        n,
-        w,
-        v,
-        g,
-        p,
-        many,
-    )
+    let places = &mut places[..index.len()];
+    let words = &mut words[..entries.len()];
+    let numbers = &mut numbers[..counts.len()];
+    places.copy_from_slice(index);
+    words.copy_from_slice(entries);
+    numbers.copy_from_slice(counts);
+    close_and_come_in(places, words, numbers, n, w, v, g, p, many)
 }
 
 // Whether the gap at g could be closed from p on, over at most f places, and the new key come in. Entries that
@@ -247,9 +225,9 @@ pub fn try_close(
     if depth == 0 {
         return close_on_copy(&*index, &*entries, &*counts, n, w, v, g, q, left);
     }
-    if !moves(&*index, &*entries, &*counts, n, g, q) {
+    let Some(true) = passes_gap(&*index, &*entries, &*counts, n, g, q) else {
         return close_on_copy(&*index, &*entries, &*counts, n, w, v, g, q, left);
-    }
+    };
     let m = index.len();
     let next = heap_index::after(m, q);
     index[g] = x;

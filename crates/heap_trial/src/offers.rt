@@ -77,11 +77,10 @@ fn try_replace(
     ensures index_unchanged { index.new ≡ index.old }
     ensures counts_unchanged { cands_of entries.new counts.new ≡ cands_of entries.old counts.old }
 {
-    let m = index.len();
-    let g = heap_index::found_under(&*index, &*entries, &*counts, n, 0);
-    if m <= g {
+    let Some(g) = heap_index::found_under(&*index, &*entries, &*counts, n, 0) else {
         return false;
-    }
+    };
+    let m = index.len();
     let q = heap_index::after(m, g);
     index[g] = 0;
     let r = try_close(index, entries, counts, n, w, v, g, q, m, DEPTH);
@@ -130,18 +129,19 @@ pub fn try_offer(
     ensures index_unchanged { index.new ≡ index.old }
     ensures counts_unchanged { cands_of entries.new counts.new ≡ cands_of entries.old counts.old }
 {
-    let l = heap_index::look(&*index, &*entries, &*counts, len, w.key);
+    let Some(l) = heap_index::look(&*index, &*entries, &*counts, len, w.key) else {
+        return false;
+    };
     match l {
-        Lookup::Met(p, d) => {
+        Lookup::Met(p, _) => {
             let i = index[p] as usize - 1;
             try_rescore(index, entries, counts, len, i, w, v)
         }
-        Lookup::Vacant(p, d) => {
+        Lookup::Vacant(p, _) => {
             if len < size {
                 return try_seat(index, entries, counts, len, p, w, v);
             }
             try_displace(index, entries, counts, len, w, v)
         }
-        Lookup::Refused => false,
     }
 }

@@ -50,15 +50,12 @@ pub fn try_climb(
     if !heap_moves::should_swap(&*counts, p, i) {
         return true;
     }
-    let m = index.len();
-    let a = heap_index::found_under(&*index, &*entries, &*counts, n, p);
-    if m <= a {
+    let Some(a) = heap_index::found_under(&*index, &*entries, &*counts, n, p) else {
         return false;
-    }
-    let b = heap_index::found_under(&*index, &*entries, &*counts, n, i);
-    if m <= b {
+    };
+    let Some(b) = heap_index::found_under(&*index, &*entries, &*counts, n, i) else {
         return false;
-    }
+    };
     swap_at(index, entries, counts, p, i, a, b);
     let r = try_climb(index, entries, counts, n, p);
     swap_at(index, entries, counts, i, p, a, b);
@@ -89,15 +86,12 @@ pub fn try_sink(
     if j == i {
         return true;
     }
-    let m = index.len();
-    let a = heap_index::found_under(&*index, &*entries, &*counts, n, i);
-    if m <= a {
+    let Some(a) = heap_index::found_under(&*index, &*entries, &*counts, n, i) else {
         return false;
-    }
-    let b = heap_index::found_under(&*index, &*entries, &*counts, n, j);
-    if m <= b {
+    };
+    let Some(b) = heap_index::found_under(&*index, &*entries, &*counts, n, j) else {
         return false;
-    }
+    };
     swap_at(index, entries, counts, i, j, a, b);
     let r = try_sink(index, entries, counts, n, j);
     swap_at(index, entries, counts, j, i, a, b);

@@ -7,6 +7,7 @@ use native.Mathlib.Omega.{arith}
 use borrow.Author.Tests.{eq-eqb, ne_eqb, le-leb, lt-leb, not-false, eqb-true}
 use lib.ListN.{length}
 use lib.Dec.{leb}
+use Rattle.std.proofs.Common.{Option}
 use Rattle.words.specs.Tests.{number}
 use Rattle.words.proofs.Tests.{off_number, off_first, off_rest, number_off, number_first, number-rest}
 use Rattle.heap_moves.specs.Cands.{Cand}
@@ -18,12 +19,11 @@ use Rattle.layout.specs.Outcomes.{lent_tests}
 use Rattle.layout.proofs.Lengths.{stands_of}
 use Rattle.layout_index.specs.Tables.{tables_in, table_at, tables_test, indexed_tests}
 use Rattle.layout_index.specs.inner.Needs.{StandingIn}
-use Rattle.indexed_state.specs.declared.LookedUp.{LookedUp}
-use Rattle.indexed_state.specs.Lookups.{looked_up, looked_by, look_in, lookup_tests, lookup_call}
+use Rattle.indexed_state.specs.Lookups.{LookedUp, looked_up, looked_by, look_in, lookup_tests, lookup_call}
 
 -- the answer that a walk's end gives
-pub looked : (xs : List ℕ) (n : ℕ) (cs : List Cand) (k : ℕ) (l : Lookup) → look xs n cs k ≡ l → looked_by xs l ≡ look_in xs (record { cands = cs; len = n }) k
-looked xs n cs k l e = ap (looked_by xs) (sym e)
+pub walk_looked : (xs : List ℕ) (n : ℕ) (cs : List Cand) (k : ℕ) (l : Option Lookup) → look xs n cs k ≡ l → looked_by xs l ≡ look_in xs (record { cands = cs; len = n }) k
+walk_looked xs n cs k l e = ap (looked_by xs) (sym e)
 
 module _ (r : Lent) (xs : List ℕ) where
   -- where no test of header, lengths and index holds, they fit together

@@ -2,18 +2,14 @@
 use mathlib.Core.Path.{◌≡◌}
 use mathlib.Core.Bool.{Bool, true, false, ◌&&◌}
 use mathlib.Core.List.{List}
-use Prim.Native.Nat.{ℕ, ◌*◌, ◌<◌}
+use Prim.Native.Nat.{ℕ, ◌<◌}
 use native.Mathlib.Omega.{arith}
 use borrow.Author.Tests.{eq-eqb, ne_eqb, eqb-true}
-use lib.ListN.{length, get_or}
+use lib.ListN.{length}
 use lib.Dec.{eqb}
-use Rattle.words.specs.Parts.{part}
 use Rattle.words.proofs.Bools.{and_left, and_right, both}
-use Rattle.heap_index.specs.inner.Needs.{Cover}
-use Rattle.layout.specs.State.{cand_off, layer_at}
+use Rattle.layout.specs.State.{layer_at}
 use Rattle.layout.specs.Slices.{Lent, view}
-use Rattle.layout.specs.inner.Needs.{Standing}
-use Rattle.layout.proofs.Pieces.{words_long, seats-long}
 use Rattle.layout.proofs.States.{all-at}
 use Rattle.layout.proofs.Replaced.{all-layers}
 use Rattle.layout_index.specs.Tables.{tables_in, table_at}
@@ -63,11 +59,3 @@ module _ (r : Lent) (xs : List ℕ) where
   pub indexed_tables : (b : Bool) → state_ok r ≡ true → length xs ≡ tables_in r.head.shape → b ≡ tables_ok (view r) xs → b ≡ indexed_ok r xs
   unfolding indexed_ok
   indexed_tables b e n q = rw (e, eq-eqb (length xs) (tables_in r.head.shape) n) q
-
--- the parts of layer l are as long as a lookup asks
-pub covered : (r : Lent) → Standing r → (l : ℕ) → l < r.head.shape.layers
-    → Cover (length (part (4 * cand_off r.head.shape l) (4 * r.head.shape.heap_size) r.entries)) (length (part (cand_off r.head.shape l) r.head.shape.heap_size r.counts)) (get_or r.head.lens l 0)
-covered r z l h =
-    let w = words_long r.head.shape l h r.entries z.sizes.entries in
-    let s = seats-long r.head.shape l h r.counts z.sizes.counts in
-    record { words = omega (arith, w, s); used = omega (arith, s, z.lens l h) }

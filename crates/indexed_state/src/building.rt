@@ -1,4 +1,5 @@
 // The index built from the entries: it follows `new`, `clear` and a text that is read.
+ghost use Rattle.refusal.specs.Refusals.{refused};
 ghost use Rattle.std.specs.Prelude.{◌≡◌, ℕ, ◌<◌, length};
 ghost use Rattle.words.specs.Tests.{number};
 ghost use Rattle.layout_index.specs.Tables.{put_table, index_left};
@@ -8,6 +9,7 @@ ghost use Rattle.indexed_state.specs.inner.Needs.{Buildable};
 use header::Header;
 use layout::words_at;
 use layout_index::{table_span, tables_in};
+use refusal::Refusal;
 
 // Layer l's table is built anew. No count is read: zeros stand for them.
 fn build_table(header: Header, entries: &[u64], index: &mut [u64], l: usize)
@@ -35,41 +37,35 @@ fn build_tables(header: Header, entries: &[u64], index: &mut [u64])
     requires { Buildable header (length entries.now) (length index.old) }
     ensures { index.new ≡ built_index header entries.now index.old }
 {
-    let layers = header.shape.layers;
-    let mut l = 0;
-    while l < layers {
+    for l in 0..header.shape.layers {
         build_table(header, entries, index, l);
-        l += 1;
     }
 }
 
-// 9 for a header out of range, or entries or an index that are not its shape's; 0 for none.
-fn build_refusal(header: Header, entries: &[u64], index: usize) -> u64
-    ensures { result ≡ number (build_tests header entries.now index) }
+// Whether a header is in range, and entries and index are its shape's: 9.
+fn check_build(header: Header, entries: &[u64], index: usize) -> Result<(), Refusal>
+    ensures { refused result ≡ number (build_tests header entries.now index) }
 {
     if !header.in_range() {
-        return 9;
+        return Err(Refusal::OutOfRange);
     }
     let shape = header.shape;
     let e = layout::extent_of(shape);
     if entries.len() != e.words {
-        return 9;
+        return Err(Refusal::OutOfRange);
     }
     if index != tables_in(shape) {
-        return 9;
+        return Err(Refusal::OutOfRange);
     }
-    0
+    Ok(())
 }
 
 // The tables are emptied, and each layer's candidates entered in heap order, a key's second entry left out: 9.
-pub fn build_index(header: Header, entries: &[u64], index: &mut [u64]) -> u64
-    ensures value { result ≡ number (build_tests header entries.now (length index.old)) }
-    ensures index_after { index.new ≡ index_left result (built_index header entries.now index.old) index.old }
+pub fn build_index(header: Header, entries: &[u64], index: &mut [u64]) -> Result<(), Refusal>
+    ensures value { refused result ≡ number (build_tests header entries.now (length index.old)) }
+    ensures index_after { index.new ≡ index_left (refused result) (built_index header entries.now index.old) index.old }
 {
-    let refusal = build_refusal(header, entries, index.len());
-    if refusal != 0 {
-        return refusal;
-    }
+    check_build(header, entries, index.len())?;
     build_tables(header, entries, index);
-    0
+    Ok(())
 }

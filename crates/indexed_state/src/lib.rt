@@ -11,12 +11,9 @@ pub use building::build_index;
 pub use check::check_indexed_state;
 pub use lookups::lookup;
 
-// What a lookup answers: the number of a refusal or 0, whether the key was found, its entry, and the places
-// that were probed. On a refusal all but the number is 0 or false.
+// What a lookup answers: the key's entry, if it was found, and the places that were probed.
 #[derive(Clone, Copy)]
 pub struct LookedUp {
-    pub refusal: u64,
-    pub found: bool,
-    pub entry: usize,
+    pub entry: Option<usize>,
     pub probes: usize,
 }

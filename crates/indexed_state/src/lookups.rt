@@ -1,48 +1,43 @@
 // The lookup of a key.
-ghost use Rattle.std.specs.Prelude.{◌≡◌, false, length};
+ghost use Rattle.std.specs.Prelude.{◌≡◌, length};
 ghost use Rattle.heap.specs.inner.Slices.{table_of};
 ghost use Rattle.heap_index.specs.inner.Needs.{Cover};
-ghost use Rattle.indexed_state.specs.Lookups.{looked_up, look_in, lookup_call};
+ghost use Rattle.indexed_state.specs.Lookups.{looked, look_in, lookup_call};
 ghost use Rattle.layout.specs.Slices.{lent};
 
 use crate::LookedUp;
 use header::Header;
 use heap_index::Lookup;
-use layout::{seats_at, words_at};
-use layout_index::{indexed_refusal, table_at};
+use layout::LentState;
+use layout_index::{check_indexed, table_at};
+use refusal::Refusal;
 
-// The lookup of a key in one layer's table.
-fn look_in(index: &[u64], entries: &[u64], counts: &[i64], len: usize, key: u64) -> LookedUp
+// The lookup of a key in one layer's table: 9 for what it visits.
+fn look_in(
+    index: &[u64],
+    entries: &[u64],
+    counts: &[i64],
+    len: usize,
+    key: u64,
+) -> Result<LookedUp, Refusal>
     requires { Cover (length entries.now) (length counts.now) len }
-    ensures { result ≡ look_in index.now (table_of entries.now counts.now len) key }
+    ensures { looked result ≡ look_in index.now (table_of entries.now counts.now len) key }
 {
-    let l = heap_index::look(index, entries, counts, len, key);
+    let Some(l) = heap_index::look(index, entries, counts, len, key) else {
+        return Err(Refusal::OutOfRange);
+    };
     match l {
-        Lookup::Met(p, d) => LookedUp {
-            refusal: 0,
-            found: true,
-            entry: index[p] as usize - 1,
+        Lookup::Met(p, d) => {
+            let entry = index[p] as usize - 1;
+            Ok(LookedUp {
+                entry: Some(entry),
+                probes: d,
+            })
+        }
+        Lookup::Vacant(_, d) => Ok(LookedUp {
+            entry: None,
             probes: d,
-        },
-        Lookup::Vacant(p, d) => LookedUp {
-            refusal: 0,
-            found: false,
-            entry: 0,
-            probes: d,
-        },
-        Lookup::Refused => refused(9),
-    }
-}
-
-// The answer of a lookup that is refused.
-fn refused(refusal: u64) -> LookedUp
-    ensures { result ≡ looked_up refusal false 0 0 }
-{
-    LookedUp {
-        refusal,
-        found: false,
-        entry: 0,
-        probes: 0,
+        }),
     }
 }
 
@@ -57,23 +52,27 @@ pub fn lookup(
     index: &[u64],
     layer: usize,
     key: u64,
-) -> LookedUp
-    ensures { result ≡ lookup_call (lent header counters.now norms.now entries.now counts.now) index.now layer key }
+) -> Result<LookedUp, Refusal>
+    ensures { looked result ≡ lookup_call (lent header counters.now norms.now entries.now counts.now) index.now layer key }
 {
-    let unfit = indexed_refusal(header, counters, norms, entries, counts, index);
-    if unfit != 0 {
-        return refused(unfit);
-    }
+    check_indexed(header, counters, norms, entries, counts, index)?;
     let shape = header.shape;
     if shape.layers <= layer {
-        return refused(8);
+        return Err(Refusal::OutsideShape);
     }
-    let lens = header.lens;
+    let state = LentState {
+        header: &header,
+        counters,
+        norms,
+        entries,
+        counts,
+    };
+    let part = state.layer(layer);
     look_in(
         table_at(shape, layer, index),
-        words_at(shape, layer, entries),
-        seats_at(shape, layer, counts),
-        lens[layer],
+        part.entries,
+        part.counts,
+        part.len,
         key,
     )
 }

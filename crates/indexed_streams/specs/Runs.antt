@@ -1,6 +1,6 @@
 -- Relays with an index and relays without one, and what a list of calls makes of both. A relay has a number; a call is lent what the last calls left.
 use Rattle.std.specs.Prelude.{ℕ, cond, List, [], ◌∷◌, length, ℤ, eqb}
-use Rattle.header.specs.declared.Answered.{Answered}
+use Rattle.header.specs.Answers.{Answered}
 use Rattle.header.specs.Header.{fresh_header}
 use Rattle.layout.specs.Slices.{Lent, lent, view, fresh_lent}
 use Rattle.layout.specs.Outcomes.{Left, left, left_after}

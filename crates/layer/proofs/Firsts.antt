@@ -10,6 +10,8 @@ use lib.IntN.{ℤ, pos}
 use lib.Seq.{length-take-le}
 use lib.Dec.{eqb}
 use borrow.Author.Tests.{eqb-true}
+use Rattle.std.specs.Prelude.{Option, None, Some, is_some, unwrap_or, IfSome}
+use Rattle.std.proofs.lemmas.List.{get_or-take}
 use Rattle.heap_moves.specs.declared.Item.{Item}
 use Rattle.heap_moves.specs.Cands.{Cand}
 use Rattle.heap_moves.specs.Flat.{item_of, cands_of}
@@ -17,7 +19,7 @@ use Rattle.heap_moves.proofs.Views.{item-drop, item_path, length-cands}
 use Rattle.heap.specs.Offer.{find}
 use Rattle.heap.specs.inner.Slices.{table_of}
 use Rattle.layer.specs.Merge.{has_key, firsts, items}
-use Rattle.layer.specs.inner.Gather.{item_keys, items_from, items_of, keys_of, Front}
+use Rattle.layer.specs.inner.Gather.{item_keys, items_from, items_of, keys_of}
 
 -- ---- or
 
@@ -138,13 +140,17 @@ pub items-table : (es : List ℕ) (ns : List ℤ) (n : ℕ) → n ≤ length ns 
 unfolding items
 items-table es ns n h = sym (items-of es ns n h)
 
-pub front_items : (es fs : List ℕ) (k n i : ℕ) → Front k es fs → 4 * (i + n) ≤ k → items_from fs n i ≡ items_from es n i
+-- entries in words that two slices begin with
+pub front_items : (es fs : List ℕ) (k n i : ℕ) → take k fs ≡ take k es → 4 * (i + n) ≤ k → items_from fs n i ≡ items_from es n i
 unfolding items_from
 front_items es fs k zero i f h = refl
 front_items es fs k (suc n) i f h =
     ap₂ (λ (x : Item) (z : List Item). x ∷ z)
-    (item_path (f.at (4 * i) (omega arith)) (f.at (4 * i + 1) (omega arith)) (f.at (4 * i + 2) (omega arith)) (f.at (4 * i + 3) (omega arith)))
+    (item_path (at (4 * i) (omega arith)) (at (4 * i + 1) (omega arith)) (at (4 * i + 2) (omega arith)) (at (4 * i + 3) (omega arith)))
     (front_items es fs k n (suc i) f (omega arith))
+  where
+    at : (j : ℕ) → j < k → get_or fs j 0 ≡ get_or es j 0
+    at j b = sym (get_or-take k fs j 0 b) ∙ ap (λ (l : List ℕ). get_or l j 0) f ∙ get_or-take k es j 0 b
 
 -- ---- a search says whether a key was seen
 
@@ -168,8 +174,8 @@ missed_has k (c ∷ cs) h = go (eqb c.item.key k) h (missed_has k cs)
     go true h i = absurd (omega arith)
     go false h i = i (omega arith)
 
--- what `find` ensures
-abbrev pub Finds : List ℕ → ℕ → ℕ → ℕ → Type 0
+-- where a search ends: n if no entry has the key
+abbrev Finds : List ℕ → ℕ → ℕ → ℕ → Type 0
 Finds es n k r = (ns : List ℤ) → n ≤ length ns → r ≡ find k (take n (cands_of es ns))
 
 module _ (es : List ℕ) (n k r : ℕ) (f : Finds es n k r) where
@@ -186,11 +192,16 @@ module _ (es : List ℕ) (n k r : ℕ) (f : Finds es n k r) where
   long : length (take n (cands_of es zeros)) ≡ n
   long = length-take-le n (cands_of es zeros) (omega (arith, length-cands es zeros, enough))
 
-  pub find-has : r < n → has_key k (keys_of es n) ≡ true
+  find-has : r < n → has_key k (keys_of es n) ≡ true
   find-has h = rw (items-of es zeros n enough) (found-has k (take n (cands_of es zeros)) (omega (arith, at, long)))
 
-  pub find_hasnt : n ≤ r → has_key k (keys_of es n) ≡ false
+  find_hasnt : n ≤ r → has_key k (keys_of es n) ≡ false
   find_hasnt h = rw (items-of es zeros n enough) (missed_has k (take n (cands_of es zeros)) (omega (arith, at, long)))
+
+-- what `find` ensures says whether an entry has the key
+pub found_is : (es : List ℕ) (n k : ℕ) (r : Option ℕ) → Finds es n k (unwrap_or r n) → IfSome r (λ i. i < n) → is_some r ≡ has_key k (keys_of es n)
+found_is es n k None f w = sym (find_hasnt es n k n f (omega arith))
+found_is es n k (Some i) f w = sym (find-has es n k i f w)
 
 -- one entry more
 has-next : (es : List ℕ) (k n i : ℕ) → has_key k (item_keys (items_from es (suc n) i)) ≡ (has_key k (item_keys (items_from es n i)) || eqb (get_or es (4 * (i + n)) 0) k)

@@ -3,9 +3,9 @@ use mathlib.Core.Path.{◌≡◌, refl, sym, ap, ap₂, ◌∙◌}
 use Prim.Native.Nat.{ℕ, zero, suc, ◌+◌, ◌-◌, ◌*◌, ◌≤◌, ◌<◌}
 use native.Mathlib.Omega.{arith}
 use native.Mathlib.Numerals.{add-one}
-use mathlib.Core.Bool.{Bool, true, false, cond}
+use mathlib.Core.Bool.{Bool, true, false}
 use mathlib.Core.List.{List, [], ◌∷◌, ◌++◌}
-use lib.ListN.{length, get_or, replicate, length-append}
+use lib.ListN.{length, get_or, take, replicate, length-append}
 use lib.IntN.{ℤ, pos}
 use Rattle.countsketch_l2_norm.specs.Estimate.{estimate_of}
 use Rattle.heap_moves.specs.declared.Item.{Item}
@@ -22,9 +22,9 @@ use Rattle.layer.specs.declared.Dims.{Dims}
 use Rattle.layer.specs.declared.Merged.{Merged}
 use Rattle.layer.specs.Layer.{hash_by, count_of, offer_to}
 use Rattle.layer.specs.Merge.{has_key, firsts, offer_all, offer_answers}
-use Rattle.layer.specs.inner.Gather.{Front, Gathered, merge_table, offer_one, gather, items_from, items_of, keys_of, first_at, gathered_of}
+use Rattle.layer.specs.inner.Gather.{Gathered, merge_table, offer_one, gather, items_from, items_of, keys_of, first_at, gathered_of}
 use Rattle.layer.proofs.Steps.{offer-few}
-use Rattle.layer.proofs.Firsts.{firsts-append, firsts-few, front_items, items-many, Finds, find-has, find_hasnt, Seen, seen_none, seen_known, seen_new}
+use Rattle.layer.proofs.Firsts.{firsts-append, firsts-few, front_items, items-many, Seen, seen_none, seen_known, seen_new}
 
 pub gathered_path : {a b : Table} {m n : ℕ} {xs ys : List ℕ} → a ≡ b → m ≡ n → xs ≡ ys → ◌≡◌ {A = Gathered} (record { table = a; keys = m; list = xs }) (record { table = b; keys = n; list = ys })
 gathered_path p q r = λ i. record { table = p i; keys = q i; list = r i }
@@ -45,24 +45,24 @@ one-view d cells w es es' ns ns' list list' g a v r ev words counts said e told 
 
 -- ---- an entry, if it is the first of its key
 
-module _ (d : Dims) (cells : List ℤ) (bef : List ℕ) (m : ℕ) (src : List ℕ) (i : ℕ) (w : Item) (is : w ≡ item_of src i) (r : ℕ) (there : Finds bef m w.key r) (g : Gathered) where
+module _ (d : Dims) (cells : List ℤ) (bef : List ℕ) (m : ℕ) (src : List ℕ) (i : ℕ) (w : Item) (is : w ≡ item_of src i) (a : Bool) (there : a ≡ has_key w.key (keys_of bef m)) (g : Gathered) where
   key : w.key ≡ get_or src (4 * i) 0
   key = ap (λ (x : Item). x.key) is
 
-  pub first_there : r < m → g ≡ first_at d cells bef m src i g
+  pub first_there : a ≡ true → g ≡ first_at d cells bef m src i g
   unfolding first_at
-  first_there h = rw (← key, find-has bef m w.key r there h)
+  first_there h = rw (← key, ← there, h)
 
-  pub first_here : m ≤ r → (q : ℕ) → Finds src i w.key q → q < i → g ≡ first_at d cells bef m src i g
+  pub first_here : a ≡ false → (b : Bool) → b ≡ has_key w.key (keys_of src i) → b ≡ true → g ≡ first_at d cells bef m src i g
   unfolding first_at
-  first_here h q here k = rw (← key, find_hasnt bef m w.key r there h, find-has src i w.key q here k)
+  first_here h b here k = rw (← key, ← there, h, ← here, k)
 
-  pub first_new : m ≤ r → (q : ℕ) → Finds src i w.key q → i ≤ q → (g' : Gathered) → g' ≡ offer_one d cells w g → g' ≡ first_at d cells bef m src i g
+  pub first_new : a ≡ false → (b : Bool) → b ≡ has_key w.key (keys_of src i) → b ≡ false → (g' : Gathered) → g' ≡ offer_one d cells w g → g' ≡ first_at d cells bef m src i g
   unfolding first_at
-  first_new h q here k g' e =
-      e ∙ ap (λ (x : Item). offer_one d cells x g) is
-      ∙ sym (ap (λ (b : Bool). cond b g (cond (has_key (get_or src (4 * i) 0) (keys_of src i)) g (offer_one d cells (item_of src i) g))) (rw key at (find_hasnt bef m w.key r there h))
-      ∙ ap (λ (b : Bool). cond b g (offer_one d cells (item_of src i) g)) (rw key at (find_hasnt src i w.key q here k)))
+  first_new h b here k g' e =
+      let p : has_key (get_or src (4 * i) 0) (keys_of bef m) ≡ false = rw key at (sym there ∙ h) in
+      let q : has_key (get_or src (4 * i) 0) (keys_of src i) ≡ false = rw key at (sym here ∙ k) in
+      rw (p, q) (e ∙ ap (λ (x : Item). offer_one d cells x g) is)
 
 -- ---- the loop
 
@@ -89,10 +89,6 @@ one-keys d cells w g = refl
 
 -- what the loop of `offer_firsts` keeps: what is left to do gives the answer
 pub record GatherInv (d : Dims) (cells : List ℤ) (bef : List ℕ) (m : ℕ) (src : List ℕ) (n : ℕ) (es₀ : List ℕ) (ns₀ : List ℤ) (list₀ : List ℕ) (g₀ : Merged) (es : List ℕ) (ns : List ℤ) (list : List ℕ) (g : Merged) (i : ℕ) : Type 0 where
-  pub words : length es ≡ length es₀
-  pub counts : length ns ≡ length ns₀
-  pub places : length list ≡ length list₀
-  pub low : i ≤ n
   pub used : g.len ≤ d.size
   pub few : g.keys ≤ g₀.keys + i
   pub seen : List ℕ
@@ -101,16 +97,16 @@ pub record GatherInv (d : Dims) (cells : List ℤ) (bef : List ℕ) (m : ℕ) (s
 
 pub gather-holds : (d : Dims) (cells : List ℤ) (bef : List ℕ) (m : ℕ) (src : List ℕ) (n : ℕ) (es₀ : List ℕ) (ns₀ : List ℤ) (list₀ : List ℕ) (g₀ : Merged) → g₀.len ≤ d.size → GatherInv d cells bef m src n es₀ ns₀ list₀ g₀ es₀ ns₀ list₀ g₀ 0
 gather-holds d cells bef m src n es₀ ns₀ list₀ g₀ h =
-    record { words = refl; counts = refl; places = refl; low = omega arith; used = h; few = omega arith; seen = keys_of bef m; same = seen_none bef m src; goes = ap (λ (z : ℕ). gather d cells (keys_of bef m) (items_from src z 0) (gathered_of es₀ ns₀ list₀ g₀)) e }
+    record { used = h; few = omega arith; seen = keys_of bef m; same = seen_none bef m src; goes = ap (λ (z : ℕ). gather d cells (keys_of bef m) (items_from src z 0) (gathered_of es₀ ns₀ list₀ g₀)) e }
   where
     e : n - 0 ≡ n
     e = omega arith
 
 pub gather_again : (d : Dims) (cells : List ℤ) (bef : List ℕ) (m : ℕ) (src : List ℕ) (n : ℕ) (es₀ : List ℕ) (ns₀ : List ℤ) (list₀ : List ℕ) (g₀ : Merged) (es es' : List ℕ) (ns ns' : List ℤ) (list list' : List ℕ) (g g' : Merged) (i : ℕ)
-    → GatherInv d cells bef m src n es₀ ns₀ list₀ g₀ es ns list g i → i < n → length es' ≡ length es → length ns' ≡ length ns → length list' ≡ length list
+    → GatherInv d cells bef m src n es₀ ns₀ list₀ g₀ es ns list g i → i < n
     → gathered_of es' ns' list' g' ≡ first_at d cells bef m src i (gathered_of es ns list g) → GatherInv d cells bef m src n es₀ ns₀ list₀ g₀ es' ns' list' g' (i + 1)
 unfolding first_at
-gather_again d cells bef m src n es₀ ns₀ list₀ g₀ es es' ns ns' list list' g g' i v h lw lc ll e =
+gather_again d cells bef m src n es₀ ns₀ list₀ g₀ es es' ns ns' list list' g g' i v h e =
     go (has_key (get_or src (4 * i) 0) (keys_of bef m)) refl (has_key (get_or src (4 * i) 0) (keys_of src i)) refl
   where
     k : ℕ
@@ -125,10 +121,6 @@ gather_again d cells bef m src n es₀ ns₀ list₀ g₀ es es' ns ns' list lis
     known : has_key k v.seen ≡ true → gathered_of es' ns' list' g' ≡ G → GatherInv d cells bef m src n es₀ ns₀ list₀ g₀ es' ns' list' g' (i + 1)
     known p q =
         record {
-          words = lw ∙ v.words;
-          counts = lc ∙ v.counts;
-          places = ll ∙ v.places;
-          low = omega arith;
           used = omega (arith, v.used, ap (λ (x : Gathered). x.table.len) q);
           few = omega (arith, v.few, ap (λ (x : Gathered). x.keys) q);
           seen = v.seen;
@@ -139,10 +131,6 @@ gather_again d cells bef m src n es₀ ns₀ list₀ g₀ es es' ns ns' list lis
     new : has_key k v.seen ≡ false → gathered_of es' ns' list' g' ≡ offer_one d cells (item_of src i) G → GatherInv d cells bef m src n es₀ ns₀ list₀ g₀ es' ns' list' g' (i + 1)
     new p q =
         record {
-          words = lw ∙ v.words;
-          counts = lc ∙ v.counts;
-          places = ll ∙ v.places;
-          low = omega arith;
           used = omega (arith, one-used d cells (item_of src i) G v.used, ap (λ (x : Gathered). x.table.len) q);
           few = omega (arith, v.few, ap (λ (x : Gathered). x.keys) q, one-keys d cells (item_of src i) G);
           seen = k ∷ v.seen;
@@ -205,7 +193,7 @@ merge-list d cells xs ys t list z h k =
     four = omega arith
 
 pub merge-two : (d : Dims) (cells : List ℤ) (es cp ot : List ℕ) (len len₂ : ℕ) (es₁ es₂ es₃ : List ℕ) (ns₁ ns₂ ns₃ : List ℤ) (list₁ list₂ list₃ : List ℕ) (g₂ g₃ : Merged)
-    → Front (4 * len) es cp → es₁ ≡ replicate (4 * d.size) 0 → ns₁ ≡ replicate d.size (pos 0) → list₁ ≡ replicate (4 * d.size) 0 → len ≤ d.size → len₂ ≤ d.size
+    → take (4 * len) cp ≡ take (4 * len) es → es₁ ≡ replicate (4 * d.size) 0 → ns₁ ≡ replicate d.size (pos 0) → list₁ ≡ replicate (4 * d.size) 0 → len ≤ d.size → len₂ ≤ d.size
     → gathered_of es₂ ns₂ list₂ g₂ ≡ gather d cells (keys_of cp 0) (items_of cp len) (gathered_of es₁ ns₁ list₁ (record { len = 0; keys = 0 }))
     → gathered_of es₃ ns₃ list₃ g₃ ≡ gather d cells (keys_of cp len) (items_of ot len₂) (gathered_of es₂ ns₂ list₂ g₂)
     → gathered_of es₃ ns₃ list₃ g₃ ≡ merge_table d cells (items_of es len ++ items_of ot len₂)

@@ -3,15 +3,17 @@ use mathlib.Core.Path.{◌≡◌, refl, sym, ap, ap₂, ◌∙◌}
 use mathlib.Core.Bool.{Bool, true, false, and-false, ◌&&◌}
 use mathlib.Core.List.{List}
 use Prim.Native.Nat.{ℕ, zero, suc, ◌+◌, ◌*◌, ◌<◌}
+use native.Mathlib.Omega.{arith}
 use native.Mathlib.Decide.{ℕ_discrete}
 use lib.ListN.{length, get_or, set, take}
 use lib.Seq.{get_or-set_same, get_or-set_other}
-use lib.IntN.{ℤ, pos}
+use lib.IntN.{ℤ, pos, ◌+ℤ◌}
 use Rattle.words.specs.Num.{all_in, in_range}
 use Rattle.words.proofs.Bools.{and_left, and_right, both}
-use Rattle.countsketch_l2_norm.specs.Sketch.{cell_of, cell_at, cell_read, rows_read, rows_fit}
+use Rattle.countsketch_l2_norm.specs.Sketch.{Sketch, cell_of, cell_at, cell_read, cell_fits, add_cell, rows_read, rows_fit}
 use Rattle.countsketch_l2_norm.specs.inner.Needs.{sketch_of, rows_ready}
 use Rattle.countsketch_l2_norm.specs.Estimate.{cells_in_range}
+use Rattle.countsketch_l2_norm.proofs.Places.{place-lt}
 use Rattle.heap_moves.specs.declared.Item.{Item}
 use Rattle.heap_moves.proofs.Rounds.{counts-cands}
 use Rattle.layer.specs.declared.Dims.{Dims}
@@ -76,3 +78,14 @@ cells-set cols h xs at v (suc k) r l p e =
     go : Dec (cell_of cols h r ≡ at) → in_range (cell_at (set xs at v) (cell_of cols h r)) ≡ true
     go (yes q) = ap (λ (i : ℕ). in_range (get_or (set xs at v) i (pos 0))) q ∙ ap in_range (get_or-set_same xs at v (pos 0) l) ∙ p
     go (no q) = ap in_range (get_or-set_other xs at (cell_of cols h r) v (pos 0) q) ∙ and_left (in_range (cell_at xs (cell_of cols h r))) (cells_in_range cols h xs k (suc r)) e
+
+-- so they do after a delta on a counter, which stays in range
+pub delta-counted : (d : Dims) (row col : ℕ) (n : ℤ) (item : Item) (xs ys : List ℤ) (ws vs : List ℕ)
+    → sketch_of ys vs d.rows ≡ add_cell (row * d.cols + col) row n (sketch_of xs ws d.rows) → row < d.rows → col < d.cols → length xs ≡ d.rows * d.cols
+    → cell_fits (row * d.cols + col) n xs ≡ true → cells_in_range d.cols (hash_by item) xs d.rows 0 ≡ true → cells_in_range d.cols (hash_by item) ys d.rows 0 ≡ true
+unfolding add_cell
+delta-counted d row col n item xs ys ws vs e below inside long fit read =
+    let at = row * d.cols + col in
+    let v = cell_at xs at +ℤ n in
+    let cells : ys ≡ set xs at v = ap (λ (s : Sketch). s.cells) e in
+    rw cells (cells-set d.cols (hash_by item) xs at v d.rows 0 (place-lt d.rows d.cols row col (length xs) below inside (omega arith)) fit read)

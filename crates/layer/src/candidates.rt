@@ -4,7 +4,6 @@ ghost use Rattle.std.specs.Prelude.{◌≡◌, ◌++◌, ℕ, ◌+◌, ◌*◌, 
 ghost use Rattle.heap_moves.specs.Cands.{most_cands};
 ghost use Rattle.layer.specs.inner.Gather.{gathered_in, gathered_out, merge_table, offer_one, gather, items_of, keys_of, first_at, CountersRead, Seats, Entries, Sofar};
 
-use crate::filling::{copy_words, zero_counts, zero_words};
 use crate::{Dims, Merged};
 use heap_moves::Item;
 
@@ -58,13 +57,7 @@ fn offer_first(
         ≡ first_at d counters.now before.now m source.now i (gathered_in entries counts list g) }
 {
     let w = heap_moves::item_at(source, i);
-    let there = heap::find(before, m, w.key);
-    if there < m {
-        return g;
-    }
-    let here = heap::find(source, i, w.key);
-    let known = here < i;
-    if known {
+    if heap::find(before, m, w.key).is_some() || heap::find(source, i, w.key).is_some() {
         return g;
     }
     offer_one(entries, counts, list, d, g, w, counters)
@@ -94,10 +87,8 @@ fn offer_firsts(
         × Sofar d result (start.keys + n) }
 {
     let mut g = start;
-    let mut i = 0;
-    while i < n {
+    for i in 0..n {
         g = offer_first(entries, counts, list, d, g, source, i, before, m, counters);
-        i += 1;
     }
     g
 }
@@ -123,10 +114,10 @@ pub fn merge_candidates(
     ensures { gathered_out entries counts list result ≡ merge_table d counters.now (items_of entries.old len ++ items_of other.now other_len) }
 {
     let mut copy = [0u64; 4 * heap_moves::MAX_HEAP_SIZE];
-    copy_words(&*entries, &mut copy, 4 * len);
-    zero_words(entries);
-    zero_counts(counts);
-    zero_words(list);
+    copy[..4 * len].copy_from_slice(&entries[..4 * len]);
+    entries.fill(0);
+    counts.fill(0);
+    list.fill(0);
     let none = Merged { len: 0, keys: 0 };
     let g = offer_firsts(
         entries, counts, list, d, none, &copy, len, &copy, 0, counters,

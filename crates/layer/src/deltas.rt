@@ -13,6 +13,7 @@ use heap::Answer;
 use heap_moves::Item;
 
 // Whether all that a delta reads of the layer is in range.
+#[tactic(auto, using(crate::proofs::Tests::delta_reads_are))]
 pub fn delta_reads(
     counters: &[i64],
     norms: &[u64],
@@ -27,16 +28,13 @@ pub fn delta_reads(
     requires row_lt_rows { (row < d.rows) × (col < d.cols) }
     ensures { (es : List ℕ) (flag every : Bool) (n : ℤ) → result ≡ delta_reads d (delta row col n item every) (layer_of d counters.now norms.now es counts.now len flag) }
 {
-    if !countsketch_l2_norm::cell_read(counters, norms, d.rows, d.cols, row, col) {
-        return false;
-    }
-    if !countsketch_l2_norm::cells_in(counters, d.rows, d.cols, item.high, item.low) {
-        return false;
-    }
-    heap::counts_in_range(counts, len)
+    countsketch_l2_norm::cell_read(counters, norms, d.rows, d.cols, row, col)
+        && countsketch_l2_norm::cells_in(counters, d.rows, d.cols, item.high, item.low)
+        && heap::counts_in_range(counts, len)
 }
 
 // Whether the counter, which is in range, stays so, whatever the count.
+#[tactic(auto, unfolding(crate::specs::Delta::delta_fits))]
 pub fn delta_fits(counters: &[i64], d: Dims, row: usize, col: usize, count: i64) -> bool
     requires row_lt_rows { (row < d.rows) × (col < d.cols) }
     requires shaped { Shaped d.rows d.cols }
@@ -65,9 +63,7 @@ pub fn apply_delta(
         ≡ delta_layer d (delta row col count item every) (layer_in d counters norms entries counts len flag) }
     ensures value { (flag every : Bool) → result ≡ delta_answer d (delta row col count item every) (layer_in d counters norms entries counts len flag) }
 {
-    let rows = d.rows;
-    let cols = d.cols;
-    countsketch_l2_norm::apply_delta(counters, norms, rows, cols, row, col, count);
-    let n = countsketch_l2_norm::count_with_hash(&*counters, rows, cols, item.high, item.low);
+    countsketch_l2_norm::apply_delta(counters, norms, d.rows, d.cols, row, col, count);
+    let n = countsketch_l2_norm::count_with_hash(&*counters, d.rows, d.cols, item.high, item.low);
     heap::offer(entries, counts, d.size, len, item, n)
 }

@@ -9,13 +9,10 @@
 mod adding;
 mod candidates;
 mod deltas;
-mod filling;
 mod merging;
 
 pub use adding::{add, add_if_ready, add_reads, add_ready};
 pub use deltas::{apply_delta, delta_fits, delta_reads};
-pub use filling::{zero_counts, zero_words};
-use heap::Answer;
 pub use merging::{merge, merge_fits, merge_reads};
 
 // Rows, columns and heap size of a layer.
@@ -24,13 +21,6 @@ pub struct Dims {
     pub rows: usize,
     pub cols: usize,
     pub size: usize,
-}
-
-// What an update that is made only where it may be answers: whether it was made, and what the offer did.
-#[derive(Clone, Copy)]
-pub struct TriedAdd {
-    pub made: bool,
-    pub answer: Answer,
 }
 
 // What a merge leaves: the number of candidates, and of the distinct keys that were offered.

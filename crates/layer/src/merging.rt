@@ -12,6 +12,7 @@ use crate::candidates::merge_candidates;
 use crate::{Dims, Merged};
 
 // Whether all that a merge reads of the two layers is in range: every counter and every candidate.
+#[tactic(auto, using(crate::proofs::Merges::merge_reads_are))]
 pub fn merge_reads(
     counters: &[i64],
     counts: &[i64],
@@ -24,19 +25,14 @@ pub fn merge_reads(
     ensures { (d : Dims) (ws es ws₂ es₂ : List ℕ) (flag flag₂ : Bool) → result
         ≡ merge_reads (layer_of d counters.now ws es counts.now len flag) (layer_of d other_counters.now ws₂ es₂ other_counts.now other_len flag₂) }
 {
-    if !countsketch_l2_norm::all_in(counters) {
-        return false;
-    }
-    if !heap::counts_in_range(counts, len) {
-        return false;
-    }
-    if !countsketch_l2_norm::all_in(other_counters) {
-        return false;
-    }
-    heap::counts_in_range(other_counts, other_len)
+    countsketch_l2_norm::all_in(counters)
+        && heap::counts_in_range(counts, len)
+        && countsketch_l2_norm::all_in(other_counters)
+        && heap::counts_in_range(other_counts, other_len)
 }
 
 // Whether every sum of two counters is in range, of counters that are in range.
+#[tactic(auto, using(crate::proofs::Merges::merge_fits_are))]
 pub fn merge_fits(counters: &[i64], other_counters: &[i64]) -> bool
     requires counters_len { length counters.now ≡ length other_counters.now }
     requires counters_value { (all_in counters.now ≡ true) × (all_in other_counters.now ≡ true) }

@@ -30,7 +30,7 @@ use Rattle.layer.specs.Merge.{both_items, offer_all, merge_layer}
 use Rattle.layer_indexed.specs.Adding.{offer_to_in, key_looked, add_layer_in, add_index_in, add_answer_in, add_reads_in, add_moves_in, delta_layer_in, delta_index_in, delta_answer_in, delta_reads_in, delta_moves_in}
 use Rattle.layer_indexed.specs.Merging.{offer_all_in, merge_index_in}
 use Rattle.layer_indexed.specs.inner.Needs.{grade_by, add_grade, delta_grade}
-use Rattle.layer_indexed.proofs.Grades.{not-refused}
+use Rattle.layer_indexed.proofs.Grading.{not-refused}
 
 -- every key's lookup ends
 pub key_agrees : (size : ℕ) (xs : List ℕ) (t : Table) → Passes size xs t → (k : ℕ) → key_looked xs t k ≡ true

@@ -1,4 +1,4 @@
 pub mod Seats
-pub mod Grades
+pub mod Grading
 pub mod Steps
 pub mod Agreeing

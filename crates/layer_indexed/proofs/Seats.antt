@@ -1,22 +1,11 @@
--- What the functions below need of the slices of a layer with an index. Assumes nothing.
+-- What a trial needs of the slices of a layer with an index. Assumes nothing.
 use Prim.Native.Nat.{ℕ}
 use native.Mathlib.Omega.{arith}
-use Rattle.heap.specs.inner.Slices.{Room}
-use Rattle.heap_index.specs.inner.Needs.{Cover}
 use Rattle.heap_index.proofs.Scanned.{index_bound}
 use Rattle.heap_trial.specs.inner.Trials.{Small}
 use Rattle.layer.specs.declared.Dims.{Dims}
 use Rattle.layer_indexed.specs.inner.Needs.{Seated}
 
 module _ (d : Dims) {nx nw ne nc ni len : ℕ} (s : Seated d nx nw ne nc ni len) where
-  -- an offer
-  pub room_of : Room ne nc d.size len
-  room_of = record { words = s.words; counts = s.housed.seats; some = s.housed.some; used = s.housed.used }
-
-  -- a trial
   pub small_of : Small ni nc
   small_of = record { places = omega (arith, s.places, index_bound d.size s.housed.few); counts = omega (arith, s.housed.seats, s.housed.few) }
-
-  -- a lookup
-  pub cover_of : Cover ne nc len
-  cover_of = record { words = omega (arith, s.words, s.housed.seats); used = omega (arith, s.housed.used, s.housed.seats) }

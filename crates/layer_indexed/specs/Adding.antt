@@ -1,13 +1,11 @@
 -- One layer with an index: an update and a delta of it. The sketch and the count are those of a layer without one; the key is sought by the index.
-use Rattle.std.specs.Prelude.{ℕ, Bool, true, false, ◌&&◌, List, ℤ}
+use Rattle.std.specs.Prelude.{ℕ, Bool, ◌&&◌, List, ℤ, is_some}
 use Rattle.countsketch_l2_norm.specs.Sketch.{rows_read, cell_read}
 use Rattle.countsketch_l2_norm.specs.Estimate.{cells_in_range}
 use Rattle.heap_moves.specs.declared.Item.{Item}
 use Rattle.heap_moves.specs.Flat.{cand_of}
 use Rattle.heap.specs.declared.Answer.{Answer}
 use Rattle.heap.specs.Offer.{Table, len_by, kept_by}
-use Rattle.heap_index.specs.declared.Lookup.{Lookup}
-use Rattle.heap_index.specs.declared.Lookup.TheVariants.{Met, Vacant, Refused}
 use Rattle.heap_index.specs.Index.{look}
 use Rattle.heap_indexed.specs.Offers.{IndexedOffer, offer_in}
 use Rattle.layer.specs.declared.Dims.{Dims}
@@ -22,15 +20,9 @@ offer_to_in d w cells xs t = offer_in d.size xs t (cand_of w (count_of d w cells
 abbrev pub table_after : ℕ → IndexedOffer → Table
 table_after n o = record { cands = o.after.cands; len = len_by o.answer n }
 
--- the lookup ends at the key or at an empty place
-abbrev pub is_found : Lookup → Bool
-is_found (Met p d) = true
-is_found (Vacant p d) = true
-is_found Refused = false
-
 -- "the key's own lookup"
 abbrev pub key_looked : List ℕ → Table → ℕ → Bool
-key_looked xs t k = is_found (look xs t.len t.cands k)
+key_looked xs t k = is_some (look xs t.len t.cands k)
 
 -- ---- an update
 

@@ -5,8 +5,9 @@ ghost use Rattle.heap.specs.Offer.{len_by, kept_by};
 ghost use Rattle.layer.specs.Layer.{count_of};
 ghost use Rattle.layer.specs.inner.Needs.{delta, layer_of, layer_in, layer_out};
 ghost use Rattle.layer_indexed.specs.Adding.{delta_layer_in, delta_index_in, delta_answer_in, delta_reads_in};
-ghost use Rattle.layer_indexed.specs.inner.Needs.{Seated, CountableBehind, DeltaReadyIn, delta_grade};
+ghost use Rattle.layer_indexed.specs.inner.Needs.{Seated, CountableBehind, DeltaReadyIn, grade_number, delta_grade};
 
+use crate::grades::Grade;
 use crate::looks::key_looked;
 use heap::Answer;
 use heap_moves::Item;
@@ -35,6 +36,7 @@ fn count_behind(
 
 // Whether what a delta reads first is in range: its cell and norm, the cells of the key's estimate, and what
 // the key's own lookup visits.
+#[tactic(auto, unfolding(crate::specs::Adding::delta_reads_in))]
 fn delta_reads(
     counters: &[i64],
     norms: &[u64],
@@ -51,13 +53,9 @@ fn delta_reads(
     requires row_lt_rows { (row < d.rows) × (col < d.cols) }
     ensures { (flag every : Bool) (n : ℤ) → result ≡ delta_reads_in d (delta row col n item every) index.now (layer_of d counters.now norms.now entries.now counts.now len flag) }
 {
-    if !countsketch_l2_norm::cell_read(counters, norms, d.rows, d.cols, row, col) {
-        return false;
-    }
-    if !countsketch_l2_norm::cells_in(counters, d.rows, d.cols, item.high, item.low) {
-        return false;
-    }
-    key_looked(index, entries, counts, len, item.key)
+    countsketch_l2_norm::cell_read(counters, norms, d.rows, d.cols, row, col)
+        && countsketch_l2_norm::cells_in(counters, d.rows, d.cols, item.high, item.low)
+        && key_looked(index, entries, counts, len, item.key)
 }
 
 // How far a delta may come. The offer is tried on the slices and taken back.
@@ -73,26 +71,26 @@ pub fn delta_grade(
     col: usize,
     count: i64,
     item: Item,
-) -> u64
+) -> Grade
     requires seated { Seated d (length counters.old) (length norms.now) (length entries.old) (length counts.old) (length index.old) len }
     requires row_lt_rows { (row < d.rows) × (col < d.cols) }
-    ensures value { (flag every : Bool) → result ≡ delta_grade d (delta row col count item every) index.old (layer_of d counters.old norms.now entries.old counts.old len flag) }
+    ensures value { (flag every : Bool) → grade_number result ≡ delta_grade d (delta row col count item every) index.old (layer_of d counters.old norms.now entries.old counts.old len flag) }
     ensures counters_unchanged { (counters.new ≡ counters.old)
         × ((entries.new ≡ entries.old) × ((counts.new ≡ counts.old) × (index.new ≡ index.old))) }
 {
     if !delta_reads(
         &*counters, norms, &*entries, &*counts, &*index, d, len, row, col, item,
     ) {
-        return 1;
+        return Grade::Unread;
     }
     if !countsketch_l2_norm::cell_fits(&*counters, d.rows, d.cols, row, col, count) {
-        return 2;
+        return Grade::Above;
     }
     let n = count_behind(counters, d, row, col, count, item);
     if heap_trial::try_offer(index, entries, counts, d.size, len, item, n) {
-        return 4;
+        return Grade::Fine;
     }
-    3
+    Grade::Unmoved
 }
 
 // Makes the delta, and answers what the offer of the key did.
@@ -115,10 +113,7 @@ pub fn apply_delta(
     ensures value { (flag every : Bool) → result ≡ delta_answer_in d (delta row col count item every) index.old (layer_in d counters norms entries counts len flag) }
     ensures index_after { (flag every : Bool) → index.new ≡ delta_index_in d (delta row col count item every) index.old (layer_in d counters norms entries counts len flag) }
 {
-    let rows = d.rows;
-    let cols = d.cols;
-    countsketch_l2_norm::apply_delta(counters, norms, rows, cols, row, col, count);
-    let n = countsketch_l2_norm::count_with_hash(&*counters, rows, cols, item.high, item.low);
-    let tried = heap_indexed::offer(index, entries, counts, d.size, len, item, n);
-    tried.answer
+    countsketch_l2_norm::apply_delta(counters, norms, d.rows, d.cols, row, col, count);
+    let n = countsketch_l2_norm::count_with_hash(&*counters, d.rows, d.cols, item.high, item.low);
+    heap_indexed::offer(index, entries, counts, d.size, len, item, n).answer
 }

@@ -9,7 +9,9 @@
 
 mod adding;
 mod deltas;
+mod grades;
 mod looks;
 
 pub use adding::{add, add_grade, add_if_fine};
 pub use deltas::{apply_delta, delta_grade};
+pub use grades::Grade;

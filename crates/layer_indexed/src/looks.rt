@@ -4,17 +4,10 @@ ghost use Rattle.heap.specs.inner.Slices.{table_of};
 ghost use Rattle.heap_index.specs.inner.Needs.{Cover};
 ghost use Rattle.layer_indexed.specs.Adding.{key_looked};
 
-use heap_index::Lookup;
-
 // Whether a key's lookup ends at the key or at an empty place.
 pub fn key_looked(index: &[u64], entries: &[u64], counts: &[i64], len: usize, key: u64) -> bool
     requires { Cover (length entries.now) (length counts.now) len }
     ensures { result ≡ key_looked index.now (table_of entries.now counts.now len) key }
 {
-    let l = heap_index::look(index, entries, counts, len, key);
-    match l {
-        Lookup::Met(p, d) => true,
-        Lookup::Vacant(p, d) => true,
-        Lookup::Refused => false,
-    }
+    heap_index::look(index, entries, counts, len, key).is_some()
 }

@@ -64,41 +64,17 @@ one-keys d cells w s = refl
 
 -- what the loop of `offer_firsts` keeps: what is left to do gives the answer
 pub record OfferInv (d : Dims) (cells : List ℤ) (src : List ℕ) (n : ℕ) (xs₀ es₀ : List ℕ) (ns₀ : List ℤ) (list₀ : List ℕ) (xs es : List ℕ) (ns : List ℤ) (list : List ℕ) (g : Merged) (i : ℕ) : Type 0 where
-  pub tables : length xs ≡ length xs₀
-  pub words : length es ≡ length es₀
-  pub counts : length ns ≡ length ns₀
-  pub places : length list ≡ length list₀
-  pub low : i ≤ n
   pub used : g.len ≤ d.size
   pub told : g.keys ≡ i
   pub goes : offers_in d cells (items_from src (n - i) i) (gathered_with xs es ns list g) ≡ offers_in d cells (items_of src n) (gathered_with xs₀ es₀ ns₀ list₀ (record { len = 0; keys = 0 }))
 
-pub offers_hold : (d : Dims) (cells : List ℤ) (src : List ℕ) (n : ℕ) (xs es : List ℕ) (ns : List ℤ) (list : List ℕ) → OfferInv d cells src n xs es ns list xs es ns list (record { len = 0; keys = 0 }) 0
-offers_hold d cells src n xs es ns list =
-    let e : n - 0 ≡ n = omega arith in
-    record {
-      tables = refl;
-      words = refl;
-      counts = refl;
-      places = refl;
-      low = omega arith;
-      used = omega arith;
-      told = refl;
-      goes = ap (λ (z : ℕ). offers_in d cells (items_from src z 0) (gathered_with xs es ns list (record { len = 0; keys = 0 }))) e;
-    }
-
 pub offers_again : (d : Dims) (cells : List ℤ) (src : List ℕ) (n : ℕ) (xs₀ es₀ : List ℕ) (ns₀ : List ℤ) (list₀ : List ℕ) (xs es : List ℕ) (ns : List ℤ) (list : List ℕ) (g : Merged) (i : ℕ)
     (xs' es' : List ℕ) (ns' : List ℤ) (list' : List ℕ) (g' : Merged) (w : Item) → OfferInv d cells src n xs₀ es₀ ns₀ list₀ xs es ns list g i → i < n → w ≡ item_of src i
-    → length xs' ≡ length xs → length es' ≡ length es → length ns' ≡ length ns → length list' ≡ length list → gathered_with xs' es' ns' list' g' ≡ offer_one_in d cells w (gathered_with xs es ns list g)
+    → gathered_with xs' es' ns' list' g' ≡ offer_one_in d cells w (gathered_with xs es ns list g)
     → OfferInv d cells src n xs₀ es₀ ns₀ list₀ xs' es' ns' list' g' (i + 1)
 unfolding offers_in
-offers_again d cells src n xs₀ es₀ ns₀ list₀ xs es ns list g i xs' es' ns' list' g' w v h is lx lw lc ll e =
+offers_again d cells src n xs₀ es₀ ns₀ list₀ xs es ns list g i xs' es' ns' list' g' w v h is e =
     record {
-      tables = lx ∙ v.tables;
-      words = lw ∙ v.words;
-      counts = lc ∙ v.counts;
-      places = ll ∙ v.places;
-      low = omega arith;
       used = omega (arith, one-used d cells w (gathered_with xs es ns list g) v.used, ap (λ (x : GatheredWith). x.gathered.table.len) e);
       told = ap (λ (x : GatheredWith). x.gathered.keys) e ∙ one-keys d cells w (gathered_with xs es ns list g) ∙ ap (λ (z : ℕ). z + 1) v.told;
       goes =

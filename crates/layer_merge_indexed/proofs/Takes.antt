@@ -7,11 +7,12 @@ use Prim.Native.Nat.{ℕ, zero, suc, ◌+◌, ◌-◌, ◌*◌, ◌≤◌, ◌<�
 use native.Mathlib.Omega.{arith}
 use native.Mathlib.Numerals.{add-one}
 use native.Mathlib.Decide.{ℕ_discrete}
-use lib.ListN.{length, get_or, set, take, replicate, length-replicate}
+use lib.ListN.{length, get_or, set, take}
 use lib.Seq.{take-suc-set}
 use lib.IntN.{ℤ, pos}
 use lib.Dec.{eqb}
 use borrow.Author.Tests.{eqb-true, eqb-false}
+use Rattle.std.proofs.Common.{Option, Some, None}
 use Rattle.words.specs.Num.{in_range}
 use Rattle.heap_moves.specs.declared.Item.{Item}
 use Rattle.heap_moves.specs.Cands.{Cand}
@@ -19,12 +20,11 @@ use Rattle.heap_moves.specs.Flat.{item_of, cands_of, cand_of}
 use Rattle.heap_moves.proofs.Views.{cand_at, length-cands}
 use Rattle.heap_moves.proofs.Moved.{each_next}
 use Rattle.heap_index.specs.declared.Lookup.{Lookup}
-use Rattle.heap_index.specs.declared.Lookup.TheVariants.{Met, Vacant, Refused}
+use Rattle.heap_index.specs.declared.Lookup.TheVariants.{Met, Vacant}
 use Rattle.heap_index.specs.Index.{home, dist, word, key_at, look}
-use Rattle.heap_index.specs.inner.Indexes.{IndexesIn, Indexes, Ranged}
+use Rattle.heap_index.specs.inner.Indexes.{Indexes, Ranged}
 use Rattle.heap_index.proofs.Stands.{stands, other_ends}
 use Rattle.heap_index.proofs.Inserts.{next_in}
-use Rattle.heap_index.proofs.Builds.{empty_holds}
 use Rattle.layer.specs.Merge.{has_key, firsts}
 use Rattle.layer.specs.inner.Gather.{items_from, items_of, keys_of}
 use Rattle.layer.proofs.Firsts.{items-of, next-key, firsts-behind}
@@ -59,25 +59,25 @@ where_key es (suc k) key = go (where_key es k key) (eqb (get_or es (4 * k) 0) ke
 
 -- ---- what the lookup says
 
-abbrev pub is_met : Lookup → Bool
-is_met (Met p d) = true
-is_met (Vacant p d) = false
-is_met Refused = false
+abbrev pub is_met : Option Lookup → Bool
+is_met (Some (Met p d)) = true
+is_met (Some (Vacant p d)) = false
+is_met None = false
 
-abbrev pub is_vacant : Lookup → Bool
-is_vacant (Met p d) = false
-is_vacant (Vacant p d) = true
-is_vacant Refused = false
+abbrev pub is_vacant : Option Lookup → Bool
+is_vacant (Some (Met p d)) = false
+is_vacant (Some (Vacant p d)) = true
+is_vacant None = false
 
-abbrev pub vacant_at : Lookup → ℕ
-vacant_at (Met p d) = 0
-vacant_at (Vacant p d) = p
-vacant_at Refused = 0
+abbrev pub vacant_at : Option Lookup → ℕ
+vacant_at (Some (Met p d)) = 0
+vacant_at (Some (Vacant p d)) = p
+vacant_at None = 0
 
-one_of : (l : Lookup) → is_met l ≡ true → is_vacant l ≡ true → ⊥
-one_of (Met p d) a b = true≢false (sym b)
-one_of (Vacant p d) a b = true≢false (sym a)
-one_of Refused a b = true≢false (sym a)
+one_of : (l : Option Lookup) → is_met l ≡ true → is_vacant l ≡ true → ⊥
+one_of (Some (Met p d)) a b = true≢false (sym b)
+one_of (Some (Vacant p d)) a b = true≢false (sym a)
+one_of None a b = true≢false (sym a)
 
 module _ (xs es : List ℕ) (ns : List ℤ) (k : ℕ) (v : Apart xs es ns k) (places : k < length xs) (key : ℕ) where
   abbrev cs : List Cand
@@ -87,7 +87,7 @@ module _ (xs es : List ℕ) (ns : List ℤ) (k : ℕ) (v : Apart xs es ns k) (pl
   at j h = ap (λ (c : Cand). c.item.key) (cand_at es ns j (omega (arith, h, v.used)))
 
   -- the key stands there, and is met; or it does not, and its lookup ends at an empty place
-  pub record ComesIn (l : Lookup) : Type 0 where
+  pub record ComesIn (l : Option Lookup) : Type 0 where
     pub place : ℕ
     pub ends : vacant_at l ≡ place
     pub below : place < length xs
@@ -95,7 +95,7 @@ module _ (xs es : List ℕ) (ns : List ℤ) (k : ℕ) (v : Apart xs es ns k) (pl
     pub before : (q : ℕ) → q < length xs → dist (length xs) (home (length xs) key) q < dist (length xs) (home (length xs) key) place → word xs q ≢ 0
     pub new : (j : ℕ) → j < k → key_at cs j ≢ key
 
-  pub said : (l : Lookup) → l ≡ look xs k cs key → ((has_key key (keys_of es k) ≡ true) × (is_met l ≡ true)) ⊎ ((has_key key (keys_of es k) ≡ false) × ((is_vacant l ≡ true) × ComesIn l))
+  pub said : (l : Option Lookup) → l ≡ look xs k cs key → ((has_key key (keys_of es k) ≡ true) × (is_met l ≡ true)) ⊎ ((has_key key (keys_of es k) ≡ false) × ((is_vacant l ≡ true) × ComesIn l))
   said l e = go (where_key es k key)
     where
       go : (Somewhere es k key × (has_key key (keys_of es k) ≡ true)) ⊎ (Nowhere es k key × (has_key key (keys_of es k) ≡ false))
@@ -111,26 +111,20 @@ module _ (xs es : List ℕ) (ns : List ℤ) (k : ℕ) (v : Apart xs es ns k) (pl
 
 -- ---- an entry comes in, unless its key stands there
 
-module _ (xs es : List ℕ) (ns : List ℤ) (k : ℕ) (v : Apart xs es ns k) (places : k < length xs) (w : Item) (l : Lookup) (e : l ≡ look xs k (cands_of es ns) w.key) where
+module _ (xs es : List ℕ) (ns : List ℤ) (k : ℕ) (v : Apart xs es ns k) (places : k < length xs) (w : Item) (l : Option Lookup) (e : l ≡ look xs k (cands_of es ns) w.key) where
   -- a key that stands there
   known_stays : has_key w.key (keys_of es k) ≡ true → items_of es k ≡ with_firsts (items_of es k) (w ∷ [])
   unfolding firsts
   known_stays h = rw h (sym (append-nil (items_of es k)))
 
-  pub met_stays : is_met l ≡ true → items_of es k ≡ with_firsts (items_of es k) (w ∷ [])
-  met_stays m = go (said xs es ns k v places w.key l e)
+  -- a lookup that does not end at an empty place ended at the key
+  pub other_stays : is_vacant l ≡ false → items_of es k ≡ with_firsts (items_of es k) (w ∷ [])
+  other_stays n = go (said xs es ns k v places w.key l e)
     where
       go : ((has_key w.key (keys_of es k) ≡ true) × (is_met l ≡ true)) ⊎ ((has_key w.key (keys_of es k) ≡ false) × ((is_vacant l ≡ true) × ComesIn xs es ns k v places w.key l))
           → items_of es k ≡ with_firsts (items_of es k) (w ∷ [])
       go (inl s) = known_stays s.0
-      go (inr s) = absurd (one_of l m s.1.0)
-
-  pub never_refused : l ≡ Refused → ⊥
-  never_refused r = go (said xs es ns k v places w.key l e)
-    where
-      go : ((has_key w.key (keys_of es k) ≡ true) × (is_met l ≡ true)) ⊎ ((has_key w.key (keys_of es k) ≡ false) × ((is_vacant l ≡ true) × ComesIn xs es ns k v places w.key l)) → ⊥
-      go (inl s) = true≢false (sym s.1 ∙ ap is_met r)
-      go (inr s) = true≢false (sym s.1.0 ∙ ap is_vacant r)
+      go (inr s) = absurd (true≢false (sym s.1.0 ∙ n))
 
   -- a new key
   module _ (room : k < length ns) (p : ℕ) (vacant : is_vacant l ≡ true) (place : vacant_at l ≡ p) (xs' es' : List ℕ) (ns' : List ℤ) (stored : xs' ≡ set xs p (k + 1))
@@ -179,28 +173,15 @@ module _ (xs es : List ℕ) (ns : List ℤ) (k : ℕ) (v : Apart xs es ns k) (pl
 
 -- what the loop of `take_firsts` keeps: what is left to do gives the answer
 pub record TakeInv (src : List ℕ) (n : ℕ) (xs₀ es₀ : List ℕ) (ns₀ : List ℤ) (k₀ : ℕ) (xs es : List ℕ) (ns : List ℤ) (k i : ℕ) : Type 0 where
-  pub places : length xs ≡ length xs₀
-  pub words : length es ≡ length es₀
-  pub counts : length ns ≡ length ns₀
-  pub low : i ≤ n
   pub few : k ≤ k₀ + i
   pub apart : Apart xs es ns k
   pub goes : with_firsts (items_of es k) (items_from src (n - i) i) ≡ with_firsts (items_of es₀ k₀) (items_of src n)
 
-pub take-holds : (src : List ℕ) (n : ℕ) (xs es : List ℕ) (ns : List ℤ) (k : ℕ) → Apart xs es ns k → TakeInv src n xs es ns k xs es ns k 0
-take-holds src n xs es ns k v =
-    let e : n - 0 ≡ n = omega arith in
-    record { places = refl; words = refl; counts = refl; low = omega arith; few = omega arith; apart = v; goes = ap (λ (z : ℕ). with_firsts (items_of es k) (items_from src z 0)) e }
-
 pub take_again : (src : List ℕ) (n : ℕ) (xs₀ es₀ : List ℕ) (ns₀ : List ℤ) (k₀ : ℕ) (xs es : List ℕ) (ns : List ℤ) (k i : ℕ) (xs' es' : List ℕ) (ns' : List ℤ) (k' : ℕ) (w : Item)
-    → TakeInv src n xs₀ es₀ ns₀ k₀ xs es ns k i → i < n → w ≡ item_of src i → length xs' ≡ length xs → length es' ≡ length es → length ns' ≡ length ns
+    → TakeInv src n xs₀ es₀ ns₀ k₀ xs es ns k i → i < n → w ≡ item_of src i
     → items_of es' k' ≡ with_firsts (items_of es k) (w ∷ []) → Apart xs' es' ns' k' → k' ≤ k + 1 → TakeInv src n xs₀ es₀ ns₀ k₀ xs' es' ns' k' (i + 1)
-take_again src n xs₀ es₀ ns₀ k₀ xs es ns k i xs' es' ns' k' w v h is lx le ln e a b =
+take_again src n xs₀ es₀ ns₀ k₀ xs es ns k i xs' es' ns' k' w v h is e a b =
     record {
-      places = lx ∙ v.places;
-      words = le ∙ v.words;
-      counts = ln ∙ v.counts;
-      low = omega arith;
       few = omega (arith, v.few, b);
       apart = a;
       goes =
@@ -217,26 +198,9 @@ take_done src n xs₀ es₀ ns₀ k₀ xs es ns k i v h =
     let s : n - i ≡ 0 = omega arith in
     sym (append-nil (items_of es k)) ∙ rw s at v.goes
 
--- ---- the start, and both sources in turn
-
-pub none_apart : (m : ℕ) (xs es : List ℕ) (ns : List ℤ) → xs ≡ replicate m 0 → length es ≡ 4 * length ns → Apart xs es ns 0
-none_apart m xs es ns e l =
-    record {
-      words = l;
-      used = omega arith;
-      holds = subst (λ (z : List ℕ). Indexes z 0 (cands_of es ns) 0) (sym e) (subst (λ (z : ℕ). IndexesIn z (replicate m 0) 0 (cands_of es ns) 0) (sym (length-replicate {A = ℕ} m 0)) (empty_holds m (cands_of es ns)));
-      ranged = λ j h. absurd (omega (arith, h));
-    }
+-- ---- both sources in turn
 
 pub both-taken : (es₀ es₁ es₂ own other : List ℕ) (k₁ k₂ len len₂ : ℕ) → items_of es₁ k₁ ≡ with_firsts (items_of es₀ 0) (items_of own len) → items_of es₂ k₂ ≡ with_firsts (items_of es₁ k₁) (items_of other len₂)
     → items_of es₂ k₂ ≡ firsts [] (items_of own len ++ items_of other len₂)
 unfolding items_from
 both-taken es₀ es₁ es₂ own other k₁ k₂ len len₂ p q = q ∙ ap (λ (z : List Item). with_firsts z (items_of other len₂)) p ∙ firsts-behind [] (items_of own len) (items_of other len₂)
-
--- ---- working space: m counts of zero, and four words for each
-
-pub zeros_long : (m : ℕ) → length {A = ℕ} (replicate (4 * m) 0) ≡ 4 * length {A = ℤ} (replicate m (pos 0))
-zeros_long m = length-replicate {A = ℕ} (4 * m) 0 ∙ ap (λ (z : ℕ). 4 * z) (sym (length-replicate {A = ℤ} m (pos 0)))
-
-pub zeros_room : (m n : ℕ) → n ≤ m → n ≤ length {A = ℤ} (replicate m (pos 0))
-zeros_room m n h = subst (λ (z : ℕ). n ≤ z) (sym (length-replicate {A = ℤ} m (pos 0))) h

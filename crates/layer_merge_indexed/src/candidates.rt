@@ -12,7 +12,6 @@ ghost use Rattle.layer_merge_indexed.specs.inner.Offering.{gathered_with_in, gat
 use crate::distinct::take_firsts;
 use heap_moves::Item;
 use layer::{Dims, Merged};
-use words::{zero_counts, zero_words};
 
 // Offers one more key, with its count, and tells what the offer did in the next place of the list.
 fn offer_one(
@@ -32,8 +31,7 @@ fn offer_one(
     ensures { gathered_with_out index entries counts list result ≡ offer_one_in d counters.now w (gathered_with_in index entries counts list g) }
 {
     let count = countsketch_l2_norm::count_with_hash(counters, d.rows, d.cols, w.high, w.low);
-    let o = heap_indexed::offer(index, entries, counts, d.size, g.len, w, count);
-    let a = o.answer;
+    let a = heap_indexed::offer(index, entries, counts, d.size, g.len, w, count).answer;
     let len = heap::len_after(g.len, a);
     heap::tell_at(list, g.keys, a);
     Merged {
@@ -61,11 +59,9 @@ fn offer_firsts(
         ≡ offers_in d counters.now (items_of source.now n) (gathered_with_in index entries counts list (record { len = 0; keys = 0 })) }
 {
     let mut g = Merged { len: 0, keys: 0 };
-    let mut i = 0;
-    while i < n {
+    for i in 0..n {
         let w = heap_moves::item_at(source, i);
         g = offer_one(entries, counts, index, list, d, g, w, counters);
-        i += 1;
     }
     g
 }
@@ -95,12 +91,12 @@ pub fn merge_candidates(
 {
     let mut aside = [0u64; 8 * heap_moves::MAX_HEAP_SIZE];
     let mut zeros = [0i64; 2 * heap_moves::MAX_HEAP_SIZE];
-    zero_words(list);
+    list.fill(0);
     let own = take_firsts(list, &mut aside, &mut zeros, 0, &*entries, len);
     let both = take_firsts(list, &mut aside, &mut zeros, own, other, other_len);
-    zero_words(entries);
-    zero_counts(counts);
-    zero_words(index);
-    zero_words(list);
+    entries.fill(0);
+    counts.fill(0);
+    index.fill(0);
+    list.fill(0);
     offer_firsts(entries, counts, index, list, d, &aside, both, counters)
 }

@@ -13,16 +13,15 @@ fn take_in(seen: &mut [u64], aside: &mut [u64], zeros: &mut [i64], k: usize, w: 
     ensures result_after { items_of aside.new result ≡ with_firsts (items_of aside.old k) (w ∷ []) }
     ensures apart_2 { Apart seen.new aside.new zeros.new result × (result ≤ k + 1) }
 {
-    let l = heap_index::look(&*seen, &*aside, &*zeros, k, w.key);
-    match l {
-        Lookup::Met(p, d) => k,
-        Lookup::Vacant(p, d) => {
-            seen[p] = k as u64 + 1;
-            heap_moves::put_cand(aside, zeros, k, w, 0);
-            k + 1
-        }
-        Lookup::Refused => k,
-    }
+    let Some(l) = heap_index::look(&*seen, &*aside, &*zeros, k, w.key) else {
+        return k;
+    };
+    let Lookup::Vacant(p, _) = l else {
+        return k;
+    };
+    seen[p] = k as u64 + 1;
+    heap_moves::put_cand(aside, zeros, k, w, 0);
+    k + 1
 }
 
 // The first n entries of the source come in behind the first `start`, each unless its key stands there.
@@ -41,11 +40,9 @@ pub fn take_firsts(
     ensures apart_2 { Apart seen.new aside.new zeros.new result × (result ≤ start + n) }
 {
     let mut k = start;
-    let mut i = 0;
-    while i < n {
+    for i in 0..n {
         let w = heap_moves::item_at(source, i);
         k = take_in(seen, aside, zeros, k, w);
-        i += 1;
     }
     k
 }

@@ -32,16 +32,16 @@ pub record Spanned (r : Lent) (l : ℕ) (s : Span) : Type 0 where
 -- ---- the parts that a span names, and the layer in them
 
 abbrev pub cell_part : Span → List ℤ → List ℤ
-cell_part s xs = part s.cells (s.cells_end - s.cells) xs
+cell_part s xs = part s.cells.start (s.cells.end - s.cells.start) xs
 
 abbrev pub norm_part : Span → List ℕ → List ℕ
-norm_part s ws = part s.norms (s.norms_end - s.norms) ws
+norm_part s ws = part s.norms.start (s.norms.end - s.norms.start) ws
 
 abbrev pub word_part : Span → List ℕ → List ℕ
-word_part s es = part s.words (s.words_end - s.words) es
+word_part s es = part s.words.start (s.words.end - s.words.start) es
 
 abbrev pub seat_part : Span → List ℤ → List ℤ
-seat_part s ns = part s.seats (s.seats_end - s.seats) ns
+seat_part s ns = part s.seats.start (s.seats.end - s.seats.start) ns
 
 abbrev pub handed : Lent → ℕ → Span → Layer
 handed r l s =
@@ -50,29 +50,29 @@ handed r l s =
 -- the state after the parts have come back with other contents, and the header has the layer's new flag and length
 abbrev pub returned : Lent → ℕ → Span → List ℤ → List ℕ → List ℕ → List ℤ → ℕ → Bool → Lent
 returned r l s xs ws es ns len flag =
-    lent (with_layer r.head l len flag) (put_part s.cells (s.cells_end - s.cells) r.counters xs) (put_part s.norms (s.norms_end - s.norms) r.norms ws)
-    (put_part s.words (s.words_end - s.words) r.entries es) (put_part s.seats (s.seats_end - s.seats) r.counts ns)
+    lent (with_layer r.head l len flag) (put_part s.cells.start (s.cells.end - s.cells.start) r.counters xs) (put_part s.norms.start (s.norms.end - s.norms.start) r.norms ws)
+    (put_part s.words.start (s.words.end - s.words.start) r.entries es) (put_part s.seats.start (s.seats.end - s.seats.start) r.counts ns)
 
 -- all four do: the state is as it was
 pub handed_back : (r : Lent) (s : Span) (xs : List ℤ) (ws es : List ℕ) (ns : List ℤ) → xs ≡ cell_part s r.counters → ws ≡ norm_part s r.norms → es ≡ word_part s r.entries → ns ≡ seat_part s r.counts
-    → lent r.head (put_part s.cells (s.cells_end - s.cells) r.counters xs) (put_part s.norms (s.norms_end - s.norms) r.norms ws)
-    (put_part s.words (s.words_end - s.words) r.entries es) (put_part s.seats (s.seats_end - s.seats) r.counts ns)
+    → lent r.head (put_part s.cells.start (s.cells.end - s.cells.start) r.counters xs) (put_part s.norms.start (s.norms.end - s.norms.start) r.norms ws)
+    (put_part s.words.start (s.words.end - s.words.start) r.entries es) (put_part s.seats.start (s.seats.end - s.seats.start) r.counts ns)
     ≡ r
 handed_back r s xs ws es ns a b c d =
-    λ i. lent r.head (put_back s.cells (s.cells_end - s.cells) r.counters xs a i) (put_back s.norms (s.norms_end - s.norms) r.norms ws b i)
-    (put_back s.words (s.words_end - s.words) r.entries es c i) (put_back s.seats (s.seats_end - s.seats) r.counts ns d i)
+    λ i. lent r.head (put_back s.cells.start (s.cells.end - s.cells.start) r.counters xs a i) (put_back s.norms.start (s.norms.end - s.norms.start) r.norms ws b i)
+    (put_back s.words.start (s.words.end - s.words.start) r.entries es c i) (put_back s.seats.start (s.seats.end - s.seats.start) r.counts ns d i)
 
 module _ {r : Lent} {l : ℕ} {s : Span} (p : Spanned r l s) where
-  pub cell_piece : Piece s.cells s.cells_end (cell_off (shape_by r) l) (rows_at (shape_by r) l * cols_at (shape_by r) l) (max_layers * (max_rows * max_cols)) r.counters
+  pub cell_piece : Piece s.cells.start s.cells.end (cell_off (shape_by r) l) (rows_at (shape_by r) l * cols_at (shape_by r) l) (max_layers * (max_rows * max_cols)) r.counters
   cell_piece = cells_piece (shape_by r) p.standing.accepted l p.inside s p.is r.counters p.standing.sizes.cells
 
-  pub norm_piece : Piece s.norms s.norms_end (2 * norm_off (shape_by r) l) (2 * rows_at (shape_by r) l) (2 * (max_layers * max_rows)) r.norms
+  pub norm_piece : Piece s.norms.start s.norms.end (2 * norm_off (shape_by r) l) (2 * rows_at (shape_by r) l) (2 * (max_layers * max_rows)) r.norms
   norm_piece = norms_piece (shape_by r) p.standing.accepted l p.inside s p.is r.norms p.standing.sizes.norms
 
-  pub word_piece : Piece s.words s.words_end (4 * cand_off (shape_by r) l) (4 * (shape_by r).heap_size) (4 * (max_layers * max_heap)) r.entries
+  pub word_piece : Piece s.words.start s.words.end (4 * cand_off (shape_by r) l) (4 * (shape_by r).heap_size) (4 * (max_layers * max_heap)) r.entries
   word_piece = words_piece (shape_by r) p.standing.accepted l p.inside s p.is r.entries p.standing.sizes.entries
 
-  pub seat_piece : Piece s.seats s.seats_end (cand_off (shape_by r) l) (shape_by r).heap_size (max_layers * max_heap) r.counts
+  pub seat_piece : Piece s.seats.start s.seats.end (cand_off (shape_by r) l) (shape_by r).heap_size (max_layers * max_heap) r.counts
   seat_piece = seats_piece (shape_by r) p.standing.accepted l p.inside s p.is r.counts p.standing.sizes.counts
 
   pub handed_is : layer_at (view r) l ≡ handed r l s
@@ -107,10 +107,10 @@ module _ {r : Lent} {l : ℕ} {s : Span} (p : Spanned r l s) where
       record {
         accepted = p.standing.accepted;
         sizes = record {
-          cells = long s.cells s.cells_end r.counters xs cell_piece.inside cell_piece.ordered b.cells ∙ p.standing.sizes.cells;
-          norms = long s.norms s.norms_end r.norms ws norm_piece.inside norm_piece.ordered b.norms ∙ p.standing.sizes.norms;
-          entries = long s.words s.words_end r.entries es word_piece.inside word_piece.ordered b.words ∙ p.standing.sizes.entries;
-          counts = long s.seats s.seats_end r.counts ns seat_piece.inside seat_piece.ordered b.seats ∙ p.standing.sizes.counts;
+          cells = long s.cells.start s.cells.end r.counters xs cell_piece.inside cell_piece.ordered b.cells ∙ p.standing.sizes.cells;
+          norms = long s.norms.start s.norms.end r.norms ws norm_piece.inside norm_piece.ordered b.norms ∙ p.standing.sizes.norms;
+          entries = long s.words.start s.words.end r.entries es word_piece.inside word_piece.ordered b.words ∙ p.standing.sizes.entries;
+          counts = long s.seats.start s.seats.end r.counts ns seat_piece.inside seat_piece.ordered b.seats ∙ p.standing.sizes.counts;
         };
         lens = λ m k. at m k (ℕ_discrete m l);
       }

@@ -52,26 +52,26 @@ module _ (sh : Shape) (a : Accepted sh) (l : ℕ) (h : l < sh.layers) (s : Span)
   at_most : l ≤ sh.layers
   at_most = omega (arith, h)
 
-  pub cells_piece : (xs : List ℤ) → length xs ≡ cells_in sh → Piece s.cells s.cells_end (cell_off sh l) (rows_at sh l * cols_at sh l) (max_layers * (max_rows * max_cols)) xs
+  pub cells_piece : (xs : List ℤ) → length xs ≡ cells_in sh → Piece s.cells.start s.cells.end (cell_off sh l) (rows_at sh l * cols_at sh l) (max_layers * (max_rows * max_cols)) xs
   unfolding span_of
   cells_piece xs q =
-      subst (λ (x : Span). Piece x.cells x.cells_end (cell_off sh l) (rows_at sh l * cols_at sh l) (max_layers * (max_rows * max_cols)) xs) (sym e)
+      subst (λ (x : Span). Piece x.cells.start x.cells.end (cell_off sh l) (rows_at sh l * cols_at sh l) (max_layers * (max_rows * max_cols)) xs) (sym e)
       (piece (cell_off sh l) (rows_at sh l * cols_at sh l) (max_layers * (max_rows * max_cols)) xs (omega (arith, q, cell_end sh l h)) (cells_bound sh a l at_most))
 
-  pub norms_piece : (ws : List ℕ) → length ws ≡ 2 * norms_in sh → Piece s.norms s.norms_end (2 * norm_off sh l) (2 * rows_at sh l) (2 * (max_layers * max_rows)) ws
+  pub norms_piece : (ws : List ℕ) → length ws ≡ 2 * norms_in sh → Piece s.norms.start s.norms.end (2 * norm_off sh l) (2 * rows_at sh l) (2 * (max_layers * max_rows)) ws
   unfolding span_of
   norms_piece ws q =
-      subst (λ (x : Span). Piece x.norms x.norms_end (2 * norm_off sh l) (2 * rows_at sh l) (2 * (max_layers * max_rows)) ws) (sym e)
+      subst (λ (x : Span). Piece x.norms.start x.norms.end (2 * norm_off sh l) (2 * rows_at sh l) (2 * (max_layers * max_rows)) ws) (sym e)
       (piece (2 * norm_off sh l) (2 * rows_at sh l) (2 * (max_layers * max_rows)) ws (omega (arith, q, norm_end sh l h)) (omega (arith, norms_bound sh a l at_most)))
 
-  pub words_piece : (es : List ℕ) → length es ≡ 4 * cands_in sh → Piece s.words s.words_end (4 * cand_off sh l) (4 * sh.heap_size) (4 * (max_layers * max_heap)) es
+  pub words_piece : (es : List ℕ) → length es ≡ 4 * cands_in sh → Piece s.words.start s.words.end (4 * cand_off sh l) (4 * sh.heap_size) (4 * (max_layers * max_heap)) es
   unfolding span_of
   words_piece es q =
-      subst (λ (x : Span). Piece x.words x.words_end (4 * cand_off sh l) (4 * sh.heap_size) (4 * (max_layers * max_heap)) es) (sym e)
+      subst (λ (x : Span). Piece x.words.start x.words.end (4 * cand_off sh l) (4 * sh.heap_size) (4 * (max_layers * max_heap)) es) (sym e)
       (piece (4 * cand_off sh l) (4 * sh.heap_size) (4 * (max_layers * max_heap)) es (omega (arith, q, cand_end sh l h)) (omega (arith, seats_bound sh a l at_most)))
 
-  pub seats_piece : (ns : List ℤ) → length ns ≡ cands_in sh → Piece s.seats s.seats_end (cand_off sh l) sh.heap_size (max_layers * max_heap) ns
+  pub seats_piece : (ns : List ℤ) → length ns ≡ cands_in sh → Piece s.seats.start s.seats.end (cand_off sh l) sh.heap_size (max_layers * max_heap) ns
   unfolding span_of
   seats_piece ns q =
-      subst (λ (x : Span). Piece x.seats x.seats_end (cand_off sh l) sh.heap_size (max_layers * max_heap) ns) (sym e)
+      subst (λ (x : Span). Piece x.seats.start x.seats.end (cand_off sh l) sh.heap_size (max_layers * max_heap) ns) (sym e)
       (piece (cand_off sh l) sh.heap_size (max_layers * max_heap) ns (omega (arith, q, cand_end sh l h)) (seats_bound sh a l at_most))

@@ -1,4 +1,5 @@
 -- Definitions that only contracts of inner functions, and laws, cite. No public contract and no theorem stands on them.
+pub mod Lending
 pub mod Needs
 pub mod Spans
 pub mod Telling

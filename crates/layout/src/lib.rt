@@ -3,27 +3,32 @@
 
 #![tactic(auto)]
 
+mod lending;
 mod lists;
 mod parts;
 
 ghost use Rattle.std.specs.Prelude.{◌≡◌, ℕ, ◌+◌, ◌*◌, ◌≤◌, ◌<◌, length};
 ghost use Rattle.words.specs.Tests.{number};
+ghost use Rattle.refusal.specs.Refusals.{refused};
 ghost use Rattle.header.specs.Shape.{max_layers};
 ghost use Rattle.header.specs.inner.Accepted.{Accepted};
 ghost use Rattle.layout.specs.State.{dims_at, cell_off, norm_off};
 ghost use Rattle.layout.specs.Slices.{lengths_ok, extent_of, lent};
 ghost use Rattle.layout.specs.Outcomes.{lent_tests};
-ghost use Rattle.layout.specs.inner.Spans.{span_of, elephants_before};
+ghost use Rattle.layout.specs.inner.Spans.{span_of};
 ghost use Rattle.layout.specs.Records.{item_at};
 
 use header::{Header, Shape};
 use heap_moves::Item;
 use layer::Dims;
+pub use lending::{LentLayer, LentState};
 pub use lists::zero_places;
 pub use parts::{cells_at, norms_at, seats_at, words_at};
+use refusal::Refusal;
+use std::ops::Range;
 
 // Counters, norm words, entry words and counts of a shape.
-#[derive(Clone, Copy)]
+#[derive(Clone, Copy, PartialEq, Eq)]
 pub struct Extent {
     pub cells: usize,
     pub norms: usize,
@@ -38,22 +43,12 @@ struct Start {
     rows: usize,
 }
 
-// How many of the layers before l are of the first tier.
-fn elephants_before(shape: Shape, l: usize) -> usize
-    ensures { result ≡ elephants_before shape l }
-{
-    if shape.elephant_layers < l {
-        return shape.elephant_layers;
-    }
-    l
-}
-
 fn start_of(shape: Shape, l: usize) -> Start
     requires accepted { Accepted shape }
     requires l_le_layers { l ≤ shape.layers }
     ensures { (result.cells ≡ cell_off shape l) × (result.rows ≡ norm_off shape l) }
 {
-    let elephants = elephants_before(shape, l);
+    let elephants = l.min(shape.elephant_layers);
     let mice = l - elephants;
     let elephant_rows = elephants * shape.elephant_rows;
     let mouse_rows = mice * shape.mouse_rows;
@@ -88,31 +83,27 @@ pub fn lengths_match(
     requires { Accepted shape }
     ensures { result ≡ lengths_ok shape counters norms entries counts }
 {
-    let e = extent_of(shape);
-    if counters != e.cells {
-        return false;
-    }
-    if norms != e.norms {
-        return false;
-    }
-    if entries != e.words {
-        return false;
-    }
-    counts == e.seats
+    let lent = Extent {
+        cells: counters,
+        norms,
+        words: entries,
+        seats: counts,
+    };
+    lent == extent_of(shape)
 }
 
-// 9 for a header out of range or slices that are not its shape's, 0 for none.
-pub fn lent_refusal(
+// Whether a header is in range and four slices are its shape's: 9.
+pub fn check_lent(
     h: Header,
     counters: &[i64],
     norms: &[u64],
     entries: &[u64],
     counts: &[i64],
-) -> u64
-    ensures { result ≡ number (lent_tests (lent h counters.now norms.now entries.now counts.now)) }
+) -> Result<(), Refusal>
+    ensures { refused result ≡ number (lent_tests (lent h counters.now norms.now entries.now counts.now)) }
 {
     if !h.in_range() {
-        return 9;
+        return Err(Refusal::OutOfRange);
     }
     if !lengths_match(
         h.shape,
@@ -121,22 +112,18 @@ pub fn lent_refusal(
         entries.len(),
         counts.len(),
     ) {
-        return 9;
+        return Err(Refusal::OutOfRange);
     }
-    0
+    Ok(())
 }
 
-// Where a layer's counters, norm words, entry words and counts begin and end.
-#[derive(Clone, Copy)]
+// Where a layer's counters, norm words, entry words and counts stand.
+#[derive(Clone, Drop)]
 pub struct Span {
-    pub cells: usize,
-    pub cells_end: usize,
-    pub norms: usize,
-    pub norms_end: usize,
-    pub words: usize,
-    pub words_end: usize,
-    pub seats: usize,
-    pub seats_end: usize,
+    pub cells: Range<usize>,
+    pub norms: Range<usize>,
+    pub words: Range<usize>,
+    pub seats: Range<usize>,
 }
 
 pub fn span_of(shape: Shape, l: usize) -> Span
@@ -147,23 +134,14 @@ pub fn span_of(shape: Shape, l: usize) -> Span
     let start = start_of(shape, l);
     let d = dims(shape, l);
     let cells = start.cells;
-    let cells_end = cells + d.rows * d.cols;
     let norms = 2 * start.rows;
-    let norms_end = norms + 2 * d.rows;
-    let size = shape.heap_size;
-    let seats = l * size;
-    let seats_end = seats + size;
+    let seats = l * d.size;
     let words = 4 * seats;
-    let words_end = words + 4 * size;
     Span {
-        cells,
-        cells_end,
-        norms,
-        norms_end,
-        words,
-        words_end,
-        seats,
-        seats_end,
+        cells: cells..cells + d.rows * d.cols,
+        norms: norms..norms + 2 * d.rows,
+        words: words..words + 4 * d.size,
+        seats: seats..seats + d.size,
     }
 }
 
@@ -171,18 +149,15 @@ pub fn span_of(shape: Shape, l: usize) -> Span
 pub fn dims(shape: Shape, l: usize) -> Dims
     ensures { result ≡ dims_at shape l }
 {
-    let size = shape.heap_size;
-    if l < shape.elephant_layers {
-        return Dims {
-            rows: shape.elephant_rows,
-            cols: shape.elephant_cols,
-            size,
-        };
-    }
+    let (rows, cols) = if l < shape.elephant_layers {
+        (shape.elephant_rows, shape.elephant_cols)
+    } else {
+        (shape.mouse_rows, shape.mouse_cols)
+    };
     Dims {
-        rows: shape.mouse_rows,
-        cols: shape.mouse_cols,
-        size,
+        rows,
+        cols,
+        size: shape.heap_size,
     }
 }
 

@@ -7,6 +7,5 @@ pub fn zero_places(list: &mut [u64], layers: usize)
     requires { (layers ≤ max_layers) × (2 * layers ≤ length list.old) }
     ensures { list.new ≡ replicate (2 * layers) 0 ++ drop (2 * layers) list.old }
 {
-    let n = 2 * layers;
-    layer::zero_words(&mut list[..n]);
+    list[..2 * layers].fill(0);
 }

@@ -15,10 +15,7 @@ pub fn cells_at(shape: Shape, l: usize, counters: &[i64]) -> &[i64]
     requires counters_len { length counters.now ≡ cells_in shape }
     ensures { result.now ≡ part (cell_off shape l) (rows_at shape l * cols_at shape l) counters.now }
 {
-    let s = span_of(shape, l);
-    let a = s.cells;
-    let e = s.cells_end;
-    &counters[a..e]
+    &counters[span_of(shape, l).cells]
 }
 
 // Its norm words.
@@ -28,10 +25,7 @@ pub fn norms_at(shape: Shape, l: usize, norms: &[u64]) -> &[u64]
     requires norms_len { length norms.now ≡ 2 * norms_in shape }
     ensures { result.now ≡ part (2 * norm_off shape l) (2 * rows_at shape l) norms.now }
 {
-    let s = span_of(shape, l);
-    let a = s.norms;
-    let e = s.norms_end;
-    &norms[a..e]
+    &norms[span_of(shape, l).norms]
 }
 
 // Its entry words.
@@ -41,10 +35,7 @@ pub fn words_at(shape: Shape, l: usize, entries: &[u64]) -> &[u64]
     requires entries_len { length entries.now ≡ 4 * cands_in shape }
     ensures { result.now ≡ part (4 * cand_off shape l) (4 * shape.heap_size) entries.now }
 {
-    let s = span_of(shape, l);
-    let a = s.words;
-    let e = s.words_end;
-    &entries[a..e]
+    &entries[span_of(shape, l).words]
 }
 
 // Its counts.
@@ -54,8 +45,5 @@ pub fn seats_at(shape: Shape, l: usize, counts: &[i64]) -> &[i64]
     requires counts_len { length counts.now ≡ cands_in shape }
     ensures { result.now ≡ part (cand_off shape l) shape.heap_size counts.now }
 {
-    let s = span_of(shape, l);
-    let a = s.seats;
-    let e = s.seats_end;
-    &counts[a..e]
+    &counts[span_of(shape, l).seats]
 }

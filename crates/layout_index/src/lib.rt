@@ -3,6 +3,7 @@
 
 #![tactic(auto)]
 
+ghost use Rattle.refusal.specs.Refusals.{refused};
 ghost use Rattle.std.specs.Prelude.{◌≡◌, ℕ, ◌+◌, ◌*◌, ◌<◌, length};
 ghost use Rattle.words.specs.Tests.{number};
 ghost use Rattle.header.specs.inner.Accepted.{Accepted};
@@ -10,13 +11,8 @@ ghost use Rattle.layout_index.specs.Tables.{table_length, tables_in, table_at, i
 ghost use Rattle.layout.specs.Slices.{lent};
 
 use header::{Header, Shape};
-
-// Where a layer's table begins and ends.
-#[derive(Clone, Copy)]
-pub struct TableSpan {
-    pub start: usize,
-    pub end: usize,
-}
+use refusal::Refusal;
+use std::ops::Range;
 
 // The places of all tables.
 pub fn tables_in(shape: Shape) -> usize
@@ -26,17 +22,15 @@ pub fn tables_in(shape: Shape) -> usize
     heap_index::index_length(shape.heap_size) * shape.layers
 }
 
-pub fn table_span(shape: Shape, l: usize) -> TableSpan
+// Where a layer's table stands.
+pub fn table_span(shape: Shape, l: usize) -> Range<usize>
     requires accepted { Accepted shape }
     requires l_lt_layers { l < shape.layers }
     ensures { (result.start ≡ table_length shape * l) × (result.end ≡ table_length shape * l + table_length shape) }
 {
     let m = heap_index::index_length(shape.heap_size);
     let start = m * l;
-    TableSpan {
-        start,
-        end: start + m,
-    }
+    start..start + m
 }
 
 // The table of layer l.
@@ -46,29 +40,23 @@ pub fn table_at(shape: Shape, l: usize, index: &[u64]) -> &[u64]
     requires index_len { length index.now ≡ tables_in shape }
     ensures { result.now ≡ table_at shape index.now l }
 {
-    let s = table_span(shape, l);
-    let a = s.start;
-    let e = s.end;
-    &index[a..e]
+    &index[table_span(shape, l)]
 }
 
-// 9 for a header out of range, or slices or an index that are not its shape's; 0 for none.
-pub fn indexed_refusal(
+// Whether a header is in range, and slices and index are its shape's: 9.
+pub fn check_indexed(
     h: Header,
     counters: &[i64],
     norms: &[u64],
     entries: &[u64],
     counts: &[i64],
     index: &[u64],
-) -> u64
-    ensures { result ≡ number (indexed_tests (lent h counters.now norms.now entries.now counts.now) index.now) }
+) -> Result<(), Refusal>
+    ensures { refused result ≡ number (indexed_tests (lent h counters.now norms.now entries.now counts.now) index.now) }
 {
-    let unfit = layout::lent_refusal(h, counters, norms, entries, counts);
-    if unfit != 0 {
-        return unfit;
-    }
+    layout::check_lent(h, counters, norms, entries, counts)?;
     if index.len() != tables_in(h.shape) {
-        return 9;
+        return Err(Refusal::OutOfRange);
     }
-    0
+    Ok(())
 }

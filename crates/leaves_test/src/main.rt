@@ -7,16 +7,15 @@ ghost use Rattle.std.specs.Prelude.{◌≡◌, true, ◌≤◌, length, take};
 ghost use Rattle.words.specs.Num.{all_in};
 ghost use Rattle.matrix_storage.specs.Bits.{max_rows};
 
-use matrix_storage::{Cell, MAX_ROWS, MaskBits};
+use matrix_storage::MAX_ROWS;
 use std::io;
 use std::io::{Stdin, Stdout};
 
 // 1: the mask bits of a number of columns.
 fn mask_bits(output: Stdout, cols: usize) -> io::Result<()> {
-    let m = matrix_storage::cols_mask_bits(cols);
-    match m {
-        MaskBits::Bits(bits) => vectors::print(output, bits as u64),
-        MaskBits::Refused(n) => vectors::print_refusal(output, n),
+    match matrix_storage::cols_mask_bits(cols) {
+        Ok(bits) => vectors::print(output, bits as u64),
+        Err(refusal) => vectors::print_refusal(output, refusal.number()),
     }
 }
 
@@ -29,13 +28,12 @@ fn cell(
     rows: usize,
     cols: usize,
 ) -> io::Result<()> {
-    let c = matrix_storage::cell_for_row(high, low, row, rows, cols);
-    match c {
-        Cell::At(column, sign) => {
-            vectors::print(output, column as u64)?;
-            vectors::print(output, vectors::unsigned(sign))
+    match matrix_storage::cell_for_row(high, low, row, rows, cols) {
+        Ok(cell) => {
+            vectors::print(output, cell.column as u64)?;
+            vectors::print(output, vectors::unsigned(cell.sign))
         }
-        Cell::Refused(n) => vectors::print_refusal(output, n),
+        Err(refusal) => vectors::print_refusal(output, refusal.number()),
     }
 }
 
@@ -46,10 +44,7 @@ fn put(buf: &mut [i64; MAX_ROWS], n: usize, v: i64) -> usize
     ensures upper_bound { (result ≤ max_rows) × (length buf.new ≡ max_rows) }
     ensures buf_after { all_in (take result buf.new) ≡ true }
 {
-    if n == MAX_ROWS {
-        return n;
-    }
-    if !words::in_range(v) {
+    if n == MAX_ROWS || !words::in_range(v) {
         return n;
     }
     structure_utils::insert(buf, n, v);
@@ -60,11 +55,9 @@ fn put(buf: &mut [i64; MAX_ROWS], n: usize, v: i64) -> usize
 fn median(output: Stdout, text: &[u8], many: usize) -> io::Result<()> {
     let mut buf = [0i64; MAX_ROWS];
     let mut n = 0;
-    let mut k = 0;
-    while k < many {
+    for k in 0..many {
         let v = vectors::signed(vectors::word(text, k));
         n = put(&mut buf, n, v);
-        k += 1;
     }
     if 0 < n {
         vectors::print(
@@ -86,31 +79,26 @@ fn square(output: Stdout, x: i64) -> io::Result<()> {
 
 // 5: the refusal of rows and columns.
 fn hash_bits(output: Stdout, rows: usize, cols: usize) -> io::Result<()> {
-    vectors::print(output, matrix_storage::check_hash_bits(rows, cols))
+    let checked = matrix_storage::check_hash_bits(rows, cols);
+    vectors::print(output, refusal::number_in(&checked))
 }
 
 fn run(output: Stdout, op: u64, many: usize, text: &[u8]) -> io::Result<()> {
     let a = vectors::word(text, 0);
     let b = vectors::word(text, 1);
-    if op == 1 {
-        mask_bits(output, a as usize)?;
+    match op {
+        1 => mask_bits(output, a as usize),
+        2 => {
+            let row = vectors::word(text, 2) as usize;
+            let rows = vectors::word(text, 3) as usize;
+            let cols = vectors::word(text, 4) as usize;
+            cell(output, a, b, row, rows, cols)
+        }
+        3 => median(output, text, many),
+        4 => square(output, vectors::signed(a)),
+        5 => hash_bits(output, a as usize, b as usize),
+        _ => Ok(()),
     }
-    if op == 2 {
-        let row = vectors::word(text, 2) as usize;
-        let rows = vectors::word(text, 3) as usize;
-        let cols = vectors::word(text, 4) as usize;
-        cell(output, a, b, row, rows, cols)?;
-    }
-    if op == 3 {
-        median(output, text, many)?;
-    }
-    if op == 4 {
-        square(output, vectors::signed(a))?;
-    }
-    if op == 5 {
-        hash_bits(output, a as usize, b as usize)?;
-    }
-    Ok(())
 }
 
 // One line: false at the end of the input.
@@ -127,12 +115,10 @@ fn step(input: Stdin, output: Stdout) -> io::Result<bool> {
 fn main(rt: HostRuntime) -> io::Result<()> {
     let input = rt.stdin();
     let output = rt.stdout();
-    let mut turns: u64 = 1000000;
-    while 0 < turns {
+    for _ in 0..1000000 {
         if !step(input, output)? {
             return Ok(());
         }
-        turns -= 1;
     }
     Ok(())
 }

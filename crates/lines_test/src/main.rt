@@ -25,13 +25,7 @@ const SHOWN: usize = SHOW_BARE + 2 * FLAGS + 20;
 fn room(out: &[u8], at: usize, k: usize) -> bool
     ensures { result ≡ leb (at + k) (length out.now) }
 {
-    if out.len() < k {
-        return false;
-    }
-    if out.len() - k < at {
-        return false;
-    }
-    true
+    k <= out.len() && at <= out.len() - k
 }
 
 // A space and a decimal.
@@ -85,12 +79,10 @@ fn say_shape(out: &mut [u8], heap: u64, rows: u64, cols: u64, layers: u64) -> us
 // as its updates.
 fn say_show(out: &mut [u8], l1: u64, l2: u64, keys: u64, bits: u64) -> usize {
     let mut flags = [false; FLAGS];
-    let mut i = 0;
     let mut left = bits;
-    while i < FLAGS {
-        flags[i] = left % 2 == 1;
+    for flag in flags.iter_mut() {
+        *flag = left % 2 == 1;
         left /= 2;
-        i += 1;
     }
     if !room(&*out, 0, SHOWN) {
         return 0;
@@ -99,21 +91,11 @@ fn say_show(out: &mut [u8], l1: u64, l2: u64, keys: u64, bits: u64) -> usize {
     put_newline(out, n)
 }
 
-// The i-th word, if there is one.
-fn put_nth(out: &mut [u8], at: usize, words: &[u64], i: usize) -> usize {
-    if words.len() <= i {
-        return at;
-    }
-    put_digits(out, at, words[i])
-}
-
-// The weight, then n words.
+// The weight, then n words, as far as there are so many.
 fn say_add(out: &mut [u8], weight: i64, words: &[u64], n: usize) -> usize {
     let mut at = put_weight(out, 0, weight);
-    let mut i = 0;
-    while i < n {
-        at = put_nth(out, at, words, i);
-        i += 1;
+    for word in words.iter().take(n) {
+        at = put_digits(out, at, *word);
     }
     put_newline(out, at)
 }
@@ -204,8 +186,7 @@ fn main(rt: HostRuntime) -> io::Result<()> {
     let mut line = [0u8; MOST_HELD];
     let mut chunk = [0u8; 97];
     let mut held = 0;
-    let mut turns = u64::MAX;
-    while turns > 0 {
+    for _ in 0..u64::MAX {
         let n = input.read(&mut chunk)?;
         if n == 0 {
             break;
@@ -213,7 +194,6 @@ fn main(rt: HostRuntime) -> io::Result<()> {
         let t = take_chunk(output, &chunk[..n], &mut line, held);
         t.written?;
         held = t.held;
-        turns -= 1;
     }
     if held > 0 {
         reply(output, &line, held)?;

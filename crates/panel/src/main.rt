@@ -64,9 +64,8 @@ fn reply(
         counts,
         &mut out[at..],
     );
-    let next = t.header;
     LineAnswered {
-        header: next,
+        header: t.header,
         len: at + t.len,
     }
 }
@@ -98,6 +97,7 @@ fn take_chunk(
     let mut n = held;
     let mut len = 0;
     let mut head = header;
+    // The place goes on by lines, not by one.
     while at < end {
         let s = take_line(chunk, at, line, n);
         let k = s.held;
@@ -153,6 +153,7 @@ fn take_all(
     let mut n = held;
     let mut head = header;
     let mut written = Ok(());
+    // The start goes on by parts, not by one.
     while from < chunk.len() {
         let t = take_chunk(
             &chunk[from..],
@@ -196,8 +197,7 @@ fn run(
 {
     let mut header = Header::zero();
     let mut held = 0;
-    let mut turns = u64::MAX;
-    while turns > 0 {
+    for _ in 0..u64::MAX {
         let n = input.read(chunk)?;
         if n == 0 {
             break;
@@ -217,7 +217,6 @@ fn run(
         t.written?;
         header = t.header;
         held = t.held;
-        turns -= 1;
     }
     if held > 0 {
         let t = reply(

@@ -4,25 +4,20 @@ use mathlib.Core.Path.{◌≡◌, refl, ap, ◌∙◌}
 use mathlib.Core.Bool.{Bool, true, false, cond, not}
 use mathlib.Core.List.{List, [], ◌∷◌, ◌++◌}
 use lib.IntN.{ℤ}
+use Rattle.std.specs.Prelude.{Option, Some, None}
 use lib.ListN.{length, drop, drop_of_length-le}
 use lib.Dec.{eqb}
 use native.Mathlib.Omega.{arith}
 use borrow.Author.Tests.{eq-eqb, eqb-true}
-use Rattle.text.specs.declared.decimals.Num.{Num}
-use Rattle.text.specs.declared.decimals.Num.TheVariants as N
-use Rattle.text.specs.declared.signed.Int.{Int}
-use Rattle.text.specs.declared.signed.Int.TheVariants as I
 use Rattle.text.specs.Words.{is_prefix}
-use Rattle.text.specs.Decimals.{is_digit, dec, Word, field_at}
-use Rattle.text.specs.Signs.{signed_dec, SignedWord, int_at}
+use Rattle.text.specs.Decimals.{Num, is_digit, dec, Word, field_at}
+use Rattle.text.specs.Signs.{Int, signed_dec, SignedWord, int_at}
 use Rattle.text.specs.Hex.{hex_digits, hex_ok_at, hex_at}
 use Rattle.text.proofs.Spots.{past, at_end, word_is, byte_at}
 use Rattle.text.proofs.DecReads.{field-reads}
 use Rattle.text.proofs.DecSound.{Field, field-sound}
 use Rattle.text.proofs.IntReads.{int-reads, IntField, int-sound}
 use Rattle.text.proofs.HexTexts.{hex_ok-reads, hex_reads, hex_past, hex_sound, hex_word}
-use Rattle.panel_lines.specs.declared.line.Tail.{Tail}
-use Rattle.panel_lines.specs.declared.line.Tail.TheVariants as T
 use Rattle.panel_lines.specs.declared.line.Request.TheVariants.{Shape, Add}
 use Rattle.panel_lines.specs.Line.{longest_line, Reading, asked, unreadable, shape_word, add_word, then_num, then_int, then_tail, tail_at, halves, read_shape, read_add}
 use Rattle.panel_lines.specs.Ask.{Ask, shape, add, Pair, pairs_text, PairsIn, pair_words, ask_text, reading_of, Writes}
@@ -64,7 +59,7 @@ shape-reads s h r c l bh br bc bl w =
     )
 
 -- the pairs and the bracket at the end of an `add`
-tail_written : (s : List ℕ) (ps : List Pair) (i : ℕ) → PairsIn ps → drop i s ≡ pairs_text ps ++ (41 ∷ []) → (tail_at s i ≡ T.Pairs (length ps)) × (halves s i (length ps) ≡ pair_words ps)
+tail_written : (s : List ℕ) (ps : List Pair) (i : ℕ) → PairsIn ps → drop i s ≡ pairs_text ps ++ (41 ∷ []) → (tail_at s i ≡ Some (length ps)) × (halves s i (length ps) ≡ pair_words ps)
 tail_written s ps i r e =
     let a = pairs-reads ps s (41 ∷ []) i r e in
     let n = length ps in
@@ -102,17 +97,17 @@ pub data Seen (s : List ℕ) (r : Reading) : Type 0 where
   some : (q : Ask) → Writes q s → r ≡ reading_of q → Seen s r
 
 -- each step of a reading either fails or goes on
-num_seen : (s : List ℕ) (m : Num) (f : ℕ → ℕ → Reading) → ((v i : ℕ) → m ≡ N.At v i → Seen s (f v i)) → Seen s (then_num m f)
-num_seen s (N.At v i) f h = h v i refl
-num_seen s N.Bad f h = none refl
+num_seen : (s : List ℕ) (m : Num) (f : ℕ → ℕ → Reading) → ((v i : ℕ) → m ≡ Some (v, i) → Seen s (f v i)) → Seen s (then_num m f)
+num_seen s (Some (v, i)) f h = h v i refl
+num_seen s None f h = none refl
 
-int_seen : (s : List ℕ) (m : Int) (f : ℤ → ℕ → Reading) → ((z : ℤ) (i : ℕ) → m ≡ I.At z i → Seen s (f z i)) → Seen s (then_int m f)
-int_seen s (I.At z i) f h = h z i refl
-int_seen s I.Bad f h = none refl
+int_seen : (s : List ℕ) (m : Int) (f : ℤ → ℕ → Reading) → ((z : ℤ) (i : ℕ) → m ≡ Some (z, i) → Seen s (f z i)) → Seen s (then_int m f)
+int_seen s (Some (z, i)) f h = h z i refl
+int_seen s None f h = none refl
 
-tail_seen : (s : List ℕ) (m : Tail) (f : ℕ → Reading) → ((n : ℕ) → m ≡ T.Pairs n → Seen s (f n)) → Seen s (then_tail m f)
-tail_seen s (T.Pairs n) f h = h n refl
-tail_seen s T.Bad f h = none refl
+tail_seen : (s : List ℕ) (m : Option ℕ) (f : ℕ → Reading) → ((n : ℕ) → m ≡ Some n → Seen s (f n)) → Seen s (then_tail m f)
+tail_seen s (Some n) f h = h n refl
+tail_seen s None f h = none refl
 
 test_seen : (s : List ℕ) (t : Bool) (r : Reading) → (t ≡ true → Seen s r) → Seen s (cond (not t) unreadable r)
 test_seen s true r h = h refl

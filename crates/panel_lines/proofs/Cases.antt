@@ -3,14 +3,13 @@ use Prim.Native.Nat.{ℕ, ◌≤◌, ◌<◌}
 use mathlib.Core.Path.{◌≡◌, refl}
 use mathlib.Core.Bool.{Bool, true, false, cond}
 use mathlib.Core.List.{List, []}
+use Rattle.std.specs.Prelude.{Some, None}
 use lib.ListN.{length}
 use lib.Seq.{sets}
 use lib.Dec.{eqb}
 use borrow.Author.Tests.{eq-eqb, ne_eqb, lt-ltb, le-ltb}
-use Rattle.text.specs.declared.decimals.Num.{Num}
-use Rattle.text.specs.declared.decimals.Num.TheVariants as N
 use Rattle.text.specs.Words.{is_prefix}
-use Rattle.text.specs.Decimals.{field_at}
+use Rattle.text.specs.Decimals.{Num, field_at}
 use Rattle.panel_lines.specs.declared.line.Request.{Request}
 use Rattle.panel_lines.specs.declared.line.Request.TheVariants.{Shape, Show, Unreadable}
 use Rattle.panel_lines.specs.Line.{longest_line, Reading, then_num, asked, unreadable, shape_word, add_word, show_word, read_shape, read_add, read_of}
@@ -49,8 +48,8 @@ refused r ws e = handed r unreadable ws ws Unreadable e refl refl
 
 -- a shape has no words
 num-words : (m : Num) (f : ℕ → ℕ → Reading) → ((v i : ℕ) → (f v i).words ≡ []) → (then_num m f).words ≡ []
-num-words (N.At v i) f h = h v i
-num-words N.Bad f h = refl
+num-words (Some (v, i)) f h = h v i
+num-words None f h = refl
 
 pub shape-words : (s : List ℕ) → (read_shape s).words ≡ []
 unfolding read_shape

@@ -1,16 +1,10 @@
 -- How a line is read: what it asks, by places in the whole line. proofs/Readable.antt shows that a line is
 -- read exactly if it is the writing of a request (specs/Ask.antt).
-use Rattle.std.specs.Prelude.{List, [], ◌∷◌, Bool, true, cond, not, ◌&&◌, ℕ, zero, suc, ◌+◌, ◌-◌, ◌*◌, ◌/◌, ◌%◌, eqb, ltb, leb, ℤ, length, get_or}
-use Rattle.text.specs.declared.decimals.Num.{Num}
-use Rattle.text.specs.declared.decimals.Num.TheVariants as N
-use Rattle.text.specs.declared.signed.Int.{Int}
-use Rattle.text.specs.declared.signed.Int.TheVariants as I
+use Rattle.std.specs.Prelude.{List, [], ◌∷◌, Bool, true, cond, not, ◌&&◌, ℕ, zero, suc, ◌+◌, ◌-◌, ◌*◌, ◌/◌, ◌%◌, eqb, ltb, leb, ℤ, length, get_or, Option, None, Some}
 use Rattle.text.specs.Words.{bytes_of, is_prefix}
-use Rattle.text.specs.Decimals.{field_at}
-use Rattle.text.specs.Signs.{int_at}
+use Rattle.text.specs.Decimals.{Num, field_at}
+use Rattle.text.specs.Signs.{Int, int_at}
 use Rattle.text.specs.Hex.{hex_ok_at, hex_at}
-use Rattle.panel_lines.specs.declared.line.Tail.{Tail}
-use Rattle.panel_lines.specs.declared.line.Tail.TheVariants as T
 use Rattle.panel_lines.specs.declared.line.Request.{Request}
 use Rattle.panel_lines.specs.declared.line.Request.TheVariants.{Shape, Add, Show, Unreadable}
 
@@ -46,16 +40,16 @@ show_word = bytes_of "(show)"
 
 -- goes on with a number and the place past it
 abbrev pub then_num : Num → (ℕ → ℕ → Reading) → Reading
-then_num (N.At v i) next = next v i
-then_num N.Bad next = unreadable
+then_num (Some p) next = next p.0 p.1
+then_num None next = unreadable
 
 abbrev pub then_int : Int → (ℤ → ℕ → Reading) → Reading
-then_int (I.At z i) next = next z i
-then_int I.Bad next = unreadable
+then_int (Some p) next = next p.0 p.1
+then_int None next = unreadable
 
-abbrev pub then_tail : Tail → (ℕ → Reading) → Reading
-then_tail (T.Pairs n) next = next n
-then_tail T.Bad next = unreadable
+abbrev pub then_tail : Option ℕ → (ℕ → Reading) → Reading
+then_tail (Some n) next = next n
+then_tail None next = unreadable
 
 unfoldable pub read_shape : List ℕ → Reading
 read_shape s =
@@ -83,13 +77,13 @@ all_pairs s i zero = true
 all_pairs s i (suc n) = pair_ok_at s i && all_pairs s (i + 36) n
 
 -- pairs from i on, then a bracket that ends the line
-unfoldable pub tail_at : List ℕ → ℕ → Tail
+unfoldable pub tail_at : List ℕ → ℕ → Option ℕ
 tail_at s i =
-    cond (leb (length s) i) T.Bad
-    (cond (not (eqb ((length s - i - 1) % 36) 0)) T.Bad
-    (cond (not (all_pairs s i ((length s - i - 1) / 36))) T.Bad
-    (cond (not (eqb (get_or s (length s - 1) 0) 41)) T.Bad
-    (T.Pairs ((length s - i - 1) / 36)))))
+    cond (leb (length s) i) None
+    (cond (not (eqb ((length s - i - 1) % 36) 0)) None
+    (cond (not (all_pairs s i ((length s - i - 1) / 36))) None
+    (cond (not (eqb (get_or s (length s - 1) 0) 41)) None
+    (Some ((length s - i - 1) / 36)))))
 
 -- the halves of n pairs from i on
 unfoldable pub halves : List ℕ → ℕ → ℕ → List ℕ

@@ -39,15 +39,12 @@ fn put_flags(out: &mut [u8], at: usize, flags: &[bool]) -> usize
     ensures value { result ≡ at + 2 * length flags.now }
     ensures out_after { out.new ≡ sets out.old at (flags_text flags.now) }
 {
-    let mut i = 0;
-    while i < flags.len() {
+    for (i, flag) in flags.iter().enumerate() {
         let p = at + 2 * i;
-        let f = flag_digit(flags[i]);
         out[p] = b' ';
-        out[p + 1] = f;
-        i += 1;
+        out[p + 1] = flag_digit(*flag);
     }
-    at + 2 * i
+    at + 2 * flags.len()
 }
 
 // A word and a hexadecimal number.

@@ -41,8 +41,7 @@ pub fn take_line(chunk: &[u8], at: usize, line: &mut [u8], held: usize) -> Step
     ensures ended_after { stepped (take result.held line.new) result.next result.ended ≡ step_of (take held line.old) at (drop at chunk.now) }
 {
     let mut n = held;
-    let mut i = at;
-    while i < chunk.len() {
+    for i in at..chunk.len() {
         let b = chunk[i];
         if b == b'\n' {
             return Step {
@@ -52,10 +51,9 @@ pub fn take_line(chunk: &[u8], at: usize, line: &mut [u8], held: usize) -> Step
             };
         }
         n = keep(line, n, b);
-        i += 1;
     }
     Step {
-        next: i,
+        next: chunk.len(),
         held: n,
         ended: false,
     }

@@ -7,6 +7,10 @@ use borrow.Author.Tests.{eq-eqb, ne_eqb, not-false}
 use lib.ListN.{length, take, take-append-drop}
 use lib.Seq.{length-take-le}
 use lib.IntN.{ℤ}
+use Rattle.std.specs.Prelude.{Result, Ok, Err}
+use Rattle.refusal.specs.declared.Refusal.{Refusal}
+use Rattle.refusal.specs.Refusals.{refused, kept}
+use Rattle.refusal.proofs.Numbers.{number-ne0}
 use Rattle.header.specs.declared.Shape.{Shape}
 use Rattle.header.specs.declared.Header.{Header}
 use Rattle.header.specs.Shape.{max_layers, shape_refusal}
@@ -50,15 +54,23 @@ fresh_in r sh f =
       eq-eqb _ _ (length-take-le (cands_in sh) r.counts f.seats),
     )
 
--- l is what `new` left of the parts
+-- l is what `new` left of the parts: it is accepted
+pub started_well : (r : Lent) (sh : Shape) (e : Extent) (l : Left) → refusal_in r sh ≡ 0 → e ≡ extent_of sh
+    → l ≡ new_call sh (take e.cells r.counters) (take e.norms r.norms) (take e.words r.entries) (take e.seats r.counts)
+    → l ≡ left 0 (fresh_lent sh)
+started_well r sh e l z i h = h ∙ rw i (fresh_in r sh (fit_of sh (length r.counters) (length r.norms) (length r.entries) (length r.counts) z))
+
+-- nothing was refused: which header a refusal would keep makes no difference
+pub kept_any : {A : Type 0} (a b : A) (r : Result A Refusal) → refused r ≡ 0 → kept a r ≡ kept b r
+kept_any a b (Ok c) h = refl
+kept_any a b (Err e) h = absurd (number-ne0 e h)
+
 pub has-started : (r : Lent) (sh : Shape) (e : Extent) (l : Left) → refusal_in r sh ≡ 0 → e ≡ extent_of sh
     → l ≡ new_call sh (take e.cells r.counters) (take e.norms r.norms) (take e.words r.entries) (take e.seats r.counts)
     → left l.refusal (put_back e r l.lends) ≡ shape_call r sh
 unfolding shape_call
 has-started r sh e l z i h =
-    let f = fit_of sh (length r.counters) (length r.norms) (length r.entries) (length r.counts) z in
-    let g : l ≡ left 0 (fresh_lent sh) = h ∙ rw i (fresh_in r sh f) in
-    rw (g, i, eq-eqb (refusal_in r sh) 0 z)
+    rw (started_well r sh e l z i h, i, eq-eqb (refusal_in r sh) 0 z)
 
 -- ---- add
 

@@ -9,6 +9,10 @@ use lib.ListN.{length, take}
 use lib.Seq.{sets}
 use lib.IntN.{ℤ}
 use lib.Ieee.{binary64, to_bits}
+use Rattle.std.specs.Prelude.{Result, Ok, Err}
+use Rattle.std.specs.Result.{result_unwrap_or}
+use Rattle.refusal.specs.declared.Refusal.{Refusal}
+use Rattle.refusal.specs.Refusals.{kept}
 use Rattle.header.specs.OneTier.{one_tier}
 use Rattle.header.specs.declared.Header.{Header}
 use Rattle.header.specs.Header.{header_ok}
@@ -32,13 +36,18 @@ use Rattle.panel_step.specs.Panel.{refusal_in, shape_call, add_call, panel_text,
 pub ended : (l o p : List ℕ) (i j : ℕ) (a : List ℕ) → o ≡ sets l 0 a → i ≡ length a → p ≡ sets o i (10 ∷ []) → j ≡ i + 1 → (j ≡ length (a ++ (10 ∷ []))) × (p ≡ sets l 0 (a ++ (10 ∷ [])))
 ended l o p i j a eo ei ep ej = let z = joined l o p i j a (10 ∷ []) (eo, ei) ep ej in (z.1, z.0)
 
-pub reply-ok : (n : ℕ) → n ≡ 0 → ok_text ≡ reply_text n
+pub reply-ok : ok_text ≡ reply_text 0
 unfolding reply_text
-reply-ok n e = rw (eq-eqb n 0 e)
+reply-ok = refl
 
 pub reply_no : (n : ℕ) → (n ≡ 0 → ⊥) → refused_text n ≡ reply_text n
 unfolding reply_text
 reply_no n k = rw (ne_eqb n 0 k)
+
+-- the header that a call answers, or the old one
+pub kept_is : {A : Type 0} (a : A) (r : Result A Refusal) → result_unwrap_or r a ≡ kept a r
+kept_is a (Ok c) = refl
+kept_is a (Err e) = refl
 
 -- a call and its reply
 pub reply-put : (l k : Left) (n : ℕ) (o p : List ℕ) → l ≡ k → n ≡ length (reply_text l.refusal ++ (10 ∷ [])) → p ≡ sets o 0 (reply_text l.refusal ++ (10 ∷ [])) → found l.lends n p ≡ put (replied k) o

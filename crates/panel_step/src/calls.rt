@@ -1,29 +1,20 @@
 // The three requests on the panel's state: a header, and slices of which its shape uses the front.
+ghost use Rattle.refusal.specs.Refusals.{kept, refused};
 ghost use Rattle.std.specs.Prelude.{◌≡◌, ℕ, ◌≤◌, length};
 ghost use Rattle.std.proofs.lemmas.List.Edits.{sets};
 ghost use Rattle.header.specs.Shape.{max_layers};
 ghost use Rattle.layout.specs.Outcomes.{left};
 ghost use Rattle.layout.specs.Lending.{lent_in, lent_out};
-ghost use Rattle.univmon.specs.Calls.{answered};
 ghost use Rattle.estimates.specs.Calls.{panel_call};
 ghost use Rattle.panel_lines.specs.Answers.{show_bytes};
 ghost use Rattle.panel_step.specs.Panel.{shape_call, add_call, show_line, panel_text, updates_digits};
 ghost use Rattle.layout.specs.Slices.{lent};
 
-use crate::extent::panel_refusal;
-use header::{Answered, Header, Shape};
+use crate::extent::check_panel;
+use header::{Header, Shape};
 use layout::extent_of;
 use panel_lines::answer::{put_refused, put_show};
-
-// 13 before a shape.
-const NO_SHAPE: u64 = 13;
-
-// A refused request: the header stays as it is.
-fn refused(refusal: u64, header: Header) -> Answered
-    ensures { result ≡ answered refusal header }
-{
-    Answered { refusal, header }
-}
+use refusal::Refusal;
 
 // Starts afresh with a shape, or refuses it.
 pub fn start(
@@ -33,25 +24,18 @@ pub fn start(
     entries: &mut [u64],
     counts: &mut [i64],
     shape: Shape,
-) -> Answered
-    ensures { left result.refusal (lent_out result.header counters norms entries counts)
+) -> Result<Header, Refusal>
+    ensures { left (refused result) (lent_out (kept header result) counters norms entries counts)
         ≡ shape_call (lent_in header counters norms entries counts) shape }
 {
-    let refusal = panel_refusal(
+    check_panel(
         shape,
         counters.len(),
         norms.len(),
         entries.len(),
         counts.len(),
-    );
-    if refusal != 0 {
-        return refused(refusal, header);
-    }
+    )?;
     let e = extent_of(shape);
-    let cells = e.cells;
-    let sums = e.norms;
-    let words = e.words;
-    let seats = e.seats;
     univmon::new_two_tier(
         shape.heap_size,
         shape.elephant_layers,
@@ -60,10 +44,10 @@ pub fn start(
         shape.mouse_rows,
         shape.mouse_cols,
         shape.layers,
-        &mut counters[..cells],
-        &mut norms[..sums],
-        &mut entries[..words],
-        &mut counts[..seats],
+        &mut counters[..e.cells],
+        &mut norms[..e.norms],
+        &mut entries[..e.words],
+        &mut counts[..e.seats],
     )
 }
 
@@ -76,33 +60,31 @@ pub fn add(
     counts: &mut [i64],
     record: &[u64],
     weight: i64,
-) -> Answered
-    ensures { left result.refusal (lent_out result.header counters norms entries counts)
+) -> Result<Header, Refusal>
+    ensures { left (refused result) (lent_out (kept header result) counters norms entries counts)
         ≡ add_call (lent_in header counters norms entries counts) «record».now weight }
 {
     let shape = header.shape;
-    if panel_refusal(
+    if check_panel(
         shape,
         counters.len(),
         norms.len(),
         entries.len(),
         counts.len(),
-    ) != 0
+    )
+    .is_err()
     {
-        return refused(NO_SHAPE, header);
+        // before a shape
+        return Err(Refusal::Unreadable);
     }
     let e = extent_of(shape);
-    let cells = e.cells;
-    let sums = e.norms;
-    let quads = e.words;
-    let seats = e.seats;
     let mut list = [0u64; 2 * Shape::MAX_LAYERS];
     univmon::update_weighted(
         header,
-        &mut counters[..cells],
-        &mut norms[..sums],
-        &mut entries[..quads],
-        &mut counts[..seats],
+        &mut counters[..e.cells],
+        &mut norms[..e.norms],
+        &mut entries[..e.words],
+        &mut counts[..e.seats],
         record,
         weight,
         &mut list,
@@ -152,27 +134,25 @@ pub fn show(
     ensures upper_bound { result ≤ show_bytes max_layers updates_digits }
 {
     let shape = header.shape;
-    if panel_refusal(
+    if check_panel(
         shape,
         counters.len(),
         norms.len(),
         entries.len(),
         counts.len(),
-    ) != 0
+    )
+    .is_err()
     {
-        return put_refused(out, NO_SHAPE);
+        // before a shape
+        return put_refused(out, Refusal::Unreadable.number());
     }
     let e = extent_of(shape);
-    let cells = e.cells;
-    let sums = e.norms;
-    let words = e.words;
-    let seats = e.seats;
     show_parts(
         header,
-        &counters[..cells],
-        &norms[..sums],
-        &entries[..words],
-        &counts[..seats],
+        &counters[..e.cells],
+        &norms[..e.norms],
+        &entries[..e.words],
+        &counts[..e.seats],
         out,
     )
 }

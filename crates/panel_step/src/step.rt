@@ -1,4 +1,5 @@
 // A line, answered.
+ghost use Rattle.refusal.specs.Refusals.{refused};
 ghost use Rattle.std.specs.Prelude.{◌≡◌, [], ◌∷◌, ◌++◌, ℕ, ◌≤◌, length};
 ghost use Rattle.std.proofs.lemmas.List.Edits.{sets};
 ghost use Rattle.layout.specs.Lending.{lent_in, lent_out};
@@ -10,6 +11,7 @@ use crate::calls::{add, show, start};
 use header::{Header, Shape};
 use panel_lines::answer::{SHOW_BARE, put_ok, put_refused};
 use panel_lines::line::{LINE_WORDS, Request, read_line};
+use refusal::Refusal;
 use text::word::put_word;
 
 // The decimal digits of 2^52, the greatest number of updates.
@@ -18,21 +20,18 @@ const UPDATES_DIGITS: usize = 16;
 // The longest answer, with its newline: `(show ..)` of the most layers and updates.
 pub const LONGEST: usize = SHOW_BARE + 2 * Shape::MAX_LAYERS + UPDATES_DIGITS + 1;
 
-const UNREADABLE: u64 = 13;
-
-// `(ok)` for 0, `(refused N)` for N, and a newline.
-fn put_reply(out: &mut [u8], refusal: u64) -> usize
+// `(ok)`, or `(refused N)` with a refusal's number, and a newline.
+fn put_reply(out: &mut [u8], answer: Result<Header, Refusal>) -> usize
     requires { longest ≤ length out.old }
-    ensures value { result ≡ length (reply_text refusal ++ (10 ∷ [])) }
-    ensures out_after { out.new ≡ sets out.old 0 (reply_text refusal ++ (10 ∷ [])) }
+    ensures value { result ≡ length (reply_text (refused answer) ++ (10 ∷ [])) }
+    ensures out_after { out.new ≡ sets out.old 0 (reply_text (refused answer) ++ (10 ∷ [])) }
     ensures upper_bound { result ≤ longest }
 {
-    if refusal == 0 {
-        let a = put_ok(out);
-        return put_word(out, a, b"\n");
-    }
-    let b = put_refused(out, refusal);
-    put_word(out, b, b"\n")
+    let end = match answer {
+        Ok(_) => put_ok(out),
+        Err(refusal) => put_refused(out, refusal.number()),
+    };
+    put_word(out, end, b"\n")
 }
 
 fn answer_shape(
@@ -50,9 +49,11 @@ fn answer_shape(
     ensures len_le_longest { result.len ≤ longest }
 {
     let a = start(header, counters, norms, entries, counts, shape);
-    let len = put_reply(out, a.refusal);
-    let next = a.header;
-    LineAnswered { header: next, len }
+    let len = put_reply(out, a);
+    LineAnswered {
+        header: a.unwrap_or(header),
+        len,
+    }
 }
 
 fn answer_add(
@@ -71,9 +72,11 @@ fn answer_add(
     ensures len_le_longest { result.len ≤ longest }
 {
     let a = add(header, counters, norms, entries, counts, record, weight);
-    let len = put_reply(out, a.refusal);
-    let next = a.header;
-    LineAnswered { header: next, len }
+    let len = put_reply(out, a);
+    LineAnswered {
+        header: a.unwrap_or(header),
+        len,
+    }
 }
 
 fn answer_show(
@@ -129,7 +132,7 @@ pub fn answer_line(
         }
         Request::Show => answer_show(header, counters, norms, entries, counts, out),
         Request::Unreadable => {
-            let len = put_reply(out, UNREADABLE);
+            let len = put_reply(out, Err(Refusal::Unreadable));
             LineAnswered { header, len }
         }
     }

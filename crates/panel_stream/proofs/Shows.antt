@@ -23,7 +23,7 @@ use Rattle.layout.specs.State.{State, rows_at, cols_at, dims_at, layer_at}
 use Rattle.layout.specs.Slices.{Lent, norms_in, view}
 use Rattle.estimates.specs.Norms.{l2_of_state}
 use Rattle.estimates.specs.Sums.{layer_reads, items_read}
-use Rattle.estimates.specs.declared.Answer.{Answer}
+use Rattle.estimates.specs.Answers.{Answer}
 use Rattle.estimates.specs.declared.PanelAnswer.{PanelAnswer}
 use Rattle.estimates.specs.Calls.{answer, norm_state, l2_reads, l1_call, l2_call, cardinality_call, panel_call}
 use Rattle.shared_streams.specs.Books.{Book, book_keys, norm_by, flag_by, weight_of, distinct, OneRecord, sent}

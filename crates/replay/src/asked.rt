@@ -7,26 +7,24 @@ use crate::shelf::{
     LENT_NORMS, NORM_WORDS, NORMS, SEATS, SECOND, SECOND_COUNTERS, SECOND_NORMS, copy, get, lent,
     take_signed,
 };
-use estimates::Answer;
-use header::{BottomLayer, CheckedShape, Header, Shape};
+use header::{Header, Shape};
+use refusal::Refusal;
 use std::io;
 use std::io::Stdout;
 use sums::G;
 
-fn print_answer(output: Stdout, a: Answer) -> io::Result<()> {
-    vectors::print(output, a.refusal)?;
-    vectors::print(output, float64::to_bits(a.value))
+fn print_answer(output: Stdout, a: Result<f64, Refusal>) -> io::Result<()> {
+    vectors::print(output, refusal::number_in(&a))?;
+    vectors::print(output, float64::to_bits(a.unwrap_or(0.0)))
 }
 
 // The g of the k-th sum: each is summed twice, without and with every key.
 fn g_of(k: u64) -> G {
-    if k < 2 {
-        return G::One;
+    match k / 2 {
+        0 => G::One,
+        1 => G::Value,
+        _ => G::Square,
     }
-    if k < 4 {
-        return G::Value;
-    }
-    G::Square
 }
 
 // 11: L1, L2, cardinality, the six sums, and the panel's answer.
@@ -44,14 +42,12 @@ fn answers(
         output,
         estimates::estimate_cardinality(h, counters, norms, entries, counts),
     )?;
-    let mut k = 0;
-    while k < 6 {
+    for k in 0..6 {
         let every = k % 2 == 1;
         print_answer(
             output,
             estimates::estimate_g_sum(h, counters, norms, entries, counts, g_of(k), every),
         )?;
-        k += 1;
     }
     let p = estimates::panel_answer(h, counters, norms, entries, counts);
     vectors::print(output, p.refusal)?;
@@ -60,8 +56,15 @@ fn answers(
     vectors::print(output, float64::to_bits(p.cardinality))
 }
 
-// 11 prints the answers of the relay at work. Any other operation asks whether it passes the state check.
-pub fn ask(output: Stdout, op: u64, shelf: &[u64]) -> io::Result<bool> {
+// What is asked of the relay at work: its answers, or whether it passes the state check.
+#[derive(Clone, Copy)]
+pub enum Question {
+    Answers,
+    Check,
+}
+
+// Prints the answers, and answers false; or answers the check.
+pub fn ask(output: Stdout, question: Question, shelf: &[u64]) -> io::Result<bool> {
     let c = lent(shelf, 0, LENT_COUNTERS, CELLS);
     let w = lent(shelf, 0, LENT_NORMS, NORM_WORDS);
     let e = lent(shelf, 0, LENT_ENTRIES, ENTRY_WORDS);
@@ -79,58 +82,47 @@ pub fn ask(output: Stdout, op: u64, shelf: &[u64]) -> io::Result<bool> {
     let ws = &norms[..w];
     let es = &entries[..e];
     let ks = &counts[..k];
-    if op == 11 {
-        answers(output, h, cs, ws, es, ks)?;
-        return Ok(false);
+    match question {
+        Question::Answers => {
+            answers(output, h, cs, ws, es, ks)?;
+            Ok(false)
+        }
+        Question::Check => Ok(state_check::check_state(h, cs, ws, es, ks)),
     }
-    Ok(state_check::check_state(h, cs, ws, es, ks))
 }
 
 // Whether the n words from place `a` on are those from place `b` on.
 fn alike(shelf: &[u64], a: usize, b: usize, n: usize) -> bool {
-    let mut i = 0;
-    while i < n {
-        if get(shelf, a, i) != get(shelf, b, i) {
-            return false;
-        }
-        i += 1;
-    }
-    true
+    (0..n).all(|i| get(shelf, a, i) == get(shelf, b, i))
 }
 
 // 12: whether both relays agree in shape, weight, updates, mode, flags, counters and norms.
 pub fn same(shelf: &[u64]) -> bool {
-    if !alike(shelf, 0, SECOND, LENS) {
-        return false;
-    }
-    if !alike(shelf, LENT_COUNTERS, SECOND + LENT_COUNTERS, 2) {
-        return false;
-    }
-    if !alike(
-        shelf,
-        COUNTERS,
-        SECOND_COUNTERS,
-        get(shelf, 0, LENT_COUNTERS) as usize,
-    ) {
-        return false;
-    }
-    alike(
-        shelf,
-        NORMS,
-        SECOND_NORMS,
-        get(shelf, 0, LENT_NORMS) as usize,
-    )
+    alike(shelf, 0, SECOND, LENS)
+        && alike(shelf, LENT_COUNTERS, SECOND + LENT_COUNTERS, 2)
+        && alike(
+            shelf,
+            COUNTERS,
+            SECOND_COUNTERS,
+            get(shelf, 0, LENT_COUNTERS) as usize,
+        )
+        && alike(
+            shelf,
+            NORMS,
+            SECOND_NORMS,
+            get(shelf, 0, LENT_NORMS) as usize,
+        )
 }
 
 // 16: the refusal of a shape.
 pub fn shape(output: Stdout, call: Call) -> io::Result<()> {
-    let n = header::check_shape(
+    let checked = header::check_shape(
         call.a as usize,
         call.b as usize,
         call.c as usize,
         call.d as usize,
     );
-    say(output, n, false, 0)
+    say(output, refusal::number_in(&checked), false, 0)
 }
 
 // 20: the refusal of a shape of two tiers.
@@ -144,17 +136,13 @@ pub fn two_tier_shape(output: Stdout, call: Call) -> io::Result<()> {
         call.f as usize,
         call.g as usize,
     );
-    match checked {
-        CheckedShape::Good(_) => say(output, 0, false, 0),
-        CheckedShape::Refused(n) => say(output, n, false, 0),
-    }
+    say(output, refusal::number_in(&checked), false, 0)
 }
 
 // 17: a bottom layer, or its refusal.
 pub fn bottom(output: Stdout, call: Call) -> io::Result<()> {
-    let b = header::bottom_layer_for_hash(call.a, call.b as usize);
-    match b {
-        BottomLayer::At(l) => say(output, 0, false, l as u64),
-        BottomLayer::Refused(n) => say(output, n, false, 0),
+    match header::bottom_layer_for_hash(call.a, call.b as usize) {
+        Ok(l) => say(output, 0, false, l as u64),
+        Err(refusal) => say(output, refusal.number(), false, 0),
     }
 }

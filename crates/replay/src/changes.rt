@@ -1,7 +1,7 @@
 // The calls that change a relay. Each says the refusal's number, whether what is left passes the state check,
 // and a digest of it all, with the list that the call was lent.
 use crate::Call;
-use crate::asked::ask;
+use crate::asked::{Question, ask};
 use crate::digest::{of_words, say, whole};
 use crate::heads::{HEAD_WORDS, header_of, words_of};
 use crate::shelf::{
@@ -10,28 +10,47 @@ use crate::shelf::{
     SEATS, SECOND, SECOND_COUNTERS, SECOND_COUNTS, SECOND_ENTRIES, SECOND_NORMS, WORDS, copy, lent,
     put_signed, take_signed,
 };
-use header::{Answered, Header};
+use header::Header;
+use refusal::Refusal;
 use std::io;
 use std::io::Stdout;
 use univmon_delta::Fidelity;
+
+// The calls that change a relay.
+#[derive(Clone, Copy)]
+pub enum Change {
+    New,
+    NewTwoTier,
+    SetTotalWeight,
+    MarkLayer,
+    MarkAll,
+    Clear,
+    Merge,
+    OnRecord(OnRecord),
+}
+
+// Those that take a record. The call gives the number of a kept record, and how many words of it are lent.
+#[derive(Clone, Copy)]
+pub enum OnRecord {
+    Update,
+    TerminalUpdate,
+    Delta,
+}
 
 // A call's record may have more words than any shape asks for.
 const LONGEST: usize = 2 * RECORD_WORDS;
 
 fn fidelity(n: u64) -> Fidelity {
-    if n == 0 {
-        return Fidelity::EveryInsert;
+    match n {
+        0 => Fidelity::EveryInsert,
+        _ => Fidelity::PromotedOnly,
     }
-    Fidelity::PromotedOnly
 }
 
 // The count of a delta, from its two's complement.
 fn count_of(n: u64) -> i32 {
-    let low = n % 0x1_0000_0000;
-    if low < 0x8000_0000 {
-        return low as i32;
-    }
-    -1 - (0xffff_ffff - low) as i32
+    let low = (n % 0x1_0000_0000) as u32;
+    low.cast_signed()
 }
 
 // Where record number a starts.
@@ -42,16 +61,14 @@ pub fn record_at(a: u64) -> usize {
 // What a list holds before its call, so that every word that is written or left can be told: the greatest
 // number, and down from it.
 fn mark(list: &mut [u64]) {
-    let mut i = 0;
-    while i < list.len() {
-        list[i] = 0xffff_ffff_ffff_ffff - i as u64;
-        i += 1;
+    for (i, word) in list.iter_mut().enumerate() {
+        *word = u64::MAX - i as u64;
     }
 }
 
-// 2, 3: a standard and a terminal update. 4: a delta. The call gives the number of a kept record, and how many
-// words of it are lent.
+// An update or a delta with a kept record.
 fn recorded(
+    kind: OnRecord,
     call: Call,
     h: Header,
     counters: &mut [i64],
@@ -60,13 +77,20 @@ fn recorded(
     counts: &mut [i64],
     list: &mut [u64],
     shelf: &[u64],
-) -> Answered {
+) -> Result<Header, Refusal> {
     let mut record = [0u64; LONGEST];
     copy(shelf, record_at(call.a), &mut record, 0, LONGEST);
     let n = lent(shelf, WORDS, 1, LONGEST);
     let words = &record[..n];
-    if call.op == 4 {
-        return univmon_delta::apply_delta(
+    let weight = vectors::signed(call.c);
+    match kind {
+        OnRecord::Update => {
+            univmon::update_weighted(h, counters, norms, entries, counts, words, weight, list)
+        }
+        OnRecord::TerminalUpdate => univmon::update_weighted_terminal(
+            h, counters, norms, entries, counts, words, weight, list,
+        ),
+        OnRecord::Delta => univmon_delta::apply_delta(
             h,
             counters,
             norms,
@@ -79,18 +103,11 @@ fn recorded(
             count_of(call.f),
             fidelity(call.g),
             list,
-        );
+        ),
     }
-    let weight = vectors::signed(call.c);
-    if call.op == 3 {
-        return univmon::update_weighted_terminal(
-            h, counters, norms, entries, counts, words, weight, list,
-        );
-    }
-    univmon::update_weighted(h, counters, norms, entries, counts, words, weight, list)
 }
 
-// 9: merges the second relay into the one at work.
+// Merges the second relay into the one at work.
 fn merge(
     h: Header,
     counters: &mut [i64],
@@ -99,7 +116,7 @@ fn merge(
     counts: &mut [i64],
     list: &mut [u64],
     shelf: &[u64],
-) -> Answered {
+) -> Result<Header, Refusal> {
     let c = lent(shelf, SECOND, LENT_COUNTERS, CELLS);
     let w = lent(shelf, SECOND, LENT_NORMS, NORM_WORDS);
     let e = lent(shelf, SECOND, LENT_ENTRIES, ENTRY_WORDS);
@@ -127,9 +144,9 @@ fn merge(
     )
 }
 
-// Fills the lent slices from the shelf, marks the list and makes a call on them. 1: `new`. 5, 6, 7: the calls on
-// a header alone. 8: `clear`. 19: `new` of two tiers.
+// Fills the lent slices from the shelf, marks the list and makes a call on them.
 fn on_lent(
+    change: Change,
     call: Call,
     counters: &mut [i64],
     norms: &mut [u64],
@@ -137,16 +154,15 @@ fn on_lent(
     counts: &mut [i64],
     list: &mut [u64],
     shelf: &[u64],
-) -> Answered {
+) -> Result<Header, Refusal> {
     take_signed(shelf, COUNTERS, counters);
     copy(shelf, NORMS, norms, 0, NORM_WORDS);
     copy(shelf, ENTRIES, entries, 0, ENTRY_WORDS);
     take_signed(shelf, COUNTS, counts);
     mark(list);
     let h = header_of(shelf, 0);
-    let op = call.op;
-    match op {
-        1 => univmon::new(
+    match change {
+        Change::New => univmon::new(
             call.a as usize,
             call.b as usize,
             call.c as usize,
@@ -156,7 +172,7 @@ fn on_lent(
             entries,
             counts,
         ),
-        19 => univmon::new_two_tier(
+        Change::NewTwoTier => univmon::new_two_tier(
             call.a as usize,
             call.b as usize,
             call.c as usize,
@@ -169,17 +185,27 @@ fn on_lent(
             entries,
             counts,
         ),
-        5 => univmon::set_total_weight(h, call.a),
-        6 => univmon::mark_layer_candidates_incomplete(h, call.a as usize),
-        7 => univmon::mark_candidates_incomplete(h),
-        8 => univmon::clear(h, counters, norms, entries, counts),
-        9 => merge(h, counters, norms, entries, counts, list, shelf),
-        _ => recorded(call, h, counters, norms, entries, counts, list, shelf),
+        Change::SetTotalWeight => univmon::set_total_weight(h, call.a),
+        Change::MarkLayer => univmon::mark_layer_candidates_incomplete(h, call.a as usize),
+        Change::MarkAll => univmon::mark_candidates_incomplete(h),
+        Change::Clear => univmon::clear(h, counters, norms, entries, counts),
+        Change::Merge => merge(h, counters, norms, entries, counts, list, shelf),
+        Change::OnRecord(kind) => recorded(
+            kind, call, h, counters, norms, entries, counts, list, shelf,
+        ),
+    }
+}
+
+// The header that a refused call leaves: as it was, but a new state's is all zero.
+fn left_by(change: Change, shelf: &[u64]) -> Header {
+    match change {
+        Change::New | Change::NewTwoTier => Header::zero(),
+        _ => header_of(shelf, 0),
     }
 }
 
 // Runs a call on the relay at work: its slices are taken off the shelf, lent, and put back.
-pub fn run(output: Stdout, call: Call, shelf: &mut [u64]) -> io::Result<()> {
+pub fn run(output: Stdout, change: Change, call: Call, shelf: &mut [u64]) -> io::Result<()> {
     let c = lent(&*shelf, 0, LENT_COUNTERS, CELLS);
     let w = lent(&*shelf, 0, LENT_NORMS, NORM_WORDS);
     let e = lent(&*shelf, 0, LENT_ENTRIES, ENTRY_WORDS);
@@ -191,6 +217,7 @@ pub fn run(output: Stdout, call: Call, shelf: &mut [u64]) -> io::Result<()> {
     let mut counts = [0i64; SEATS];
     let mut list = [0u64; LIST_WORDS];
     let out = on_lent(
+        change,
         call,
         &mut counters[..c],
         &mut norms[..w],
@@ -203,8 +230,14 @@ pub fn run(output: Stdout, call: Call, shelf: &mut [u64]) -> io::Result<()> {
     copy(&norms, 0, shelf, NORMS, w);
     copy(&entries, 0, shelf, ENTRIES, e);
     put_signed(&counts, shelf, COUNTS, k);
-    let words = words_of(out.header);
+    let header = out.unwrap_or(left_by(change, &*shelf));
+    let words = words_of(header);
     copy(&words, 0, shelf, 0, HEAD_WORDS);
     let digest = of_words(whole(&*shelf), &list, 0, n);
-    say(output, out.refusal, ask(output, call.op, &*shelf)?, digest)
+    say(
+        output,
+        refusal::number_in(&out),
+        ask(output, Question::Check, &*shelf)?,
+        digest,
+    )
 }

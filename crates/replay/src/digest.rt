@@ -1,5 +1,5 @@
 // A whole state as one number, and what a call that changes it says.
-use crate::heads::{HEAD_WORDS, bit_of};
+use crate::heads::HEAD_WORDS;
 use crate::shelf::{
     COUNTERS, COUNTS, ENTRIES, LENT_COUNTERS, LENT_COUNTS, LENT_ENTRIES, LENT_NORMS, NORMS, get,
 };
@@ -8,13 +8,7 @@ use std::io::Stdout;
 
 // The digest of n words from place `at` on, behind those that have the digest `start`.
 pub fn of_words(start: u64, words: &[u64], at: usize, n: usize) -> u64 {
-    let mut d = start;
-    let mut i = 0;
-    while i < n {
-        d = vectors::mixed(d, get(words, at, i));
-        i += 1;
-    }
-    d
+    (0..n).fold(start, |d, i| vectors::mixed(d, get(words, at, i)))
 }
 
 // The digest of the relay at work: its header, and as much of each slice as is lent.
@@ -34,7 +28,7 @@ pub fn say(output: Stdout, refusal: u64, sound: bool, digest: u64) -> io::Result
     vectors::print(
         output,
         refusal * 0x100_0000_0000_0000
-            + bit_of(sound) * 0x1_0000_0000_0000
+            + u64::from(sound) * 0x1_0000_0000_0000
             + digest % vectors::PRIME,
     )
 }

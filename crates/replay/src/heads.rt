@@ -1,8 +1,6 @@
 // Headers as words: the shape's seven, weight, updates, mode, a flag for each layer, a length for each layer.
-ghost use Rattle.std.specs.Prelude.{◌<◌};
-
 use crate::shelf::get;
-use header::{Header, Mode, Shape, Totals};
+use header::{Header, Shape, Totals, mode_number, mode_of};
 
 const WEIGHT: usize = 7;
 
@@ -16,38 +14,8 @@ pub const LENS: usize = FLAGS + Shape::MAX_LAYERS;
 
 pub const HEAD_WORDS: usize = LENS + Shape::MAX_LAYERS;
 
-fn mode_of(n: u64) -> Mode {
-    if n == 1 {
-        return Mode::Standard;
-    }
-    if n == 2 {
-        return Mode::Terminal;
-    }
-    Mode::Unset
-}
-
-fn number_of(m: Mode) -> u64 {
-    match m {
-        Mode::Unset => 0,
-        Mode::Standard => 1,
-        Mode::Terminal => 2,
-    }
-}
-
-pub fn bit_of(b: bool) -> u64
-    ensures { result < 2 }
-{
-    if b {
-        return 1;
-    }
-    0
-}
-
 // The words of a header.
 pub fn words_of(h: Header) -> [u64; HEAD_WORDS] {
-    let lens = h.lens;
-    let flags = h.flags;
-    let mode = h.mode;
     let mut words = [0u64; HEAD_WORDS];
     words[0] = h.shape.heap_size as u64;
     words[1] = h.shape.layers as u64;
@@ -58,12 +26,10 @@ pub fn words_of(h: Header) -> [u64; HEAD_WORDS] {
     words[6] = h.shape.mouse_cols as u64;
     words[WEIGHT] = h.totals.weight;
     words[UPDATES] = h.totals.updates;
-    words[MODE] = number_of(mode);
-    let mut l = 0;
-    while l < Shape::MAX_LAYERS {
-        words[l + FLAGS] = bit_of(flags[l]);
-        words[l + LENS] = lens[l] as u64;
-        l += 1;
+    words[MODE] = mode_number(h.mode);
+    for l in 0..Shape::MAX_LAYERS {
+        words[l + FLAGS] = u64::from(h.flags[l]);
+        words[l + LENS] = h.lens[l] as u64;
     }
     words
 }
@@ -72,11 +38,9 @@ pub fn words_of(h: Header) -> [u64; HEAD_WORDS] {
 pub fn header_of(xs: &[u64], at: usize) -> Header {
     let mut lens = [0usize; Shape::MAX_LAYERS];
     let mut flags = [false; Shape::MAX_LAYERS];
-    let mut l = 0;
-    while l < Shape::MAX_LAYERS {
+    for l in 0..Shape::MAX_LAYERS {
         flags[l] = get(xs, at, l + FLAGS) != 0;
         lens[l] = get(xs, at, l + LENS) as usize;
-        l += 1;
     }
     let shape = Shape {
         heap_size: get(xs, at, 0) as usize,

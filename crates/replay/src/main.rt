@@ -10,7 +10,8 @@ mod digest;
 mod heads;
 mod shelf;
 
-use crate::changes::record_at;
+use crate::asked::Question;
+use crate::changes::{Change, OnRecord, record_at};
 use crate::shelf::{
     ALL, CALL_WORDS, COUNTERS, COUNTS, ENTRIES, NORMS, PLACE, PLACES, SECOND, WORDS, get, set,
     shift,
@@ -18,10 +19,26 @@ use crate::shelf::{
 use std::io;
 use std::io::{Stdin, Stdout};
 
-// An operation and its first seven words; operation 0 is the end of the input.
+// What a line asks for: a change of the relay at work, or what its number in `operation_of` says.
+#[derive(Clone, Copy)]
+pub enum Operation {
+    Change(Change),
+    SetWord,
+    Answers,
+    Same,
+    CopyPlace,
+    KeepRecord,
+    CopySecond,
+    Shape,
+    BottomLayer,
+    Check,
+    TwoTierShape,
+}
+
+// An operation and its first seven words.
 #[derive(Clone, Copy)]
 pub struct Call {
-    pub op: u64,
+    pub op: Operation,
     pub a: u64,
     pub b: u64,
     pub c: u64,
@@ -31,19 +48,48 @@ pub struct Call {
     pub g: u64,
 }
 
-// Reads a line, puts its words on the shelf, and answers its operation.
-fn read(input: Stdin, shelf: &mut [u64]) -> u64 {
-    let mut text = [0u8; 17 * CALL_WORDS];
-    let line = vectors::next(input, &mut text);
-    let mut k = 0;
-    while k < CALL_WORDS {
-        set(shelf, WORDS, k, vectors::word(&text, k));
-        k += 1;
+// 10: a word of the relay at work is set by hand. 12: whether it holds what the second one holds. 13: the relay in
+// place a is copied to place b. 14: b words of the call are kept as record number a. 15: the relay in place a is
+// copied to be the second one. 18: the state check. 0 is none: it is the end of the input. A number that is no
+// operation's is run as 2, a standard update.
+fn operation_of(n: u64) -> Option<Operation> {
+    match n {
+        0 => None,
+        1 => Some(Operation::Change(Change::New)),
+        3 => Some(Operation::Change(Change::OnRecord(OnRecord::TerminalUpdate))),
+        4 => Some(Operation::Change(Change::OnRecord(OnRecord::Delta))),
+        5 => Some(Operation::Change(Change::SetTotalWeight)),
+        6 => Some(Operation::Change(Change::MarkLayer)),
+        7 => Some(Operation::Change(Change::MarkAll)),
+        8 => Some(Operation::Change(Change::Clear)),
+        9 => Some(Operation::Change(Change::Merge)),
+        10 => Some(Operation::SetWord),
+        11 => Some(Operation::Answers),
+        12 => Some(Operation::Same),
+        13 => Some(Operation::CopyPlace),
+        14 => Some(Operation::KeepRecord),
+        15 => Some(Operation::CopySecond),
+        16 => Some(Operation::Shape),
+        17 => Some(Operation::BottomLayer),
+        18 => Some(Operation::Check),
+        19 => Some(Operation::Change(Change::NewTwoTier)),
+        20 => Some(Operation::TwoTierShape),
+        _ => Some(Operation::Change(Change::OnRecord(OnRecord::Update))),
     }
-    line.op
 }
 
-fn call_of(op: u64, shelf: &[u64]) -> Call {
+// Reads a line and puts its words on the shelf; no call at the end of the input.
+fn read(input: Stdin, shelf: &mut [u64]) -> Option<Call> {
+    let mut text = [0u8; 17 * CALL_WORDS];
+    let line = vectors::next(input, &mut text);
+    for k in 0..CALL_WORDS {
+        set(shelf, WORDS, k, vectors::word(&text, k));
+    }
+    let op = operation_of(line.op)?;
+    Some(call_of(op, &*shelf))
+}
+
+fn call_of(op: Operation, shelf: &[u64]) -> Call {
     Call {
         op,
         a: get(shelf, WORDS, 0),
@@ -73,38 +119,34 @@ fn place_at(n: u64) -> usize {
     (n % PLACES) as usize * PLACE
 }
 
-// One operation. 10: a word of the relay at work is set by hand. 12: whether it holds what the second one holds.
-// 13: the relay in place a is copied to place b. 14: b words of the call are kept as record number a. 15: the
-// relay in place a is copied to be the second one. 18: the state check.
+// One operation.
 fn turn(output: Stdout, call: Call, shelf: &mut [u64]) -> io::Result<()> {
-    let op = call.op;
-    match op {
-        10 => set(shelf, slice_at(call.a), call.b as usize, call.c),
-        11 => {
-            asked::ask(output, op, &*shelf)?;
+    match call.op {
+        Operation::Change(change) => changes::run(output, change, call, shelf)?,
+        Operation::SetWord => set(shelf, slice_at(call.a), call.b as usize, call.c),
+        Operation::Answers => {
+            asked::ask(output, Question::Answers, &*shelf)?;
         }
-        12 => vectors::print_flag(output, asked::same(&*shelf))?,
-        13 => shift(shelf, place_at(call.a), place_at(call.b), PLACE),
-        14 => shift(shelf, WORDS + 2, record_at(call.a), call.b as usize),
-        15 => shift(shelf, place_at(call.a), SECOND, PLACE),
-        16 => asked::shape(output, call)?,
-        17 => asked::bottom(output, call)?,
-        18 => vectors::print_flag(output, asked::ask(output, op, &*shelf)?)?,
-        20 => asked::two_tier_shape(output, call)?,
-        _ => changes::run(output, call, shelf)?,
+        Operation::Same => vectors::print_flag(output, asked::same(&*shelf))?,
+        Operation::CopyPlace => shift(shelf, place_at(call.a), place_at(call.b), PLACE),
+        Operation::KeepRecord => shift(shelf, WORDS + 2, record_at(call.a), call.b as usize),
+        Operation::CopySecond => shift(shelf, place_at(call.a), SECOND, PLACE),
+        Operation::Shape => asked::shape(output, call)?,
+        Operation::BottomLayer => asked::bottom(output, call)?,
+        Operation::Check => {
+            vectors::print_flag(output, asked::ask(output, Question::Check, &*shelf)?)?
+        }
+        Operation::TwoTierShape => asked::two_tier_shape(output, call)?,
     }
     Ok(())
 }
 
 fn serve(input: Stdin, output: Stdout, shelf: &mut [u64]) -> io::Result<()> {
-    let mut turns: u64 = 1000000;
-    while 0 < turns {
-        let op = read(input, shelf);
-        if op == 0 {
-            return Ok(());
-        }
-        turn(output, call_of(op, &*shelf), shelf)?;
-        turns -= 1;
+    for _ in 0..1000000 {
+        let Some(call) = read(input, shelf) else {
+            break;
+        };
+        turn(output, call, shelf)?;
     }
     Ok(())
 }

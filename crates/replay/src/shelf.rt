@@ -69,72 +69,53 @@ pub const ALL: usize = WORDS + CALL_WORDS;
 
 // The word i places behind place `at`; 0 past the end.
 pub fn get(xs: &[u64], at: usize, i: usize) -> u64 {
-    if xs.len() <= at {
-        return 0;
-    }
-    if xs.len() - at <= i {
-        return 0;
-    }
-    xs[at + i]
+    at.checked_add(i)
+        .and_then(|place| xs.get(place))
+        .copied()
+        .unwrap_or(0)
 }
 
 pub fn set(xs: &mut [u64], at: usize, i: usize, x: u64) {
-    if xs.len() <= at {
+    let Some(place) = at.checked_add(i) else {
         return;
+    };
+    if let Some(word) = xs.get_mut(place) {
+        *word = x;
     }
-    if xs.len() - at <= i {
-        return;
-    }
-    xs[at + i] = x;
 }
 
 // How much of a slice is lent: the word i places behind place `at`, but at most `most`.
 pub fn lent(xs: &[u64], at: usize, i: usize, most: usize) -> usize
     ensures { result ≤ most }
 {
-    let n = get(xs, at, i) as usize;
-    if n < most {
-        return n;
-    }
-    most
+    most.min(get(xs, at, i) as usize)
 }
 
 // Copies n words from place `from` to place `to` of the same slice.
 pub fn shift(xs: &mut [u64], from: usize, to: usize, n: usize) {
-    let mut i = 0;
-    while i < n {
+    for i in 0..n {
         let x = get(&*xs, from, i);
         set(xs, to, i, x);
-        i += 1;
     }
 }
 
 // The same from one slice to another.
 pub fn copy(xs: &[u64], from: usize, ys: &mut [u64], to: usize, n: usize) {
-    let mut i = 0;
-    while i < n {
+    for i in 0..n {
         set(ys, to, i, get(xs, from, i));
-        i += 1;
     }
 }
 
 // Fills `ys` with the words from place `from` on, read as signed numbers.
 pub fn take_signed(xs: &[u64], from: usize, ys: &mut [i64]) {
-    let mut i = 0;
-    while i < ys.len() {
-        ys[i] = vectors::signed(get(xs, from, i));
-        i += 1;
+    for (i, y) in ys.iter_mut().enumerate() {
+        *y = vectors::signed(get(xs, from, i));
     }
 }
 
 // Writes the first n signed numbers as words, from place `to` on.
 pub fn put_signed(xs: &[i64], ys: &mut [u64], to: usize, n: usize) {
-    let mut i = 0;
-    while i < n {
-        if xs.len() <= i {
-            return;
-        }
-        set(ys, to, i, vectors::unsigned(xs[i]));
-        i += 1;
+    for (i, x) in xs.iter().take(n).enumerate() {
+        set(ys, to, i, vectors::unsigned(*x));
     }
 }

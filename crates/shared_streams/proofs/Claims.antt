@@ -35,7 +35,7 @@ use Rattle.sums.specs.Layers.{standard_sum}
 use Rattle.sums.specs.declared.G.TheVariants as g
 use Rattle.estimates.specs.Sums.{terminal_input, sum_by, header_alone, g_sum_of, sum_reads}
 use Rattle.estimates.specs.inner.Slices.{cardinality_of}
-use Rattle.estimates.specs.declared.Answer.{Answer}
+use Rattle.estimates.specs.Answers.{Answer}
 use Rattle.estimates.specs.Calls.{answer, sum_tests, sum_call, cardinality_call}
 use Rattle.shared_streams.specs.Books.{Book, book_keys, keys_sent, times, distinct, OneRecord, Reordered, Holds, book_mode}
 use Rattle.shared_streams.specs.Relays.{Relay, takes}

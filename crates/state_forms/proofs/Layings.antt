@@ -1,15 +1,14 @@
 -- Texts laid one after another, and the loops that lay them. Assumes nothing.
 use mathlib.Core.Path.{◌≡◌, refl, sym, ap, subst, ◌∙◌}
-use mathlib.Core.Bool.{Bool, true, false, cond, ◌&&◌}
+use mathlib.Core.Bool.{Bool, true, false, cond}
 use mathlib.Core.List.{List, [], ◌∷◌, ◌++◌, append_assoc}
 use Prim.Native.Nat.{ℕ, suc, ◌+◌, ◌-◌, ◌*◌, ◌≤◌, ◌<◌}
 use native.Mathlib.Nat.{suc-mul}
 use lib.IntN.{ℤ, pos}
-use lib.ListN.{length, get_or, set, take, drop, length-append, drop_of_length-le}
-use lib.Seq.{sets, length-sets, sets-eq, set_out, drop-cons, drop-drop, get_or-take, length-take-le, take-append_seam}
+use lib.ListN.{length, get_or, take, drop, length-append, drop_of_length-le}
+use lib.Seq.{sets, length-sets, sets-eq, drop-cons, drop-drop, get_or-take, length-take-le, take-append_seam}
 use native.Mathlib.Omega.{arith}
 use native.Mathlib.Numerals.{add-one}
-use lib.Signed.{le_z}
 use Rattle.text.specs.Words.{bytes_of}
 use Rattle.text.specs.Decimals.{dec}
 use Rattle.text.specs.Signs.{signed_dec}
@@ -19,7 +18,7 @@ use Rattle.heap_moves.specs.Flat.{cands_of, cand_of, item_of}
 use Rattle.heap_moves.proofs.Views.{cand_at, length-cands}
 use Rattle.state_forms.specs.Formats.{num}
 use Rattle.state_forms.specs.Sparse.{Listing, sparse_text}
-use Rattle.state_forms.specs.Grammar.{line_end, is_zero, all_zero, cell_format, cell_listing, row_format, row_listing, rows_of, key_format, keys_text, flag_number, flag_format, page_text}
+use Rattle.state_forms.specs.Grammar.{line_end, cell_format, cell_listing, row_format, row_listing, rows_of, key_format, keys_text, flag_number, flag_format, page_text}
 use Rattle.state_forms.specs.inner.Laying.{TextRoom, LaidText, one_text}
 
 pub laid_none : (l : List ℕ) (i : ℕ) → LaidText l i [] l i
@@ -37,13 +36,6 @@ laid_is {l} {o} {i} {j} e x = subst (λ (z : List ℕ). LaidText l i z o j) e x
 
 pub laid_long : {l o : List ℕ} {i j : ℕ} {a : List ℕ} → LaidText l i a o j → length o ≡ length l
 laid_long {l} {o} {i} {j} {a} x = ap length x.text ∙ length-sets l i a
-
--- a byte, inside the list and past its end
-pub byte_in : (l : List ℕ) (i b : ℕ) → LaidText l i (b ∷ []) (set l i b) (i + 1)
-byte_in l i b = record { text = refl; place = omega arith }
-
-pub byte_out : (l : List ℕ) (i b : ℕ) → length l ≤ i → LaidText l i (b ∷ []) l (i + 1)
-byte_out l i b h = record { text = sym (set_out l i b h); place = omega arith }
 
 -- a text that was put at the start of a list with room for it
 pub put-part : (l a o : List ℕ) (k : ℕ) → length a ≤ length l → o ≡ sets l 0 a → k ≡ 0 + length a → take k o ≡ a
@@ -98,15 +90,6 @@ pub sparse_end : {A : Type 0} (m : Listing A) (xs : List A) (i : ℕ) → length
 unfolding sparse_text
 sparse_end m xs i h = rw (drop_of_length-le xs h)
 
--- zeros, one by one
-pub zero-step : (xs : List ℤ) (i : ℕ) → i < length xs → all_zero (drop i xs) ≡ is_zero (get_or xs i (pos 0)) && all_zero (drop (i + 1) xs)
-unfolding all_zero
-zero-step xs i h = rw (drop-cons xs i (pos 0) h, add-one)
-
-pub zero_end : (xs : List ℤ) (i : ℕ) → length xs ≤ i → all_zero (drop i xs) ≡ true
-unfolding all_zero
-zero_end xs i h = rw (drop_of_length-le xs h)
-
 -- ---- five and six texts, one after another
 
 pub five_laid : {l o p q r s : List ℕ} {i j k m n t : ℕ} {a b c d e : List ℕ} (z : List ℕ) → (((a ++ b) ++ c) ++ d) ++ e ≡ z
@@ -137,15 +120,6 @@ one_none m i x e = rw e
 
 pub one-some : {A : Type 0} (m : Listing A) (i : ℕ) (x : A) → m.none x ≡ false → m.form.write (i, x) ≡ one_text m i x
 one-some m i x e = rw e
-
--- a test of zero in two steps
-pub zero_left : (v : ℤ) → le_z v (pos 0) ≡ true → le_z (pos 0) v ≡ is_zero v
-unfolding is_zero
-zero_left v e = rw e
-
-pub zero_right : (v : ℤ) → le_z v (pos 0) ≡ false → false ≡ is_zero v
-unfolding is_zero
-zero_right v e = rw e
 
 -- ---- lines of a layer
 

@@ -1,3 +1,4 @@
+pub mod Zeros
 pub mod Exactness
 pub mod Numbers
 pub mod Sparseness

@@ -6,18 +6,15 @@ use Prim.Native.Nat.{ℕ}
 use lib.IntN.{ℤ}
 use lib.ListN.{length, drop}
 use lib.Seq.{drop-append_seam}
-use Rattle.text.specs.declared.decimals.Num.{Num}
-use Rattle.text.specs.declared.decimals.Num.TheVariants as N
-use Rattle.text.specs.declared.signed.Int.{Int}
-use Rattle.text.specs.declared.signed.Int.TheVariants as I
+use Rattle.std.specs.Prelude.{Some, None}
 use Rattle.text.specs.Words.{is_prefix}
-use Rattle.text.specs.Decimals.{dec, Word, is_digit, field_at}
-use Rattle.text.specs.Signs.{signed_dec, SignedWord, int_at}
+use Rattle.text.specs.Decimals.{Num, dec, Word, is_digit, field_at}
+use Rattle.text.specs.Signs.{Int, signed_dec, SignedWord, int_at}
 use Rattle.text.proofs.Spots.{past, word-reads, word_is}
 use Rattle.text.proofs.DecReads.{field-reads}
 use Rattle.text.proofs.DecSound.{field-sound}
 use Rattle.text.proofs.IntReads.{int-reads, int-sound}
-use Rattle.state_forms.specs.Formats.{got, bad, word_r, num_got, num_r, int_got, int_r, lit, num, int}
+use Rattle.state_forms.specs.Formats.{got, bad, word_r, read_got, num_r, int_r, lit, num, int}
 use Rattle.state_forms.specs.inner.Exact.{Exact, Any}
 use Rattle.state_forms.proofs.Exactness.{never_got, got_value, got_left}
 
@@ -38,20 +35,20 @@ module _ (stop : ℕ) (d : is_digit stop ≡ false) where
   seam a t = append_assoc a (stop ∷ []) t
 
   pub num-back : (n : ℕ) (t : List ℕ) → Word n → num_r stop (dec n ++ (stop ∷ t)) ≡ got n t
-  unfolding num_r num_got
+  unfolding num_r read_got
   num-back n t i =
       rw (field-reads (dec n ++ (stop ∷ t)) t 0 n stop i d refl)
       (ap (got n) (past (dec n ++ (stop ∷ t)) (dec n) t 0 stop refl).rest)
 
   pub num_only : (s : List ℕ) (n : ℕ) (t : List ℕ) → num_r stop s ≡ got n t → Word n × (s ≡ dec n ++ (stop ∷ t))
-  unfolding num_r num_got
+  unfolding num_r read_got
   num_only s n t e = go (field_at s 0 stop) refl e
     where
-      go : (m : Num) → field_at s 0 stop ≡ m → num_got s m ≡ got n t → Word n × (s ≡ dec n ++ (stop ∷ t))
-      go (N.At v j) p q =
+      go : (m : Num) → field_at s 0 stop ≡ m → read_got s m ≡ got n t → Word n × (s ≡ dec n ++ (stop ∷ t))
+      go (Some (v, j)) p q =
           let f = field-sound s 0 stop v j p in
           subst (λ (z : ℕ). Word z × (s ≡ dec z ++ (stop ∷ t))) (got_value q) (f.word, f.text ∙ ap (λ (z : List ℕ). dec v ++ (stop ∷ z)) (got_left q))
-      go N.Bad p q = absurd (never_got q)
+      go None p q = absurd (never_got q)
 
   pub num-exact : Exact Any (num stop)
   num-exact =
@@ -61,20 +58,20 @@ module _ (stop : ℕ) (d : is_digit stop ≡ false) where
       }
 
   pub int-back : (z : ℤ) (t : List ℕ) → SignedWord z → int_r stop (signed_dec z ++ (stop ∷ t)) ≡ got z t
-  unfolding int_r int_got
+  unfolding int_r read_got
   int-back z t i =
       rw (int-reads (signed_dec z ++ (stop ∷ t)) t 0 z stop i d refl)
       (ap (got z) (past (signed_dec z ++ (stop ∷ t)) (signed_dec z) t 0 stop refl).rest)
 
   pub int_only : (s : List ℕ) (z : ℤ) (t : List ℕ) → int_r stop s ≡ got z t → SignedWord z × (s ≡ signed_dec z ++ (stop ∷ t))
-  unfolding int_r int_got
+  unfolding int_r read_got
   int_only s z t e = go (int_at s 0 stop) refl e
     where
-      go : (m : Int) → int_at s 0 stop ≡ m → int_got s m ≡ got z t → SignedWord z × (s ≡ signed_dec z ++ (stop ∷ t))
-      go (I.At v j) p q =
+      go : (m : Int) → int_at s 0 stop ≡ m → read_got s m ≡ got z t → SignedWord z × (s ≡ signed_dec z ++ (stop ∷ t))
+      go (Some (v, j)) p q =
           let f = int-sound s 0 stop v j p in
           subst (λ (y : ℤ). SignedWord y × (s ≡ signed_dec y ++ (stop ∷ t))) (got_value q) (f.word, f.text ∙ ap (λ (y : List ℕ). signed_dec v ++ (stop ∷ y)) (got_left q))
-      go I.Bad p q = absurd (never_got q)
+      go None p q = absurd (never_got q)
 
   pub int-exact : Exact Any (int stop)
   int-exact =

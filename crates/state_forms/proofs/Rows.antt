@@ -5,7 +5,6 @@ use mathlib.Core.List.{List, [], ◌∷◌, ◌++◌, append_assoc}
 use Prim.Native.Nat.{ℕ, zero, suc, ◌+◌}
 use lib.IntN.{ℤ, pos, negsuc}
 use lib.ListN.{length, replicate, length-replicate}
-use lib.Signed.{le_z}
 use native.Mathlib.Omega.{arith}
 use borrow.Author.Tests.{leb-true, not-true}
 use Rattle.words.specs.Num.{top, in_range}
@@ -14,6 +13,7 @@ use Rattle.words.specs.Lists.{All}
 use Rattle.text.specs.Words.{bytes_of, is_prefix}
 use Rattle.text.specs.Decimals.{dec, Word, is_digit}
 use Rattle.text.specs.Signs.{SignedWord}
+use Rattle.state_forms.proofs.Zeros.{zero_is}
 use Rattle.state_forms.specs.Formats.{got, word_r, num_r, lit, num, int, this, pair, after}
 use Rattle.state_forms.specs.inner.Exact.{Exact, Any}
 use Rattle.state_forms.specs.Sparse.{sparse_text, sparse_r}
@@ -44,11 +44,6 @@ pub word_of : (z : ℤ) → InR z → SignedWord z
 unfolding in_range
 word_of (pos n) e = omega (arith, leb-true n top e)
 word_of (negsuc n) e = omega (arith, leb-true (suc n) top e)
-
-zero_is : (z : ℤ) → is_zero z ≡ true → z ≡ pos 0
-unfolding is_zero
-zero_is (pos n) e = let q : n ≡ 0 = omega (arith, leb-true n 0 (and_left (le_z (pos n) (pos 0)) (le_z (pos 0) (pos n)) e)) in ap pos q
-zero_is (negsuc n) e = absurd (never (and_right (le_z (negsuc n) (pos 0)) (le_z (pos 0) (negsuc n)) e))
 
 pub cells_lawful : Lawful cell_listing InR
 unfolding is_prefix is_zero in_range

@@ -1,9 +1,5 @@
 -- Formats: what is written, and how it is read back, given as one expression. A text is a list of bytes.
-use Rattle.std.specs.Prelude.{◌≡◌, List, [], ◌∷◌, ◌++◌, Bool, true, cond, ℕ, eqb, ℤ, length, drop}
-use Rattle.text.specs.declared.decimals.Num.{Num}
-use Rattle.text.specs.declared.decimals.Num.TheVariants as N
-use Rattle.text.specs.declared.signed.Int.{Int}
-use Rattle.text.specs.declared.signed.Int.TheVariants as I
+use Rattle.std.specs.Prelude.{◌≡◌, List, [], ◌∷◌, ◌++◌, Bool, true, cond, ℕ, eqb, ℤ, length, drop, Option, None, Some}
 use Rattle.text.specs.Words.{is_prefix}
 use Rattle.text.specs.Decimals.{dec, Word, field_at}
 use Rattle.text.specs.Signs.{signed_dec, SignedWord, int_at}
@@ -31,22 +27,19 @@ word_r w s = cond (is_prefix w s) (got tt (drop (length w) s)) bad
 abbrev pub lit : List ℕ → Format (Unit {0})
 lit w = record { In = λ _. Unit {0}; write = λ _. w; read = word_r w }
 
-unfoldable pub num_got : List ℕ → Num → Got ℕ
-num_got s (N.At v j) = got v (drop j s)
-num_got s N.Bad = bad
+-- a value and the place past it, as what is left of the text
+unfoldable pub read_got : {A : Type 0} → List ℕ → Option (A × ℕ) → Got A
+read_got s (Some p) = got p.0 (drop p.1 s)
+read_got s None = bad
 
 unfoldable pub num_r : ℕ → List ℕ → Got ℕ
-num_r stop s = num_got s (field_at s 0 stop)
+num_r stop s = read_got s (field_at s 0 stop)
 
 abbrev pub num : ℕ → Format ℕ
 num stop = record { In = Word; write = λ n. dec n ++ (stop ∷ []); read = num_r stop }
 
-unfoldable pub int_got : List ℕ → Int → Got ℤ
-int_got s (I.At v j) = got v (drop j s)
-int_got s I.Bad = bad
-
 unfoldable pub int_r : ℕ → List ℕ → Got ℤ
-int_r stop s = int_got s (int_at s 0 stop)
+int_r stop s = read_got s (int_at s 0 stop)
 
 abbrev pub int : ℕ → Format ℤ
 int stop = record { In = SignedWord; write = λ z. signed_dec z ++ (stop ∷ []); read = int_r stop }

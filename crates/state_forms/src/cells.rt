@@ -1,7 +1,8 @@
 // The counters of a layer as lines.
 ghost use Rattle.std.specs.Prelude.{◌≡◌, Bool, ℕ, ◌+◌, ◌*◌, ◌<◌, length, ℤ};
+ghost use Rattle.std.specs.List.{list_all};
 ghost use Rattle.state_forms.specs.Sparse.{sparse_text};
-ghost use Rattle.state_forms.specs.Grammar.{is_zero, all_zero, cell_format, cell_listing, row_listing, rows_of};
+ghost use Rattle.state_forms.specs.Grammar.{is_zero, cell_format, cell_listing, row_listing, rows_of};
 ghost use Rattle.state_forms.specs.inner.Laying.{TextRoom, LaidText, one_text};
 
 use crate::lay::{lay_byte, lay_decimal, lay_signed, lay_word};
@@ -9,24 +10,14 @@ use crate::lay::{lay_byte, lay_decimal, lay_signed, lay_word};
 pub fn is_zero(v: i64) -> bool
     ensures { result ≡ is_zero v }
 {
-    if v <= 0 {
-        return 0 <= v;
-    }
-    false
+    v == 0
 }
 
 // Whether every counter of a row is zero.
 fn all_zero(cells: &[i64]) -> bool
-    ensures { result ≡ all_zero cells.now }
+    ensures { result ≡ list_all is_zero cells.now }
 {
-    let mut i = 0;
-    while i < cells.len() {
-        if !is_zero(cells[i]) {
-            return false;
-        }
-        i += 1;
-    }
-    true
+    cells.iter().all(|v| is_zero(*v))
 }
 
 // ` (C V)`
@@ -58,10 +49,8 @@ fn lay_cells(out: &mut [u8], at: usize, cells: &[i64]) -> usize
     ensures { LaidText out.old at (sparse_text cell_listing 0 cells.now) out.new result }
 {
     let mut p = at;
-    let mut c = 0;
-    while c < cells.len() {
-        p = lay_some(out, p, c, cells[c]);
-        c += 1;
+    for (c, v) in cells.iter().enumerate() {
+        p = lay_some(out, p, c, *v);
     }
     p
 }
@@ -96,12 +85,9 @@ pub fn lay_rows(
     ensures { LaidText out.old at (sparse_text (row_listing l cols) 0 (rows_of cols rows cells.now)) out.new result }
 {
     let mut p = at;
-    let mut r = 0;
-    while r < rows {
+    for r in 0..rows {
         let a = r * cols;
-        let b = a + cols;
-        p = lay_row(out, p, l, r, &cells[a..b]);
-        r += 1;
+        p = lay_row(out, p, l, r, &cells[a..a + cols]);
     }
     p
 }

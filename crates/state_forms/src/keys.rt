@@ -2,7 +2,7 @@
 ghost use Rattle.std.specs.Prelude.{◌≡◌, Bool, ℕ, ◌+◌, ◌*◌, ◌<◌, ◌≤◌, length, take, ℤ};
 ghost use Rattle.heap_moves.specs.Cands.{most_cands};
 ghost use Rattle.heap_moves.specs.Flat.{cands_of, cand_of};
-ghost use Rattle.state_forms.specs.Grammar.{flag_number, flag_format, key_format, keys_text, page_text};
+ghost use Rattle.state_forms.specs.Grammar.{flag_format, key_format, keys_text, page_text};
 ghost use Rattle.state_forms.specs.inner.Laying.{TextRoom, LaidText};
 
 use crate::cells::lay_rows;
@@ -39,22 +39,11 @@ fn lay_keys(
     ensures { LaidText out.old at (keys_text l (take len (cands_of entries.now counts.now))) out.new result }
 {
     let mut p = at;
-    let mut i = 0;
-    while i < len {
+    for i in 0..len {
         let item = heap_moves::item_at(entries, i);
         p = lay_key(out, p, l, item, counts[i]);
-        i += 1;
     }
     p
-}
-
-fn flag_number(f: bool) -> u64
-    ensures { result ≡ flag_number f }
-{
-    if f {
-        return 1;
-    }
-    0
 }
 
 // `(flag L F)`
@@ -64,8 +53,7 @@ fn lay_flag(out: &mut [u8], at: usize, l: usize, flag: bool) -> usize
 {
     let a = lay_word(out, at, b"(flag ");
     let b = lay_number(out, a, l as u64, b' ');
-    let n = flag_number(flag);
-    let c = lay_number(out, b, n, b')');
+    let c = lay_number(out, b, u64::from(flag), b')');
     lay_word(out, c, b"\n")
 }
 

@@ -14,7 +14,6 @@ pub fn lay_byte(out: &mut [u8], at: usize, b: u8) -> usize
 {
     if at < out.len() {
         out[at] = b;
-        return at + 1;
     }
     at + 1
 }
@@ -24,21 +23,10 @@ pub fn lay_word(out: &mut [u8], at: usize, word: &[u8]) -> usize
     ensures { LaidText out.old at word.now out.new result }
 {
     let mut p = at;
-    let mut i = 0;
-    while i < word.len() {
-        p = lay_byte(out, p, word[i]);
-        i += 1;
+    for b in word {
+        p = lay_byte(out, p, *b);
     }
     p
-}
-
-// The first n bytes of a word.
-fn lay_part(out: &mut [u8], at: usize, word: &[u8], n: usize) -> usize
-    requires n_in_bounds { n ≤ length word.now }
-    requires text_room { TextRoom at (take n word.now) }
-    ensures { LaidText out.old at (take n word.now) out.new result }
-{
-    lay_word(out, at, &word[..n])
 }
 
 pub fn lay_decimal(out: &mut [u8], at: usize, n: u64) -> usize
@@ -47,7 +35,7 @@ pub fn lay_decimal(out: &mut [u8], at: usize, n: u64) -> usize
 {
     let mut digits = [0u8; 20];
     let k = put_decimal(&mut digits, 0, n);
-    lay_part(out, at, &digits, k)
+    lay_word(out, at, &digits[..k])
 }
 
 pub fn lay_signed(out: &mut [u8], at: usize, x: i64) -> usize
@@ -56,7 +44,7 @@ pub fn lay_signed(out: &mut [u8], at: usize, x: i64) -> usize
 {
     let mut digits = [0u8; 21];
     let k = put_signed(&mut digits, 0, x);
-    lay_part(out, at, &digits, k)
+    lay_word(out, at, &digits[..k])
 }
 
 // A decimal and the byte after it.

@@ -3,7 +3,7 @@ use mathlib.Core.Path.{◌≡◌, refl, sym, ap}
 use mathlib.Core.List.{List}
 use Prim.Native.Nat.{ℕ}
 use lib.ListN.{length}
-use Rattle.state_forms.specs.Formats.{Got, got, bad}
+use Rattle.state_forms.specs.Formats.{Got, got, bad, then_read}
 use Rattle.state_lines.specs.inner.Places.{forget, how_many}
 use Rattle.state_forms.proofs.Exactness.{never_got, got_value, got_left}
 
@@ -26,3 +26,7 @@ pub known_many_bad : {A : Type 0} (g : Got (List A)) → bad ≡ how_many g → 
 unfolding how_many
 known_many_bad (got xs t) e = absurd (never_got e)
 known_many_bad bad e = refl
+
+pub stays_bad : {A B : Type 0} (g : Got A) (f : A → List ℕ → Got B) → g ≡ bad → then_read g f ≡ bad
+unfolding then_read
+stays_bad g f e = rw e

@@ -1,18 +1,18 @@
 -- The rows of a layer, one by one. Assumes nothing.
 use mathlib.Core.Path.{◌≡◌, refl, sym, ap, subst, ◌∙◌}
-use mathlib.Core.Bool.{Bool, true, false, cond, ◌&&◌}
+use mathlib.Core.Bool.{true, false, ◌&&◌}
 use mathlib.Core.List.{List, [], ◌∷◌, ◌++◌, append_assoc}
 use mathlib.Core.Logic.{◌⊎◌, inl, inr, ⊎_elim}
 use Prim.Native.Nat.{ℕ, zero, suc, ◌+◌, ◌-◌, ◌*◌, ◌≤◌, ◌<◌}
 use native.Mathlib.Omega.{arith}
 use native.Mathlib.Nat.{add-mul, mul-le-mul}
-use lib.Dec.{eqb, leb, ltb}
+use lib.Dec.{leb, ltb}
 use lib.IntN.{ℤ, pos}
 use lib.ListN.{length, replicate, length-replicate, length-append}
 use lib.Seq.{sets}
 use Rattle.text.proofs.Puts.{sets_append}
 use Rattle.text.specs.Words.{bytes_of, is_prefix}
-use Rattle.state_forms.specs.Formats.{Got, got, bad, then_read, word_r, num_r}
+use Rattle.state_forms.specs.Formats.{Got, got, bad, then_read, word_r, num_r, this}
 use Rattle.state_forms.specs.Sparse.{sparse_r}
 use Rattle.state_forms.specs.Grammar.{line_end, cell_listing, row_format, row_listing, join_rows}
 use Rattle.state_lines.specs.inner.Places.{most_side, forget, row_head_r}
@@ -72,19 +72,14 @@ module _ (l cols : ℕ) (s : List ℕ) where
       three (got r t) = refl
       three bad = refl
 
-      two : (b : Bool) (u : List ℕ) → then_read (cond b (got (tt {0}) u) bad) (λ _ w. then_read (num_r 32 w) (λ r t. last r t))
-          ≡ then_read (cond b (then_read (num_r 32 u) (λ r w. got r (32 ∷ w))) bad) (λ r t. then_read (sparse_r cell_listing (suc cols) 0 cols t) (λ xs u. then_read (word_r line_end u) (λ _ v. got (r, xs) v)))
-      two true u = three (num_r 32 u)
-      two false u = refl
+      two : (g : Got (Unit {0})) → then_read g (λ _ w. then_read (num_r 32 w) (λ r t. last r t))
+          ≡ then_read (then_read g (λ _ u. then_read (num_r 32 u) (λ r w. got r (32 ∷ w)))) (λ r t. then_read (sparse_r cell_listing (suc cols) 0 cols t) (λ xs u. then_read (word_r line_end u) (λ _ v. got (r, xs) v)))
+      two (got a u) = three (num_r 32 u)
+      two bad = refl
 
-      one : (g : Got ℕ) → then_read (then_read g (λ v t. cond (eqb v l) (got (tt {0}) t) bad)) (λ _ w. then_read (num_r 32 w) (λ r t. last r t))
-          ≡ then_read (then_read g (λ v u. cond (eqb v l) (then_read (num_r 32 u) (λ r w. got r (32 ∷ w))) bad)) (λ r t. then_read (sparse_r cell_listing (suc cols) 0 cols t) (λ xs u. then_read (word_r line_end u) (λ _ v. got (r, xs) v)))
-      one (got v t) = two (eqb v l) t
-      one bad = refl
-
-      go : (g : Got (Unit {0})) → then_read g (λ _ t. then_read (then_read (num_r 32 t) (λ v u. cond (eqb v l) (got (tt {0}) u) bad)) (λ _ w. then_read (num_r 32 w) (λ r t. last r t)))
-          ≡ then_read (then_read g (λ _ t. then_read (num_r 32 t) (λ v u. cond (eqb v l) (then_read (num_r 32 u) (λ r w. got r (32 ∷ w))) bad))) (λ r t. then_read (sparse_r cell_listing (suc cols) 0 cols t) (λ xs u. then_read (word_r line_end u) (λ _ v. got (r, xs) v)))
-      go (got a t) = one (num_r 32 t)
+      go : (g : Got (Unit {0})) → then_read g (λ _ t. then_read ((this l 32).read t) (λ _ w. then_read (num_r 32 w) (λ r t. last r t)))
+          ≡ then_read (then_read g (λ _ t. then_read ((this l 32).read t) (λ _ u. then_read (num_r 32 u) (λ r w. got r (32 ∷ w))))) (λ r t. then_read (sparse_r cell_listing (suc cols) 0 cols t) (λ xs u. then_read (word_r line_end u) (λ _ v. got (r, xs) v)))
+      go (got a t) = two ((this l 32).read t)
       go bad = refl
 
   -- a line whose number is known: its form is bad, or it has that number

@@ -1,124 +1,89 @@
 // The first lines, and the line of a flag.
 ghost use Rattle.std.specs.Prelude.{◌≡◌, ℕ, ◌<◌, length, drop};
 ghost use Rattle.state_forms.specs.Grammar.{first_format, num_line, head_format, flag_format};
-ghost use Rattle.state_lines.specs.inner.Places.{first_spot, num_spot, head_spot, flag_spot};
+ghost use Rattle.state_lines.specs.inner.Places.{first_spot, value_spot, head_spot};
 
-use text::decimals::{Num, field};
-use text::word::has_word;
+use crate::parts::{layer_at, number_at, word_at};
 
-// Heap size, rows, columns and layers, and the place past the line.
+// What the first line says.
 #[derive(Clone, Copy)]
-pub enum FirstLine {
-    At(u64, u64, u64, u64, usize),
-    Bad,
+pub struct FirstLine {
+    pub heap: u64,
+    pub rows: u64,
+    pub cols: u64,
+    pub layers: u64,
 }
 
 // `(univmon HEAP ROWS COLS LAYERS)` and a newline, at a place.
-pub fn first_at(s: &[u8], at: usize) -> FirstLine
+#[tactic(auto, unfolding(state_forms::specs::Formats::then_read, text::specs::Decimals::is_digit))]
+pub fn first_at(s: &[u8], at: usize) -> Option<(FirstLine, usize)>
     ensures { first_spot s.now result ≡ first_format.read (drop at s.now) }
 {
-    if !has_word(s, at, b"(univmon ") {
-        return FirstLine::Bad;
-    }
-    let a = field(s, at + 9, b' ');
-    let Num::At(heap, p) = a else {
-        return FirstLine::Bad;
+    let p = word_at(s, at, b"(univmon ")?;
+    let (heap, p) = number_at(s, p, b' ')?;
+    let (rows, p) = number_at(s, p, b' ')?;
+    let (cols, p) = number_at(s, p, b' ')?;
+    let (layers, p) = number_at(s, p, b')')?;
+    let end = word_at(s, p, b"\n")?;
+    let line = FirstLine {
+        heap,
+        rows,
+        cols,
+        layers,
     };
-    let b = field(s, p, b' ');
-    let Num::At(rows, q) = b else {
-        return FirstLine::Bad;
-    };
-    let d = field(s, q, b' ');
-    let Num::At(cols, t) = d else {
-        return FirstLine::Bad;
-    };
-    let e = field(s, t, b')');
-    let Num::At(layers, u) = e else {
-        return FirstLine::Bad;
-    };
-    if !has_word(s, u, b"\n") {
-        return FirstLine::Bad;
-    }
-    FirstLine::At(heap, rows, cols, layers, u + 1)
+    Some((line, end))
 }
 
 // `(WORD N)` and a newline, with a number up to a bound.
-fn line_at(s: &[u8], at: usize, word: &[u8], most: u64) -> Num
+#[tactic(auto, unfolding(state_forms::specs::Formats::then_read, text::specs::Decimals::is_digit))]
+fn line_at(s: &[u8], at: usize, word: &[u8], most: u64) -> Option<(u64, usize)>
     requires { 0 < length word.now }
-    ensures { num_spot s.now result ≡ (num_line word.now most).read (drop at s.now) }
+    ensures { value_spot s.now result ≡ (num_line word.now most).read (drop at s.now) }
 {
-    if !has_word(s, at, word) {
-        return Num::Bad;
-    }
-    let a = field(s, at + word.len(), b')');
-    let Num::At(n, p) = a else {
-        return Num::Bad;
-    };
+    let p = word_at(s, at, word)?;
+    let (n, p) = number_at(s, p, b')')?;
     if most < n {
-        return Num::Bad;
+        return None;
     }
-    if !has_word(s, p, b"\n") {
-        return Num::Bad;
-    }
-    Num::At(n, p + 1)
+    let end = word_at(s, p, b"\n")?;
+    Some((n, end))
 }
 
-// Weight, updates and mode, and the place past their lines.
+// Weight, updates and mode, as their lines say them.
 #[derive(Clone, Copy)]
-pub enum HeadLines {
-    At(u64, u64, u64, usize),
-    Bad,
+pub struct HeadLines {
+    pub weight: u64,
+    pub updates: u64,
+    pub mode: u64,
 }
 
 // `(weight W)`, `(updates U)`, `(mode M)`, at a place. The number of updates has the weight's bound.
-pub fn head_at(s: &[u8], at: usize) -> HeadLines
+#[tactic(auto, unfolding(state_forms::specs::Formats::then_read, text::specs::Decimals::is_digit))]
+pub fn head_at(s: &[u8], at: usize) -> Option<(HeadLines, usize)>
     ensures { head_spot s.now result ≡ head_format.read (drop at s.now) }
 {
-    let a = line_at(s, at, b"(weight ", words::MAX_WEIGHT);
-    let Num::At(weight, p) = a else {
-        return HeadLines::Bad;
+    let (weight, p) = line_at(s, at, b"(weight ", words::MAX_WEIGHT)?;
+    let (updates, p) = line_at(s, p, b"(updates ", words::MAX_WEIGHT)?;
+    let (mode, end) = line_at(s, p, b"(mode ", 2)?;
+    let lines = HeadLines {
+        weight,
+        updates,
+        mode,
     };
-    let b = line_at(s, p, b"(updates ", words::MAX_WEIGHT);
-    let Num::At(updates, q) = b else {
-        return HeadLines::Bad;
-    };
-    let d = line_at(s, q, b"(mode ", 2);
-    let Num::At(mode, t) = d else {
-        return HeadLines::Bad;
-    };
-    HeadLines::At(weight, updates, mode, t)
+    Some((lines, end))
 }
 
-// A layer's flag, and the place past its line.
-#[derive(Clone, Copy)]
-pub enum FlagLine {
-    At(bool, usize),
-    Bad,
-}
-
-// `(flag L F)` and a newline, at a place.
-pub fn flag_at(s: &[u8], at: usize, l: usize) -> FlagLine
-    ensures { flag_spot s.now result ≡ (flag_format l).read (drop at s.now) }
+// `(flag L F)` and a newline, at a place: a layer's flag.
+#[tactic(auto, unfolding(state_forms::specs::Formats::then_read, text::specs::Decimals::is_digit))]
+pub fn flag_at(s: &[u8], at: usize, l: usize) -> Option<(bool, usize)>
+    ensures { value_spot s.now result ≡ (flag_format l).read (drop at s.now) }
 {
-    if !has_word(s, at, b"(flag ") {
-        return FlagLine::Bad;
-    }
-    let a = field(s, at + 6, b' ');
-    let Num::At(i, p) = a else {
-        return FlagLine::Bad;
-    };
-    if i != l as u64 {
-        return FlagLine::Bad;
-    }
-    let b = field(s, p, b')');
-    let Num::At(f, q) = b else {
-        return FlagLine::Bad;
-    };
+    let p = word_at(s, at, b"(flag ")?;
+    let p = layer_at(s, p, l)?;
+    let (f, p) = number_at(s, p, b')')?;
     if 1 < f {
-        return FlagLine::Bad;
+        return None;
     }
-    if !has_word(s, q, b"\n") {
-        return FlagLine::Bad;
-    }
-    FlagLine::At(f == 1, q + 1)
+    let end = word_at(s, p, b"\n")?;
+    Some((f == 1, end))
 }

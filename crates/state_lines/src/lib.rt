@@ -7,4 +7,5 @@
 pub mod cells;
 pub mod heads;
 pub mod keys;
+mod parts;
 pub mod rows;

@@ -5,6 +5,8 @@ use mathlib.Core.List.{List, [], ◌∷◌}
 use Prim.Native.Nat.{ℕ, zero, suc, ◌+◌, ◌≤◌, ◌<◌}
 use native.Mathlib.Omega.{arith}
 use lib.IntN.{ℤ}
+use Rattle.std.specs.Prelude.{Ok, Err, Option, None, Some}
+use Rattle.std.specs.Option.{ok_or}
 use lib.ListN.{length, get_or, drop, replicate, length-drop}
 use borrow.Author.Tests.{eq-eqb, ne_eqb}
 use Rattle.words.specs.Num.{word_size}
@@ -31,8 +33,7 @@ use Rattle.state_forms.specs.Whole.{First, Others, wholly, others_r}
 use Rattle.state_lines.specs.inner.Places.{forget}
 use Rattle.state_forms.proofs.Exactness.{goes_on}
 use Rattle.state_forms.proofs.Lines.{pages_exact}
-use Rattle.state_lines.proofs.Known.{known, known_bad}
-use Rattle.state_lines.proofs.LineChain.{stays_bad}
+use Rattle.state_lines.proofs.Known.{known, known_bad, stays_bad}
 use Rattle.state_text.specs.Pages.{frame_of, shape_from, dims_of, no_page, layer_from, head_from, state_from}
 use Rattle.layout.specs.Outcomes.{left}
 use Rattle.state_text.specs.Calls.{unread, after_others, after_first, read_call}
@@ -40,6 +41,16 @@ use Rattle.state_text.proofs.PageLaws.{page_whole}
 use Rattle.state_text.proofs.Alike.{alike}
 use Rattle.state_text.proofs.Built.{pages_at, each}
 use Rattle.state_text.proofs.Restored.{small}
+
+-- ---- a place that a line was read to, or 15
+
+pub some_of : {A B : Type 0} (o : Option A) (e : B) (x : A) → Ok x ≡ ok_or o e → o ≡ Some x
+some_of None e x h = let z : ◌≡◌ {A = ℕ} 0 1 = cc in absurd (omega arith)
+some_of (Some y) e x h = cc
+
+pub none_of : {A B : Type 0} (o : Option A) (e f : B) → Err f ≡ ok_or o e → (o ≡ None) × (f ≡ e)
+none_of None e f h = (refl, cc)
+none_of (Some y) e f h = let z : ◌≡◌ {A = ℕ} 0 1 = cc in absurd (omega arith)
 
 -- ---- the other lines
 

@@ -1,4 +1,5 @@
 // The reader's call.
+ghost use Rattle.refusal.specs.Refusals.{kept, refused};
 ghost use Rattle.std.specs.Prelude.{◌≡◌, ℕ};
 ghost use Rattle.header.specs.Header.{zero_header};
 ghost use Rattle.layout.specs.Outcomes.{left};
@@ -7,19 +8,10 @@ ghost use Rattle.state_text.specs.Calls.{read_call};
 
 use crate::judge::judge_layers;
 use crate::keeping::keep_layers;
-use header::{Answered, Header, Shape, Totals};
+use header::{Header, Shape, Totals};
 use layout::lengths_match;
-use state_lines::cells::Next;
-use state_lines::heads::{FirstLine, HeadLines, first_at, head_at};
-
-fn refused(refusal: u64) -> Answered
-    ensures { result ≡ record { refusal = refusal; header = zero_header } }
-{
-    Answered {
-        refusal,
-        header: Header::zero(),
-    }
-}
+use refusal::Refusal;
+use state_lines::heads::{first_at, head_at};
 
 // A state read into the lent slices: 15 for the first line, 1 to 4 for the shape that it says, 16 for the
 // lengths of the slices, 15 for the other lines.
@@ -29,19 +21,18 @@ pub fn read_state(
     norms: &mut [u64],
     entries: &mut [u64],
     counts: &mut [i64],
-) -> Answered
-    ensures { left result.refusal (lent_out result.header counters norms entries counts)
+) -> Result<Header, Refusal>
+    ensures { left (refused result) (lent_out (kept zero_header result) counters norms entries counts)
         ≡ read_call text.now (lent_in zero_header counters norms entries counts) }
 {
-    let x = first_at(text, 0);
-    let FirstLine::At(heap, rows, cols, layers, p) = x else {
-        return refused(15);
-    };
-    let shape = Shape::one_tier(heap as usize, rows as usize, cols as usize, layers as usize);
-    let n = shape.refusal();
-    if n != 0 {
-        return refused(n);
-    }
+    let (first, p) = first_at(text, 0).ok_or(Refusal::NotAText)?;
+    let shape = Shape::one_tier(
+        first.heap as usize,
+        first.rows as usize,
+        first.cols as usize,
+        first.layers as usize,
+    );
+    shape.check()?;
     if !lengths_match(
         shape,
         counters.len(),
@@ -49,25 +40,19 @@ pub fn read_state(
         entries.len(),
         counts.len(),
     ) {
-        return refused(16);
+        return Err(Refusal::TooShort);
     }
-    let y = head_at(text, p);
-    let HeadLines::At(weight, updates, mode, q) = y else {
-        return refused(15);
-    };
-    let z = judge_layers(text, q, shape);
-    let Next::At(end) = z else {
-        return refused(15);
-    };
+    let (head, q) = head_at(text, p).ok_or(Refusal::NotAText)?;
+    let end = judge_layers(text, q, shape).ok_or(Refusal::NotAText)?;
     if end < text.len() {
-        return refused(15);
+        return Err(Refusal::NotAText);
     }
-    let m = header::mode_of(mode);
+    let m = header::mode_of(head.mode);
     let h = Header::fresh(shape)
-        .with_totals(Totals { weight, updates })
+        .with_totals(Totals {
+            weight: head.weight,
+            updates: head.updates,
+        })
         .with_mode(m);
-    Answered {
-        refusal: 0,
-        header: keep_layers(text, q, h, counters, norms, entries, counts),
-    }
+    Ok(keep_layers(text, q, h, counters, norms, entries, counts))
 }

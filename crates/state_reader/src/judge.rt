@@ -6,10 +6,9 @@ ghost use Rattle.state_lines.specs.inner.Places.{spot, forget};
 ghost use Rattle.state_text.specs.Pages.{dims_of, frame_of};
 ghost use Rattle.state_reader.specs.inner.Paged.{Small};
 
-use crate::page::{PageLines, read_page};
+use crate::page::read_page;
 use header::Shape;
 use layer::Dims;
-use state_lines::cells::Next;
 
 // One layer, in as much of the space as it has candidates.
 fn judge_page(
@@ -19,7 +18,7 @@ fn judge_page(
     dims: Dims,
     words: &mut [u64],
     seats: &mut [i64],
-) -> Next
+) -> Option<usize>
     requires small { Small dims }
     requires size_in_bounds { (4 * dims.size ≤ length words.old) × (dims.size ≤ length seats.old) }
     ensures { spot s.now result ≡ forget ((page_format (frame_of dims) l).read (drop at s.now)) }
@@ -27,7 +26,7 @@ fn judge_page(
     let mut nothing = [0i64; 1];
     let n = dims.size;
     let e = 4 * n;
-    let x = read_page(
+    let (_, end) = read_page(
         s,
         at,
         l,
@@ -35,15 +34,12 @@ fn judge_page(
         &mut nothing,
         &mut words[..e],
         &mut seats[..n],
-    );
-    let PageLines::At(_, _, p) = x else {
-        return Next::Bad;
-    };
-    Next::At(p)
+    )?;
+    Some(end)
 }
 
 // Every layer.
-pub fn judge_layers(s: &[u8], at: usize, shape: Shape) -> Next
+pub fn judge_layers(s: &[u8], at: usize, shape: Shape) -> Option<usize>
     requires { Accepted shape }
     ensures { spot s.now result ≡ forget (pages_r (frame_of (dims_of shape)) 0 shape.layers (drop at s.now)) }
 {
@@ -54,16 +50,9 @@ pub fn judge_layers(s: &[u8], at: usize, shape: Shape) -> Next
         cols: shape.mouse_cols,
         size: shape.heap_size,
     };
-    let layers = shape.layers;
     let mut p = at;
-    let mut l = 0;
-    while l < layers {
-        let x = judge_page(s, p, l, dims, &mut words, &mut seats);
-        let Next::At(n) = x else {
-            return Next::Bad;
-        };
-        p = n;
-        l += 1;
+    for l in 0..shape.layers {
+        p = judge_page(s, p, l, dims, &mut words, &mut seats)?;
     }
-    Next::At(p)
+    Some(p)
 }

@@ -10,7 +10,7 @@ ghost use Rattle.state_forms.specs.Grammar.{Page, page_format, pages_r};
 ghost use Rattle.state_text.specs.Pages.{dims_of, frame_of, layer_from, no_page};
 ghost use Rattle.state_reader.specs.inner.Paged.{Legible};
 
-use crate::page::{PageLines, fill_page};
+use crate::page::fill_page;
 use header::Header;
 use layout::{dims, span_of};
 
@@ -45,14 +45,14 @@ fn keep_layer(
     let shape = h.shape;
     let span = span_of(shape, l);
     let d = dims(shape, l);
-    let ca = span.cells;
-    let ce = span.cells_end;
-    let na = span.norms;
-    let ne = span.norms_end;
-    let ea = span.words;
-    let ee = span.words_end;
-    let ta = span.seats;
-    let te = span.seats_end;
+    let ca = span.cells.start;
+    let ce = span.cells.end;
+    let na = span.norms.start;
+    let ne = span.norms.end;
+    let ea = span.words.start;
+    let ee = span.words.end;
+    let ta = span.seats.start;
+    let te = span.seats.end;
     let x = fill_page(
         s,
         at,
@@ -63,7 +63,7 @@ fn keep_layer(
         &mut entries[ea..ee],
         &mut counts[ta..te],
     );
-    let PageLines::At(flag, len, p) = x else {
+    let Some(((flag, len), p)) = x else {
         return Kept { header: h, at };
     };
     Kept {
@@ -90,15 +90,12 @@ pub fn keep_layers(
         ≡ over_layers (λ l y. layer_from (dims_of h.shape) (get_or ps l no_page)) h.shape.layers 0 (view (lent_in h counters norms entries counts)) }
     ensures standing_2 { Standing (lent_out result counters norms entries counts) }
 {
-    let layers = h.shape.layers;
     let mut header = h;
     let mut p = at;
-    let mut l = 0;
-    while l < layers {
+    for l in 0..h.shape.layers {
         let k = keep_layer(s, p, header, counters, norms, entries, counts, l);
         header = k.header;
         p = k.at;
-        l += 1;
     }
     header
 }

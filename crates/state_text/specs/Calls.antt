@@ -1,5 +1,5 @@
 -- The two calls: writing a state, and reading one.
-use Rattle.std.specs.Prelude.{ℕ, Bool, cond, not, ◌&&◌, List, length, eqb, ltb}
+use Rattle.std.specs.Prelude.{ℕ, Bool, cond, not, ◌&&◌, List, length, eqb, ltb, Result}
 use Rattle.std.proofs.lemmas.List.Edits.{sets}
 use Rattle.header.specs.declared.Shape.{Shape}
 use Rattle.header.specs.Shape.{shape_refusal}
@@ -11,10 +11,19 @@ use Rattle.state_check.specs.Check.{state_ok}
 use Rattle.state_forms.specs.Formats.{Got, got, bad}
 use Rattle.state_forms.specs.Grammar.{first_format}
 use Rattle.state_forms.specs.Whole.{First, Others, others_r}
-use Rattle.state_text.specs.declared.write.Written.{Written}
+use Rattle.refusal.specs.declared.Refusal.{Refusal}
+use Rattle.refusal.specs.Refusals.{refused, kept}
 use Rattle.state_text.specs.Pages.{frame_of, dims_of, shape_from, state_from, text_of}
 
 -- ---- "The writer refuses a state that fails the check with 9. The writer answers the number of bytes written; bytes past them remain."
+
+-- a refusal's number, 0 for none, and the number of bytes
+pub record Written : Type 0 where
+  pub refusal : ℕ
+  pub bytes : ℕ
+
+abbrev pub written_by : Result ℕ Refusal → Written
+written_by r = record { refusal = refused r; bytes = kept 0 r }
 
 -- the answer, and the space that was lent
 pub record Copied : Type 0 where

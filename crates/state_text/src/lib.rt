@@ -4,4 +4,4 @@
 
 mod write;
 
-pub use write::{Written, write_state};
+pub use write::write_state;

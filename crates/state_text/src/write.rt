@@ -1,16 +1,19 @@
 // A state's text, laid from the first line on.
-ghost use Rattle.std.specs.Prelude.{◌≡◌, ℕ, ◌+◌, ◌<◌};
+ghost use Rattle.std.specs.Prelude.{◌≡◌, ℕ, ◌*◌, length};
 ghost use Rattle.header.specs.OneTier.{OneTiered};
-ghost use Rattle.layout.specs.State.{layer_at};
+ghost use Rattle.layer.specs.inner.Needs.{Housed};
 ghost use Rattle.layout.specs.Slices.{view, lent};
 ghost use Rattle.layout.specs.inner.Needs.{Standing};
-ghost use Rattle.layout.specs.Lending.{lent_now};
+ghost use Rattle.layout.specs.Lending.{lent_read};
+ghost use Rattle.layout.specs.inner.Lending.{layer_read};
 ghost use Rattle.state_forms.specs.Grammar.{first_format, num_line, head_format, page_format, pages_text};
 ghost use Rattle.state_forms.specs.inner.Laying.{TextRoom, LaidText};
 ghost use Rattle.state_text.specs.Pages.{first_of, dims_of, frame_of, page_of, pages_of, text_of};
-ghost use Rattle.state_text.specs.Calls.{copied, write_call};
+ghost use Rattle.state_text.specs.Calls.{copied, write_call, written_by};
 
 use header::{Header, Shape, Totals};
+use layout::{LentLayer, LentState};
+use refusal::Refusal;
 use state_forms::keys::lay_page;
 use state_forms::lay::{lay_number, lay_word};
 
@@ -47,96 +50,59 @@ fn lay_head(out: &mut [u8], at: usize, totals: Totals, mode: u64) -> usize
     lay_line(out, b, b"(mode ", mode)
 }
 
-// Layer l of a state.
-fn lay_layer(
-    out: &mut [u8],
-    at: usize,
-    header: Header,
-    counters: &[i64],
-    norms: &[u64],
-    entries: &[u64],
-    counts: &[i64],
-    l: usize,
-) -> usize
-    requires one_tiered { OneTiered header.shape }
-    requires standing { Standing (lent_now header counters norms entries counts) }
-    requires l_lt_layers { l < header.shape.layers }
-    requires text_room { TextRoom at ((page_format (frame_of (dims_of header.shape)) l).write (page_of (dims_of header.shape) (layer_at (view (lent_now header counters norms entries counts)) l))) }
+// One layer: the page of number l.
+fn lay_layer(out: &mut [u8], at: usize, layer: LentLayer, l: usize) -> usize
+    requires housed { Housed layer.dims (length layer.cells.now) (length layer.norms.now) (length layer.counts.now) layer.len }
+    requires entries_len { length layer.entries.now ≡ 4 * layer.dims.size }
+    requires text_room { TextRoom at ((page_format (frame_of layer.dims) l).write (page_of layer.dims (layer_read layer))) }
     ensures { LaidText out.old at
-        ((page_format (frame_of (dims_of header.shape)) l).write (page_of (dims_of header.shape) (layer_at (view (lent header counters.now norms.now entries.now counts.now)) l)))
+        ((page_format (frame_of layer.entry.dims) l).write (page_of layer.entry.dims (layer_read layer.entry)))
         out.new result }
 {
-    let shape = header.shape;
-    let lens = header.lens;
-    let flags = header.flags;
+    let dims = layer.dims;
     lay_page(
         out,
         at,
         l,
-        flags[l],
-        shape.mouse_rows,
-        shape.mouse_cols,
-        layout::cells_at(shape, l, counters),
-        lens[l],
-        layout::words_at(shape, l, entries),
-        layout::seats_at(shape, l, counts),
+        layer.flag,
+        dims.rows,
+        dims.cols,
+        layer.cells,
+        layer.len,
+        layer.entries,
+        layer.counts,
     )
 }
 
 // Every layer.
-fn lay_layers(
-    out: &mut [u8],
-    at: usize,
-    header: Header,
-    counters: &[i64],
-    norms: &[u64],
-    entries: &[u64],
-    counts: &[i64],
-) -> usize
-    requires one_tiered { OneTiered header.shape }
-    requires standing { Standing (lent_now header counters norms entries counts) }
-    requires text_room { TextRoom at (pages_text (frame_of (dims_of header.shape)) 0 (pages_of (view (lent_now header counters norms entries counts)) header.shape.layers 0)) }
+fn lay_layers(out: &mut [u8], at: usize, state: LentState) -> usize
+    requires one_tiered { OneTiered state.header.now.shape }
+    requires standing { Standing (lent_read state) }
+    requires text_room { TextRoom at (pages_text (frame_of (dims_of state.header.now.shape)) 0 (pages_of (view (lent_read state)) state.header.now.shape.layers 0)) }
     ensures { LaidText out.old at
-        (pages_text (frame_of (dims_of header.shape)) 0 (pages_of (view (lent header counters.now norms.now entries.now counts.now)) header.shape.layers 0))
+        (pages_text (frame_of (dims_of state.entry.header.now.shape)) 0 (pages_of (view (lent_read state.entry)) state.entry.header.now.shape.layers 0))
         out.new result }
 {
-    let layers = header.shape.layers;
     let mut p = at;
-    let mut l = 0;
-    while l < layers {
-        p = lay_layer(out, p, header, counters, norms, entries, counts, l);
-        l += 1;
+    for l in 0..state.header.shape.layers {
+        p = lay_layer(out, p, state.layer(l), l);
     }
     p
 }
 
 // The whole text, from the slice's start on.
-fn lay_state(
-    out: &mut [u8],
-    header: Header,
-    counters: &[i64],
-    norms: &[u64],
-    entries: &[u64],
-    counts: &[i64],
-) -> usize
-    requires one_tiered { OneTiered header.shape }
-    requires standing { Standing (lent_now header counters norms entries counts) }
-    requires text_room { TextRoom 0 (text_of (view (lent_now header counters norms entries counts))) }
-    ensures { LaidText out.old 0 (text_of (view (lent header counters.now norms.now entries.now counts.now))) out.new result }
+fn lay_state(out: &mut [u8], state: LentState) -> usize
+    requires one_tiered { OneTiered state.header.now.shape }
+    requires standing { Standing (lent_read state) }
+    requires text_room { TextRoom 0 (text_of (view (lent_read state))) }
+    ensures { LaidText out.old 0 (text_of (view (lent_read state.entry))) out.new result }
 {
-    let shape = header.shape;
-    let mode = header.mode;
+    let shape = state.header.shape;
+    let mode = state.header.mode;
     let a = lay_first(out, 0, shape);
     let m = header::mode_number(mode);
-    let b = lay_head(out, a, header.totals, m);
-    lay_layers(out, b, header, counters, norms, entries, counts)
-}
-
-// The refusal's number, 0 for none, and the number of bytes written.
-#[derive(Clone, Copy)]
-pub struct Written {
-    pub refusal: u64,
-    pub bytes: usize,
+    let b = lay_head(out, a, state.header.totals, m);
+    lay_layers(out, b, state)
 }
 
 // 9 for a state that fails the check or has two tiers, 16 for a space that is too short; else the text at
@@ -148,29 +114,26 @@ pub fn write_state(
     entries: &[u64],
     counts: &[i64],
     out: &mut [u8],
-) -> Written
-    ensures { copied result out.new ≡ write_call (lent header counters.now norms.now entries.now counts.now) out.old }
+) -> Result<usize, Refusal>
+    ensures { copied (written_by result) out.new ≡ write_call (lent header counters.now norms.now entries.now counts.now) out.old }
 {
     if !state_check::check_state(header, counters, norms, entries, counts) {
-        return Written {
-            refusal: 9,
-            bytes: 0,
-        };
+        return Err(Refusal::OutOfRange);
     }
     if !header.shape.is_one_tier() {
-        return Written {
-            refusal: 9,
-            bytes: 0,
-        };
+        return Err(Refusal::OutOfRange);
     }
     let mut nothing = [0u8; 1];
-    let n = lay_state(&mut nothing, header, counters, norms, entries, counts);
+    let state = LentState {
+        header: &header,
+        counters,
+        norms,
+        entries,
+        counts,
+    };
+    let n = lay_state(&mut nothing, state);
     if out.len() < n {
-        return Written {
-            refusal: 16,
-            bytes: 0,
-        };
+        return Err(Refusal::TooShort);
     }
-    let bytes = lay_state(out, header, counters, norms, entries, counts);
-    Written { refusal: 0, bytes }
+    Ok(lay_state(out, state))
 }

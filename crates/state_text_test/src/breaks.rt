@@ -24,15 +24,11 @@ impl Sums {
     }
 
     fn with(mut self, n: u64) -> Self {
-        if n == 0 {
-            self.refused = std::num::wrapping_add_u64(self.refused, 1);
-            return self;
+        match n {
+            0 => self.refused = self.refused.wrapping_add(1),
+            1 => self.same = self.same.wrapping_add(1),
+            _ => self.other = self.other.wrapping_add(1),
         }
-        if n == 1 {
-            self.same = std::num::wrapping_add_u64(self.same, 1);
-            return self;
-        }
-        self.other = std::num::wrapping_add_u64(self.other, 1);
         self
     }
 }
@@ -89,10 +85,8 @@ fn try_broken(output: Stdout, lens: u64, text: &[u8], way: Way, k: usize) -> io:
         return Ok(2);
     }
     let mut broken = [0u8; LONGEST];
-    let mut i = 0;
-    while i < n {
-        broken[i] = byte_of(text, way, k, i);
-        i += 1;
+    for (i, b) in broken[..n].iter_mut().enumerate() {
+        *b = byte_of(text, way, k, i);
     }
     try_text(output, lens, &broken[..n], false)
 }
@@ -106,10 +100,8 @@ fn break_places(
     before: Sums,
 ) -> io::Result<Sums> {
     let mut all = before;
-    let mut k = 0;
-    while k < text.len() {
+    for k in 0..text.len() {
         all = all.with(try_broken(output, lens, text, way, k)?);
-        k += 1;
     }
     Ok(all)
 }
@@ -117,10 +109,8 @@ fn break_places(
 // Every byte at every place.
 fn change_places(output: Stdout, lens: u64, text: &[u8]) -> io::Result<Sums> {
     let mut all = Sums::none();
-    let mut b: u64 = 0;
-    while b < 256 {
+    for b in 0..256u64 {
         all = break_places(output, lens, text, Way::Changed(b as u8), all)?;
-        b += 1;
     }
     Ok(all)
 }

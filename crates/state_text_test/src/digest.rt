@@ -13,13 +13,6 @@ const LENS: usize = FLAGS + Shape::MAX_LAYERS;
 
 const HEAD_WORDS: usize = LENS + Shape::MAX_LAYERS;
 
-pub fn bit_of(b: bool) -> u64 {
-    if b {
-        return 1;
-    }
-    0
-}
-
 // The words of a header.
 fn words_of(h: Header) -> [u64; HEAD_WORDS] {
     let lens = h.lens;
@@ -33,44 +26,25 @@ fn words_of(h: Header) -> [u64; HEAD_WORDS] {
     words[WEIGHT] = h.totals.weight;
     words[UPDATES] = h.totals.updates;
     words[MODE] = header::mode_number(mode);
-    let mut l = 0;
-    while l < Shape::MAX_LAYERS {
-        words[l + FLAGS] = bit_of(flags[l]);
+    for l in 0..Shape::MAX_LAYERS {
+        words[l + FLAGS] = u64::from(flags[l]);
         words[l + LENS] = lens[l] as u64;
-        l += 1;
     }
     words
 }
 
 fn of_words(start: u64, xs: &[u64]) -> u64 {
-    let mut d = start;
-    let mut i = 0;
-    while i < xs.len() {
-        d = vectors::mixed(d, xs[i]);
-        i += 1;
-    }
-    d
+    xs.iter().fold(start, |d, x| vectors::mixed(d, *x))
 }
 
 fn of_signed(start: u64, xs: &[i64]) -> u64 {
-    let mut d = start;
-    let mut i = 0;
-    while i < xs.len() {
-        d = vectors::mixed(d, vectors::unsigned(xs[i]));
-        i += 1;
-    }
-    d
+    xs.iter()
+        .fold(start, |d, x| vectors::mixed(d, vectors::unsigned(*x)))
 }
 
 // The same for n times one word.
 pub fn repeated(word: u64, n: usize) -> u64 {
-    let mut d = 0;
-    let mut i = 0;
-    while i < n {
-        d = vectors::mixed(d, word);
-        i += 1;
-    }
-    d
+    (0..n).fold(0, |d, _| vectors::mixed(d, word))
 }
 
 pub fn whole(h: Header, counters: &[i64], norms: &[u64], entries: &[u64], counts: &[i64]) -> u64 {

@@ -15,24 +15,18 @@ use std::io::{Read, Stdin, Stdout};
 
 const HEAD_BYTES: usize = 2 * 17;
 
-// The lengths of the slices as one word, and the number of bytes of a text that was read.
-#[derive(Drop)]
-enum Case {
-    Text(u64, usize),
-    End,
-}
-
-// Reads a case, its text to the front of `text`.
-fn next(mut input: Stdin, text: &mut [u8]) -> Case {
+// Reads a case, if there is one, its text to the front of `text`: the lengths of the slices as one word, and the number
+// of bytes of the text.
+fn next(mut input: Stdin, text: &mut [u8]) -> Option<(u64, usize)> {
     let mut head = [0u8; HEAD_BYTES];
     if !vectors::read(input, &mut head, 2) {
-        return Case::End;
+        return None;
     }
     let n = least(vectors::word(&head, 1), text.len());
     if input.read_exact(&mut text[..n]).is_err() {
-        return Case::End;
+        return None;
     }
-    Case::Text(vectors::word(&head, 0), n)
+    Some((vectors::word(&head, 0), n))
 }
 
 // Tries the first n bytes, aloud, and breaks them if they are the first text.
@@ -49,15 +43,12 @@ fn turn(output: Stdout, lens: u64, text: &[u8], n: usize, first: bool) -> io::Re
 
 fn run(input: Stdin, output: Stdout, text: &mut [u8]) -> io::Result<()> {
     let mut first = true;
-    let mut turns: u64 = 1000000;
-    while 0 < turns {
-        let x = next(input, text);
-        let Case::Text(lens, n) = x else {
+    for _ in 0..1000000 {
+        let Some((lens, n)) = next(input, text) else {
             return Ok(());
         };
         turn(output, lens, &*text, n, first)?;
         first = false;
-        turns -= 1;
     }
     Ok(())
 }

@@ -1,8 +1,9 @@
 // One text: read into slices that held something else, and written again.
 ghost use Rattle.std.specs.Prelude.{◌≤◌};
 
-use crate::digest::{bit_of, repeated, whole};
-use header::{Answered, Header, Shape, Totals};
+use crate::digest::{repeated, whole};
+use header::{Header, Shape, Totals};
+use refusal::{Refusal, number_in};
 use state_reader::read_state;
 use state_text::write_state;
 use std::io;
@@ -28,19 +29,12 @@ const MARK: u8 = b'#';
 pub fn least(n: u64, most: usize) -> usize
     ensures { result ≤ most }
 {
-    let k = n as usize;
-    if k < most {
-        return k;
-    }
-    most
+    most.min(n as usize)
 }
 
 // What has to stand at place i of a space that has the first n bytes of a text.
 fn due(text: &[u8], n: usize, i: usize) -> u8 {
-    if n <= i {
-        return MARK;
-    }
-    if text.len() <= i {
+    if n <= i || text.len() <= i {
         return MARK;
     }
     text[i]
@@ -48,14 +42,7 @@ fn due(text: &[u8], n: usize, i: usize) -> u8 {
 
 // Whether the space has the first n bytes of the text, and is as it was behind them.
 fn holds(out: &[u8], text: &[u8], n: usize) -> bool {
-    let mut i = 0;
-    while i < out.len() {
-        if out[i] != due(text, n, i) {
-            return false;
-        }
-        i += 1;
-    }
-    true
+    out.iter().enumerate().all(|(i, b)| *b == due(text, n, i))
 }
 
 // What the writer answered, and whether the space then holds just so many bytes of the text.
@@ -79,9 +66,9 @@ fn write_in(
     let m = least(n as u64, LONGEST);
     let mut out = [MARK; LONGEST];
     let w = write_state(h, counters, norms, entries, counts, &mut out[..m]);
-    let bytes = w.bytes;
+    let bytes = w.unwrap_or(0);
     Answer {
-        refusal: w.refusal,
+        refusal: number_in(&w),
         bytes,
         held: holds(&out, text, bytes),
     }
@@ -90,7 +77,7 @@ fn write_in(
 fn say(output: Stdout, a: Answer) -> io::Result<()> {
     let refusal = a.refusal;
     let bytes = a.bytes;
-    let held = bit_of(a.held);
+    let held = u64::from(a.held);
     print!(output; " {refusal} {bytes} {held}")
 }
 
@@ -108,7 +95,7 @@ fn say_accepted(
 ) -> io::Result<()> {
     print!(output; "0 {digest}")?;
     let n = text.len();
-    let less = least(std::num::wrapping_sub_u64(n as u64, 1), n);
+    let less = least((n as u64).wrapping_sub(1), n);
     say(
         output,
         write_in(h, counters, norms, entries, counts, text, less),
@@ -143,19 +130,17 @@ fn accepted(
 ) -> u64 {
     let n = text.len();
     let a = write_in(h, counters, norms, entries, counts, text, n);
-    if a.refusal != 0 {
-        return 2;
+    if a.refusal == 0 && a.bytes == n && a.held {
+        1
+    } else {
+        2
     }
-    if a.bytes != n {
-        return 2;
-    }
-    if a.held { 1 } else { 2 }
 }
 
-// A refused text: 0 where the header is zero and the slices are as they were, else 2.
+// A refused text: 0 where the slices are as they were, else 2.
 fn refused(output: Stdout, n: u64, kept: bool, aloud: bool) -> io::Result<u64> {
     if aloud {
-        let bit = bit_of(kept);
+        let bit = u64::from(kept);
         println!(output; "{n} {bit}")?;
     }
     if kept {
@@ -167,7 +152,7 @@ fn refused(output: Stdout, n: u64, kept: bool, aloud: bool) -> io::Result<u64> {
 // What was read, with the slices that it was read into; before, their digest with a header of zeros was `was`.
 fn judge(
     output: Stdout,
-    r: Answered,
+    r: Result<Header, Refusal>,
     counters: &[i64],
     norms: &[u64],
     entries: &[u64],
@@ -176,10 +161,10 @@ fn judge(
     was: u64,
     aloud: bool,
 ) -> io::Result<u64> {
-    let h = r.header;
+    let h = r.unwrap_or(Header::zero());
     let is = whole(h, counters, norms, entries, counts);
-    if r.refusal != 0 {
-        return refused(output, r.refusal, is == was, aloud);
+    if let Err(refusal) = r {
+        return refused(output, refusal.number(), is == was, aloud);
     }
     if aloud {
         say_accepted(output, is, h, counters, norms, entries, counts, text)?;

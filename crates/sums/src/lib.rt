@@ -55,10 +55,7 @@ pub fn factor_of(bottom: u64, bit: u32) -> f64
 pub fn counts_at(every: bool, threshold: i64, count: i64) -> bool
     ensures { result ≡ counted every threshold count }
 {
-    if every {
-        return true;
-    }
-    threshold < count
+    every || threshold < count
 }
 
 // The sum so far, with one candidate more.
@@ -84,10 +81,8 @@ pub fn layer_sum(bottoms: &[u64], counts: &[i64], n: usize, rule: Rule) -> f64
     ensures { result ≡ sum_over rule plus_zero (entries_in (space [] bottoms.now counts.now) 0 n) }
 {
     let mut acc = 0.0;
-    let mut i = 0;
-    while i < n {
+    for i in 0..n {
         acc = add_term(acc, rule, bottoms[i], counts[i]);
-        i += 1;
     }
     acc
 }
@@ -96,8 +91,5 @@ pub fn layer_sum(bottoms: &[u64], counts: &[i64], n: usize, rule: Rule) -> f64
 pub fn join(last: bool, below: f64, own: f64) -> f64
     ensures { result ≡ joined_sums last below own }
 {
-    if last {
-        return own;
-    }
-    2.0 * below + own
+    if last { own } else { 2.0 * below + own }
 }

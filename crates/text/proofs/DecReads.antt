@@ -3,12 +3,12 @@ use Prim.Native.Nat.{ℕ, zero, suc, ◌+◌, ◌-◌, ◌*◌, ◌/◌, ◌%◌
 use mathlib.Core.Path.{◌≡◌, refl, ap, ◌∙◌}
 use mathlib.Core.Bool.{Bool, true, false}
 use mathlib.Core.List.{List, [], ◌∷◌, ◌++◌, append_assoc}
+use Rattle.std.specs.Prelude.{Some}
 use lib.ListN.{length, get_or, drop, length-append}
 use lib.Dec.{eqb, ltb}
 use native.Mathlib.Omega.{arith}
 use native.Mathlib.Numerals.{add-one}
 use borrow.Author.Tests.{eq-eqb, ne_eqb, le-ltb, le-leb, lt-leb, ltb-true, ltb-false, eqb-true, eqb-false}
-use Rattle.text.specs.declared.decimals.Num.TheVariants.{At}
 use Rattle.text.specs.Decimals.{is_digit, num_from, dec_from, stopped, field_at, dec, Word}
 use Rattle.text.proofs.DecTexts.{dec-small, dec-step, dec-head}
 use Rattle.text.proofs.Spots.{past}
@@ -52,7 +52,7 @@ abbrev pub Ends : List ℕ → Type 0
 Ends [] = Unit {0}
 Ends (b ∷ bs) = is_digit b ≡ false
 
-num-stops : (n i : ℕ) (t : List ℕ) → Ends t → num_from n i t ≡ At n i
+num-stops : (n i : ℕ) (t : List ℕ) → Ends t → num_from n i t ≡ Some (n, i)
 unfolding num_from
 num-stops n i [] e = refl
 num-stops n i (b ∷ t) e = rw e
@@ -61,7 +61,7 @@ dec_nonzero : (i d : ℕ) (t : List ℕ) → 1 ≤ d → d < 10 → dec_from i (
 unfolding dec_from
 dec_nonzero i d t l h = rw (ne_eqb (48 + d) 48 (λ e. omega (arith, e)), digit_yes d h)
 
-dec-zero : (i : ℕ) (t : List ℕ) → dec_from i (48 ∷ t) ≡ At 0 (suc i)
+dec-zero : (i : ℕ) (t : List ℕ) → dec_from i (48 ∷ t) ≡ Some (0, suc i)
 unfolding dec_from
 dec-zero i t = refl
 
@@ -70,10 +70,10 @@ pos_of zero h = absurd (h refl)
 pos_of (suc n) h = omega arith
 
 -- a decimal, at the end of the text or before a byte that is no digit
-pub dec-reads : (n i : ℕ) (t : List ℕ) → Word n → Ends t → dec_from i (dec n ++ t) ≡ At n (i + length (dec n))
+pub dec-reads : (n i : ℕ) (t : List ℕ) → Word n → Ends t → dec_from i (dec n ++ t) ≡ Some (n, i + length (dec n))
 dec-reads n i t k e = go (eqb n 0) refl
   where
-    go : (b : Bool) → eqb n 0 ≡ b → dec_from i (dec n ++ t) ≡ At n (i + length (dec n))
+    go : (b : Bool) → eqb n 0 ≡ b → dec_from i (dec n ++ t) ≡ Some (n, i + length (dec n))
     go true q =
         let z : n ≡ 0 = eqb-true n 0 q in
         rw (z, dec-small 0 (omega arith), add-one) (dec-zero i t)
@@ -83,12 +83,12 @@ dec-reads n i t k e = go (eqb n 0) refl
         let a : dec_from i (dec n ++ t) ≡ num_from 0 i (dec n ++ t) = rw hd.is (dec_nonzero i hd.first (hd.rest ++ t) o hd.high) in
         a ∙ num-dec n n i t (omega arith) k ∙ num-stops n (i + length (dec n)) t e
 
-given : (s : List ℕ) (i n j stop : ℕ) → dec_from i (drop i s) ≡ At n j → j < length s → get_or s j 0 ≡ stop → field_at s i stop ≡ At n (suc j)
+given : (s : List ℕ) (i n j stop : ℕ) → dec_from i (drop i s) ≡ Some (n, j) → j < length s → get_or s j 0 ≡ stop → field_at s i stop ≡ Some (n, suc j)
 unfolding field_at stopped
 given s i n j stop d l g = rw (d, lt-leb (length s) j l, eq-eqb (get_or s j 0) stop g)
 
 -- a decimal with the byte stop after it
-pub field-reads : (s t : List ℕ) (i n stop : ℕ) → Word n → is_digit stop ≡ false → drop i s ≡ dec n ++ (stop ∷ t) → field_at s i stop ≡ At n (suc (i + length (dec n)))
+pub field-reads : (s t : List ℕ) (i n stop : ℕ) → Word n → is_digit stop ≡ false → drop i s ≡ dec n ++ (stop ∷ t) → field_at s i stop ≡ Some (n, suc (i + length (dec n)))
 field-reads s t i n stop k e w =
     let p = past s (dec n) t i stop w in
     given s i n (i + length (dec n)) stop (ap (dec_from i) w ∙ dec-reads n i (stop ∷ t) k e) p.inside p.byte

@@ -1,9 +1,9 @@
 -- Signed decimals as texts, and signed numbers in 64 bits. Assumes nothing.
-use Prim.Native.Nat.{ℕ, zero, suc, ◌^◌, ◌≤◌, ◌<◌}
-use mathlib.Core.Path.{◌≡◌, refl, sym, ap}
+use Prim.Native.Nat.{ℕ, suc, ◌^◌, ◌≤◌, ◌<◌}
+use mathlib.Core.Path.{◌≡◌, refl, sym}
 use mathlib.Core.Bool.{true, false}
 use mathlib.Core.List.{◌∷◌}
-use lib.IntN.{ℤ, pos, negsuc, nat_abs, ◌-ℤ◌}
+use lib.IntN.{ℤ, pos, negsuc, nat_abs}
 use lib.ListN.{length}
 use lib.Signed.{lt_z}
 use native.Mathlib.Omega.{arith}
@@ -22,10 +22,6 @@ back-neg m h = to_z-of_z {w = w64} {z = negsuc m} (record { sfits = h })
 
 pub back_pos : (m : ℕ) → m < 2 ^ 63 → to_z w64 (of_z w64 (pos m)) ≡ pos m
 back_pos m h = to_z-of_z {w = w64} {z = pos m} (record { sfits = h })
-
-pub minus_one : (m : ℕ) → negsuc 0 -ℤ pos m ≡ negsuc m
-minus_one zero = refl
-minus_one (suc m) = ap negsuc (omega arith)
 
 pub below : (z : ℤ) → lt_z z (pos 0) ≡ true → signed_dec z ≡ 45 ∷ dec (nat_abs z)
 unfolding signed_dec

@@ -1,6 +1,6 @@
+pub mod Spots
 pub mod Walks
 pub mod Puts
-pub mod Spots
 pub mod DecTexts
 pub mod DecReads
 pub mod DecSound

@@ -1,9 +1,12 @@
 -- Texts put into a list from a place on, one after another. Assumes nothing.
-use Prim.Native.Nat.{ℕ, zero, suc, ◌+◌, ◌-◌, ◌*◌, ◌/◌, ◌%◌, ◌^◌, ◌<◌}
+use Prim.Native.Nat.{ℕ, zero, suc, ◌+◌, ◌-◌, ◌*◌, ◌/◌, ◌%◌, ◌^◌, ◌≤◌, ◌<◌}
 use mathlib.Core.Path.{◌≡◌, refl, sym, ap, ◌∙◌}
 use mathlib.Core.List.{List, [], ◌∷◌, ◌++◌}
-use lib.ListN.{length, get_or, set, drop, length-append}
-use lib.Seq.{drop-cons, sets, set_comm}
+use borrow.Rule.Slice.PartMut.{put_mid}
+use Rattle.std.proofs.lemmas.List.Edits.{sets-eq}
+use Rattle.std.proofs.lemmas.Grind.{common_steps}
+use lib.ListN.{length, set, length-append}
+use lib.Seq.{sets, set_comm}
 use native.Mathlib.Omega.{arith}
 use native.Mathlib.Numerals.{add-one}
 use Rattle.text.specs.Hex.{hex_digits, hex_glyph}
@@ -25,8 +28,9 @@ joined l o p i j a b h e f =
     let z : 0 + length a ≡ length a = omega arith in
     (e ∙ rw (h.0, h.1) (rw z at (sets_append l 0 a b)), f ∙ rw h.1 (sym (length-append a b)))
 
-pub word-step : (o w : List ℕ) (a i : ℕ) → i < length w → sets o (a + i) (drop i w) ≡ sets (set o (a + i) (get_or w i 0)) (a + (i + 1)) (drop (i + 1) w)
-word-step o w a i h = let z : a + (i + 1) ≡ suc (a + i) = omega arith in rw (drop-cons w i 0 h, z, add-one)
+-- a part of a list that is copied over
+pub copied : (l : List ℕ) (a k : ℕ) (w : List ℕ) → k ≡ length w → a + k ≤ length l → put_mid a k l w ≡ sets l a w
+copied l a k w e h = rw (sets-eq w l a (omega arith)) (grind (arith, common_steps))
 
 pub hex_put : (o : List ℕ) (i k n : ℕ) → 0 < k → sets o i (hex_digits k n) ≡ sets (set o i (hex_glyph (n / 2 ^ (4 * (k - 1)) % 16))) (i + 1) (hex_digits (k - 1) n)
 unfolding hex_digits

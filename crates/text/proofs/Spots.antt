@@ -3,6 +3,7 @@ use Prim.Native.Nat.{ℕ, suc, ◌+◌, ◌-◌, ◌≤◌, ◌<◌}
 use mathlib.Core.Path.{◌≡◌, refl, sym, ap, ◌∙◌}
 use mathlib.Core.Bool.{Bool, true, false, ◌&&◌}
 use mathlib.Core.List.{List, [], ◌∷◌, ◌++◌}
+use Rattle.std.specs.Prelude.{Option, Some}
 use lib.ListN.{length, get_or, drop, length-append, length-drop, get_or-eq_default}
 use lib.Seq.{drop-cons, get_or-drop, drop-drop, get_or-append_seam, drop-append_seam}
 use lib.Dec.{eqb, ltb}
@@ -13,6 +14,13 @@ use Rattle.text.specs.Words.{is_prefix}
 
 tail_of : {x y : ℕ} {xs ys : List ℕ} → ◌≡◌ {A = List ℕ} (x ∷ xs) (y ∷ ys) → xs ≡ ys
 tail_of q = cc
+
+-- two readings that are the same have the same value and the same place
+pub value-of : {A : Type 0} {a b : A} {i j : ℕ} → ◌≡◌ {A = Option (A × ℕ)} (Some (a, i)) (Some (b, j)) → a ≡ b
+value-of {A} {a} {b} {i} {j} e = let p : ◌≡◌ {A = A × ℕ} (a, i) (b, j) = cc in ap (λ (x : A × ℕ). x.0) p
+
+pub place-of : {A : Type 0} {a b : A} {i j : ℕ} → ◌≡◌ {A = Option (A × ℕ)} (Some (a, i)) (Some (b, j)) → i ≡ j
+place-of {A} {a} {b} {i} {j} e = let p : ◌≡◌ {A = A × ℕ} (a, i) (b, j) = cc in ap (λ (x : A × ℕ). x.1) p
 
 -- the byte stop stands at place j of s, and t is what is left past it
 pub record Stops (s : List ℕ) (j stop : ℕ) (t : List ℕ) : Type 0 where

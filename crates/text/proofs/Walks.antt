@@ -1,21 +1,31 @@
 -- Steps of the readings: what one more byte does at a place of a text. Assumes nothing.
 use Prim.Native.Nat.{ℕ, zero, suc, ◌+◌, ◌-◌, ◌*◌, ◌^◌, ◌≤◌, ◌<◌}
-use mathlib.Core.Path.{◌≡◌, refl}
+use mathlib.Core.Path.{◌≡◌, refl, sym, ap, ◌∙◌}
 use mathlib.Core.Bool.{Bool, true, false, cond, ◌&&◌}
-use mathlib.Core.List.{List, [], ◌∷◌}
+use mathlib.Core.List.{List, [], ◌∷◌, ◌++◌}
+use Rattle.std.specs.Prelude.{Some, None}
+use Rattle.std.specs.Char.{is_ascii_digit}
+use Rattle.std.specs.List.{list_all}
+use Rattle.std.proofs.Common.{take}
+use Rattle.std.proofs.lemmas.Bool.Decides.{nat_tests}
 use lib.ListN.{length, get_or, drop, drop_of_length-le}
 use lib.Seq.{drop-cons}
-use lib.Dec.{eqb, ltb, leb}
+use lib.Dec.{ltb, leb}
 use native.Mathlib.Omega.{arith}
 use native.Mathlib.Numerals.{add-one}
 use borrow.Author.Tests.{lt-leb, le-leb, ltb-false, leb-true}
 use Rattle.words.proofs.Bools.{never}
-use Rattle.text.specs.declared.decimals.Num.TheVariants.{At, Bad}
 use Rattle.text.specs.Decimals.{is_digit, num_from}
 use Rattle.text.specs.Hex.{is_hex, nibble_of, hex_ok, hex_from}
 use Rattle.text.specs.Words.{is_prefix}
+use Rattle.text.proofs.Spots.{word-reads, word_is}
 
 -- ---- digits and numbers
+
+-- std's test of a digit
+pub ascii-digit : (b : ℕ) → is_ascii_digit b ≡ is_digit b
+unfolding is_digit
+ascii-digit b = grind (arith, nat_tests)
 
 pub digit_low : (b : ℕ) → is_digit b ≡ true → 48 ≤ b
 unfolding is_digit
@@ -33,11 +43,11 @@ digit-high b e = go (ltb b 48) refl e
     go true q r = absurd (never r)
     go false q r = leb-true b 57 r
 
-pub num_stop : (s : List ℕ) (v i : ℕ) → i < length s → is_digit (get_or s i 0) ≡ false → num_from v i (drop i s) ≡ At v i
+pub num_stop : (s : List ℕ) (v i : ℕ) → i < length s → is_digit (get_or s i 0) ≡ false → num_from v i (drop i s) ≡ Some (v, i)
 unfolding num_from
 num_stop s v i h e = rw (drop-cons s i 0 h, e)
 
-pub num_over : (s : List ℕ) (v i : ℕ) → i < length s → is_digit (get_or s i 0) ≡ true → 2 ^ 64 ≤ v * 10 + (get_or s i 0 - 48) → num_from v i (drop i s) ≡ Bad
+pub num_over : (s : List ℕ) (v i : ℕ) → i < length s → is_digit (get_or s i 0) ≡ true → 2 ^ 64 ≤ v * 10 + (get_or s i 0 - 48) → num_from v i (drop i s) ≡ None
 unfolding num_from
 num_over s v i h e k = rw (drop-cons s i 0 h, e, le-leb _ _ k)
 
@@ -46,24 +56,20 @@ pub num_more : (s : List ℕ) (v i : ℕ) → i < length s → is_digit (get_or 
 unfolding num_from
 num_more s v i h e k = rw (drop-cons s i 0 h, e, lt-leb _ _ k, add-one)
 
-pub num_end : (s : List ℕ) (v i : ℕ) → length s ≤ i → num_from v i (drop i s) ≡ At v i
+pub num_end : (s : List ℕ) (v i : ℕ) → length s ≤ i → num_from v i (drop i s) ≡ Some (v, i)
 unfolding num_from
 num_end s v i h = rw (drop_of_length-le s h)
 
--- ---- words: i places of the word are seen, and p is the place in the text
+-- ---- words
 
-pub prefix_end : (w s : List ℕ) (i p : ℕ) → length w ≤ i → is_prefix (drop i w) (drop p s) ≡ true
-unfolding is_prefix
-prefix_end w s i p h = rw (drop_of_length-le w h)
-
-pub prefix_short : (w s : List ℕ) (i p : ℕ) → i < length w → length s ≤ p → is_prefix (drop i w) (drop p s) ≡ false
-unfolding is_prefix
-prefix_short w s i p h k = rw (drop-cons w i 0 h, drop_of_length-le s k)
-
-pub prefix_step : (w s : List ℕ) (i p : ℕ) → i < length w → p < length s
-    → is_prefix (drop i w) (drop p s) ≡ eqb (get_or s p 0) (get_or w i 0) && is_prefix (drop (i + 1) w) (drop (p + 1) s)
-unfolding is_prefix
-prefix_step w s i p h k = let a : i + 1 ≡ suc i = omega arith in let b : p + 1 ≡ suc p = omega arith in rw (drop-cons w i 0 h, drop-cons s p 0 k, a, b)
+-- std's test of a text's start
+pub prefix_told : (w s : List ℕ) (r : Bool) → (r ≡ true → s ≡ w ++ drop (length w) s) × ((rest : List ℕ) → s ≡ w ++ rest → r ≡ true) → r ≡ is_prefix w s
+prefix_told w s true h = sym (ap (is_prefix w) (h.0 refl) ∙ word-reads w (drop (length w) s))
+prefix_told w s false h = go (is_prefix w s) refl
+  where
+    go : (t : Bool) → is_prefix w s ≡ t → false ≡ is_prefix w s
+    go true e = absurd (never (h.1 (drop (length w) s) (word_is w s e)))
+    go false e = sym e
 
 -- ---- hexadecimal digits
 
@@ -88,9 +94,12 @@ hex_ok-short (suc k) (b ∷ bs) h = go (is_hex b) (hex_ok-short k bs (omega arit
     go true e = e
     go false e = refl
 
-pub hex_ok-step : (s : List ℕ) (i k : ℕ) → i < length s → hex_ok (suc k) (drop i s) ≡ is_hex (get_or s i 0) && hex_ok k (drop (suc i) s)
+-- the first k bytes are there, and each of them is a digit
+pub hex_ok-all : (k : ℕ) (bs : List ℕ) → k ≤ length bs → hex_ok k bs ≡ list_all is_hex (take k bs)
 unfolding hex_ok
-hex_ok-step s i k h = rw (drop-cons s i 0 h)
+hex_ok-all zero bs h = refl
+hex_ok-all (suc k) [] h = absurd (omega arith)
+hex_ok-all (suc k) (b ∷ bs) h = ap (λ (t : Bool). is_hex b && t) (hex_ok-all k bs (omega arith))
 
 pub hex_step : (s : List ℕ) (v i k : ℕ) → i < length s → hex_from v (suc k) (drop i s) ≡ hex_from (v * 16 + nibble_of (get_or s i 0)) k (drop (suc i) s)
 unfolding hex_from

@@ -1,84 +1,55 @@
-// Decimals of 64 bits, unsigned and without leading zeros.
-ghost use Rattle.std.specs.Prelude.{◌≡◌, Bool, ℕ, ◌+◌, ◌<◌, ◌≤◌, length, drop};
+// Decimals of 64 bits, unsigned and without leading zeros. Reading one answers it and the place past it, or nothing.
+ghost use Rattle.std.specs.Prelude.{◌≡◌, ℕ, ◌+◌, ◌<◌, ◌≤◌, length, drop};
 ghost use Rattle.std.proofs.lemmas.List.Edits.{sets};
-ghost use Rattle.text.specs.Decimals.{is_digit, num_from, dec_from, field_at, dec};
-
-use crate::word::{low_byte, wide};
-
-// A number and the place past it.
-#[derive(Clone, Copy)]
-pub enum Num {
-    At(u64, usize),
-    Bad,
-}
-
-pub fn is_digit(b: u8) -> bool
-    ensures { result ≡ is_digit b }
-{
-    if b < b'0' {
-        return false;
-    }
-    b <= b'9'
-}
+ghost use Rattle.text.specs.Decimals.{num_from, dec_from, field_at, dec};
 
 // The digits from a place on, as many as there are.
-fn number(s: &[u8], at: usize) -> Num
+fn number(s: &[u8], at: usize) -> Option<(u64, usize)>
+    requires { at ≤ length s.now }
     ensures { result ≡ num_from 0 at (drop at s.now) }
 {
     let mut v: u64 = 0;
-    let mut i = at;
-    while i < s.len() {
+    for i in at..s.len() {
         let b = s[i];
-        if !is_digit(b) {
-            return Num::At(v, i);
+        if !b.is_ascii_digit() {
+            return Some((v, i));
         }
-        let d = wide(b) - 48;
-        if (u64::MAX - d) / 10 < v {
-            return Num::Bad;
-        }
-        v = v * 10 + d;
-        i += 1;
+        v = v.checked_mul(10)?.checked_add(u64::from(b - b'0'))?;
     }
-    Num::At(v, i)
+    Some((v, s.len()))
 }
 
 // The digit that ends a decimal which begins with it.
 const ZERO: u8 = b'0';
 
 // A decimal. A `0` ends it at once: in `01` what follows is then not the byte that has to follow.
-pub fn decimal(s: &[u8], at: usize) -> Num
+#[tactic(auto, unfolding(crate::specs::Decimals::dec_from))]
+pub fn decimal(s: &[u8], at: usize) -> Option<(u64, usize)>
     ensures { result ≡ dec_from at (drop at s.now) }
 {
     if s.len() <= at {
-        return Num::Bad;
+        return None;
     }
     let b = s[at];
     if b == ZERO {
-        return Num::At(0, at + 1);
+        return Some((0, at + 1));
     }
-    if !is_digit(b) {
-        return Num::Bad;
+    if !b.is_ascii_digit() {
+        return None;
     }
     number(s, at)
 }
 
 // A decimal and the byte `stop` after it.
-pub fn field(s: &[u8], at: usize, stop: u8) -> Num
+#[tactic(auto, unfolding(crate::specs::Decimals::field_at, crate::specs::Decimals::stopped))]
+pub fn field(s: &[u8], at: usize, stop: u8) -> Option<(u64, usize)>
     ensures { result ≡ field_at s.now at stop }
 {
-    let n = decimal(s, at);
-    match n {
-        Num::At(v, i) => {
-            if s.len() <= i {
-                return Num::Bad;
-            }
-            if s[i] == stop {
-                return Num::At(v, i + 1);
-            }
-            Num::Bad
-        }
-        Num::Bad => Num::Bad,
+    let (v, i) = decimal(s, at)?;
+    if s.len() <= i || s[i] != stop {
+        return None;
     }
+    Some((v, i + 1))
 }
 
 // The number of digits, counted by four: that takes a quarter of the divisions that counting by one takes.
@@ -113,10 +84,10 @@ pub fn put_decimal(out: &mut [u8], at: usize, n: u64) -> usize
     let mut i = end - 1;
     let mut v = n;
     while 10 <= v {
-        out[i] = low_byte(48 + v % 10);
+        out[i] = b'0' + (v % 10) as u8;
         v = v / 10;
         i -= 1;
     }
-    out[i] = low_byte(48 + v);
+    out[i] = b'0' + v as u8;
     end
 }

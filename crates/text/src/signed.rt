@@ -1,16 +1,9 @@
 // Decimals of 64 bits with a minus sign before the negative ones.
-ghost use Rattle.std.specs.Prelude.{◌≡◌, ℕ, ◌+◌, ◌^◌, ◌<◌, ◌≤◌, ℤ, pos, negsuc, length};
+ghost use Rattle.std.specs.Prelude.{◌≡◌, ℕ, ◌+◌, ◌^◌, ◌<◌, ◌≤◌, ℤ, pos, negsuc, length, Some};
 ghost use Rattle.std.proofs.lemmas.List.Edits.{sets};
 ghost use Rattle.text.specs.Signs.{negated, unsigned, int_at, signed_dec};
 
-use crate::decimals::{Num, field, put_decimal};
-
-// A signed number and the place past it.
-#[derive(Clone, Copy)]
-pub enum Int {
-    At(i64, usize),
-    Bad,
-}
+use crate::decimals::{field, put_decimal};
 
 // The number -1 - m: -2^63 has no positive counterpart.
 fn below_zero(m: u64) -> i64
@@ -27,54 +20,42 @@ fn as_signed(v: u64) -> i64
     v as i64
 }
 
-// A number after `-`.
-fn negative(n: Num) -> Int
-    ensures { result ≡ negated n }
+// A number after `-`, and the place past it.
+#[tactic(auto, unfolding(crate::specs::Signs::negated))]
+fn negative(v: u64, next: usize) -> Option<(i64, usize)>
+    ensures { result ≡ negated (Some (v, next)) }
 {
-    match n {
-        Num::At(v, i) => {
-            if v == 0 {
-                return Int::Bad;
-            }
-            if 9223372036854775808 < v {
-                return Int::Bad;
-            }
-            let z = below_zero(v - 1);
-            Int::At(z, i)
-        }
-        Num::Bad => Int::Bad,
+    if v == 0 || 9223372036854775808 < v {
+        return None;
     }
+    Some((below_zero(v - 1), next))
 }
 
-// A number with no sign.
-fn not_negative(n: Num) -> Int
-    ensures { result ≡ unsigned n }
+// A number with no sign, and the place past it.
+#[tactic(auto, unfolding(crate::specs::Signs::unsigned))]
+fn not_negative(v: u64, next: usize) -> Option<(i64, usize)>
+    ensures { result ≡ unsigned (Some (v, next)) }
 {
-    match n {
-        Num::At(v, i) => {
-            if 9223372036854775807 < v {
-                return Int::Bad;
-            }
-            let z = as_signed(v);
-            Int::At(z, i)
-        }
-        Num::Bad => Int::Bad,
+    if 9223372036854775807 < v {
+        return None;
     }
+    Some((as_signed(v), next))
 }
 
 // A signed decimal and the byte `stop` after it.
-pub fn signed_field(s: &[u8], at: usize, stop: u8) -> Int
+#[tactic(auto, unfolding(crate::specs::Signs::int_at))]
+pub fn signed_field(s: &[u8], at: usize, stop: u8) -> Option<(i64, usize)>
     ensures { result ≡ int_at s.now at stop }
 {
     if s.len() <= at {
-        return Int::Bad;
+        return None;
     }
     if s[at] == b'-' {
-        let n = field(s, at + 1, stop);
-        return negative(n);
+        let (v, next) = field(s, at + 1, stop)?;
+        return negative(v, next);
     }
-    let n = field(s, at, stop);
-    not_negative(n)
+    let (v, next) = field(s, at, stop)?;
+    not_negative(v, next)
 }
 
 pub fn put_signed(out: &mut [u8], at: usize, x: i64) -> usize
@@ -82,7 +63,7 @@ pub fn put_signed(out: &mut [u8], at: usize, x: i64) -> usize
     ensures value { result ≡ at + length (signed_dec x) }
     ensures out_after { out.new ≡ sets out.old at (signed_dec x) }
 {
-    let n = words::magnitude(x);
+    let n = x.unsigned_abs();
     if x < 0 {
         out[at] = b'-';
         return put_decimal(out, at + 1, n);

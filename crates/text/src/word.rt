@@ -1,39 +1,14 @@
-// Single bytes and words, that is byte strings, at places of a text.
+// Words, that is byte strings, at places of a text.
 // A writer answers the place past what it wrote, so that the next one goes on there.
 ghost use Rattle.std.specs.Prelude.{◌≡◌, ℕ, ◌+◌, ◌<◌, ◌≤◌, length, drop};
 ghost use Rattle.std.proofs.lemmas.List.Edits.{sets};
 ghost use Rattle.text.specs.Words.{is_prefix, flag_digit};
 
-pub fn wide(b: u8) -> u64
-    ensures { result ≡ b }
-{
-    b as u64
-}
-
-pub fn low_byte(x: u64) -> u8
-    requires { x < 256 }
-    ensures { result ≡ x }
-{
-    x as u8
-}
-
 // Whether the word stands at a place.
 pub fn has_word(s: &[u8], at: usize, word: &[u8]) -> bool
     ensures { result ≡ is_prefix word.now (drop at s.now) }
 {
-    let mut p = at;
-    let mut i = 0;
-    while i < word.len() {
-        if s.len() <= p {
-            return false;
-        }
-        if s[p] != word[i] {
-            return false;
-        }
-        p += 1;
-        i += 1;
-    }
-    true
+    s[at.min(s.len())..].starts_with(word)
 }
 
 pub fn put_word(out: &mut [u8], at: usize, word: &[u8]) -> usize
@@ -41,20 +16,15 @@ pub fn put_word(out: &mut [u8], at: usize, word: &[u8]) -> usize
     ensures value { result ≡ at + length word.now }
     ensures out_after { out.new ≡ sets out.old at word.now }
 {
-    let mut i = 0;
-    while i < word.len() {
-        out[at + i] = word[i];
-        i += 1;
-    }
-    at + i
+    let end = at + word.len();
+    out[at..end].copy_from_slice(word);
+    end
 }
 
 // `1` for a flag that is true, else `0`.
+#[tactic(auto, unfolding(crate::specs::Words::flag_digit))]
 pub fn flag_digit(f: bool) -> u8
     ensures { result ≡ flag_digit f }
 {
-    if f {
-        return b'1';
-    }
-    b'0'
+    b'0' + u8::from(f)
 }

@@ -37,8 +37,8 @@ pub sent-one : {r : Lent} {l : ℕ} {s : Span} (words : List ℕ) (w : ℕ) (q :
     → a ≡ add_answer (dims_at (shape_by r) l) (layer_update (item_at words l) w) (handed r l s)
     → h ≡ with_layer r.head l (len_by a (get_or r.head.lens l 0)) (get_or r.head.flags l false && kept_by a)
     → list ≡ tell_at list₀ l a
-    → SentOne words w l r (lent h (put_part s.cells (s.cells_end - s.cells) r.counters xs) (put_part s.norms (s.norms_end - s.norms) r.norms ws)
-    (put_part s.words (s.words_end - s.words) r.entries es) (put_part s.seats (s.seats_end - s.seats) r.counts ns)) list₀ list
+    → SentOne words w l r (lent h (put_part s.cells.start (s.cells.end - s.cells.start) r.counters xs) (put_part s.norms.start (s.norms.end - s.norms.start) r.norms ws)
+    (put_part s.words.start (s.words.end - s.words.start) r.entries es) (put_part s.seats.start (s.seats.end - s.seats.start) r.counts ns)) list₀ list
 unfolding layer_at view
 sent-one {r = r} {l = l} {s = s} words w q xs ws es ns a h list₀ list b e o hd t =
     record {

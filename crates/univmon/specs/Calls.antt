@@ -4,7 +4,7 @@ use Rattle.words.specs.Num.{top}
 use Rattle.header.specs.declared.Shape.{Shape}
 use Rattle.header.specs.declared.Mode.TheVariants as mode
 use Rattle.header.specs.declared.Header.{Header}
-use Rattle.header.specs.declared.Answered.{Answered}
+use Rattle.header.specs.Answers.{Answered}
 use Rattle.header.specs.Shape.{max_layers, shape_refusal}
 use Rattle.header.specs.Totals.{set_weight}
 use Rattle.header.specs.Header.{zero_header, with_totals, with_mode, with_flags, settled, clash, header_ok}

@@ -1,4 +1,6 @@
 // States with nothing counted.
+ghost use Rattle.refusal.specs.Refusals.{kept, refused};
+ghost use Rattle.header.specs.Header.{zero_header};
 ghost use Rattle.std.specs.Prelude.{◌≡◌, length, replicate, pos};
 ghost use Rattle.header.specs.Shape.{two_tier, shape_refusal};
 ghost use Rattle.header.specs.OneTier.{one_tier};
@@ -6,8 +8,9 @@ ghost use Rattle.layout.specs.Outcomes.{left, left_after};
 ghost use Rattle.layout.specs.Lending.{lent_in, lent_out};
 ghost use Rattle.univmon.specs.Calls.{new_call, clear_call};
 
-use header::{Answered, CheckedShape, Header, Shape};
-use layout::{lengths_match, lent_refusal};
+use header::{Header, Shape};
+use layout::{check_lent, lengths_match};
+use refusal::Refusal;
 
 fn zero_all(counters: &mut [i64], norms: &mut [u64], entries: &mut [u64], counts: &mut [i64])
     ensures counters_after { counters.new ≡ replicate (length counters.old) (pos 0) }
@@ -15,10 +18,10 @@ fn zero_all(counters: &mut [i64], norms: &mut [u64], entries: &mut [u64], counts
     ensures entries_after { entries.new ≡ replicate (length entries.old) 0 }
     ensures counts_after { counts.new ≡ replicate (length counts.old) (pos 0) }
 {
-    layer::zero_counts(counters);
-    layer::zero_words(norms);
-    layer::zero_words(entries);
-    layer::zero_counts(counts);
+    counters.fill(0);
+    norms.fill(0);
+    entries.fill(0);
+    counts.fill(0);
 }
 
 // A fresh state in lent slices, of a shape that the constructor let pass: 9 for the lengths.
@@ -28,9 +31,9 @@ fn start(
     norms: &mut [u64],
     entries: &mut [u64],
     counts: &mut [i64],
-) -> Answered
+) -> Result<Header, Refusal>
     requires { shape_refusal shape ≡ 0 }
-    ensures { left result.refusal (lent_out result.header counters norms entries counts)
+    ensures { left (refused result) (lent_out (kept zero_header result) counters norms entries counts)
         ≡ new_call shape counters.old norms.old entries.old counts.old }
 {
     if !lengths_match(
@@ -40,16 +43,10 @@ fn start(
         entries.len(),
         counts.len(),
     ) {
-        return Answered {
-            refusal: 9,
-            header: Header::zero(),
-        };
+        return Err(Refusal::OutOfRange);
     }
     zero_all(counters, norms, entries, counts);
-    Answered {
-        refusal: 0,
-        header: Header::fresh(shape),
-    }
+    Ok(Header::fresh(shape))
 }
 
 // A fresh state of the four dimensions of `UnivMon`, all of whose layers are alike: 1, 2, 3, 4 for the
@@ -63,18 +60,12 @@ pub fn new(
     norms: &mut [u64],
     entries: &mut [u64],
     counts: &mut [i64],
-) -> Answered
-    ensures { left result.refusal (lent_out result.header counters norms entries counts)
+) -> Result<Header, Refusal>
+    ensures { left (refused result) (lent_out (kept zero_header result) counters norms entries counts)
         ≡ new_call (one_tier heap_size rows cols layers) counters.old norms.old entries.old counts.old }
 {
-    let checked = Shape::new_one_tier(heap_size, rows, cols, layers);
-    match checked {
-        CheckedShape::Good(shape) => start(shape, counters, norms, entries, counts),
-        CheckedShape::Refused(refusal) => Answered {
-            refusal,
-            header: Header::zero(),
-        },
-    }
+    let shape = Shape::new_one_tier(heap_size, rows, cols, layers)?;
+    start(shape, counters, norms, entries, counts)
 }
 
 // The same of the seven dimensions of `UnivMonTwoTier`, in the source's order.
@@ -90,11 +81,11 @@ pub fn new_two_tier(
     norms: &mut [u64],
     entries: &mut [u64],
     counts: &mut [i64],
-) -> Answered
-    ensures { left result.refusal (lent_out result.header counters norms entries counts)
+) -> Result<Header, Refusal>
+    ensures { left (refused result) (lent_out (kept zero_header result) counters norms entries counts)
         ≡ new_call (two_tier heap_size elephant_layers elephant_rows elephant_cols mouse_rows mouse_cols layers) counters.old norms.old entries.old counts.old }
 {
-    let checked = Shape::new(
+    let shape = Shape::new(
         heap_size,
         elephant_layers,
         elephant_rows,
@@ -102,14 +93,8 @@ pub fn new_two_tier(
         mouse_rows,
         mouse_cols,
         layers,
-    );
-    match checked {
-        CheckedShape::Good(shape) => start(shape, counters, norms, entries, counts),
-        CheckedShape::Refused(refusal) => Answered {
-            refusal,
-            header: Header::zero(),
-        },
-    }
+    )?;
+    start(shape, counters, norms, entries, counts)
 }
 
 // Nothing counted any more: 9 for the header and the lengths.
@@ -119,17 +104,11 @@ pub fn clear(
     norms: &mut [u64],
     entries: &mut [u64],
     counts: &mut [i64],
-) -> Answered
-    ensures { left result.refusal (lent_out result.header counters norms entries counts)
+) -> Result<Header, Refusal>
+    ensures { left (refused result) (lent_out (kept header result) counters norms entries counts)
         ≡ left_after (λ s. clear_call s) (lent_in header counters norms entries counts) }
 {
-    let refusal = lent_refusal(header, &*counters, &*norms, &*entries, &*counts);
-    if refusal != 0 {
-        return Answered { refusal, header };
-    }
+    check_lent(header, &*counters, &*norms, &*entries, &*counts)?;
     zero_all(counters, norms, entries, counts);
-    Answered {
-        refusal: 0,
-        header: Header::fresh(header.shape),
-    }
+    Ok(Header::fresh(header.shape))
 }

@@ -1,5 +1,6 @@
 // What an update reads of the layers that it touches, and whether it fits: nothing is written here.
 // The state is lent whole, so that a contract can name it; no entry is read.
+ghost use Rattle.refusal.specs.Refusals.{refused};
 ghost use Rattle.std.specs.Prelude.{◌≡◌, Bool, true, ℕ, ◌+◌, ◌<◌};
 ghost use Rattle.words.specs.Tests.{number};
 ghost use Rattle.header.specs.Lending.{head_now};
@@ -12,6 +13,7 @@ ghost use Rattle.header.specs.Header.{head_of};
 
 use header::Scalars;
 use layout::{cells_at, dims, item_in, norms_at, seats_at};
+use refusal::Refusal;
 
 // Whether one layer is ready for the update.
 fn ready_at(
@@ -90,15 +92,12 @@ pub fn all_ready(
     requires { JudgeReady (lent_now (head_now h lens flags) counters norms entries counts) «record».now weight many first }
     ensures { result ≡ all_layers (ready_at h.shape «record».now weight) many first (view (lent (head_of h lens.now flags.now) counters.now norms.now entries.now counts.now)) }
 {
-    let end = first + many;
-    let mut l = first;
-    while l < end {
+    for l in first..first + many {
         if !ready_at(
             h, lens, flags, counters, norms, entries, counts, record, weight, l,
         ) {
             return false;
         }
-        l += 1;
     }
     true
 }
@@ -119,21 +118,18 @@ fn all_read(
     requires { JudgeReady (lent_now (head_now h lens flags) counters norms entries counts) «record».now 0 many first }
     ensures { (w : ℕ) → result ≡ all_layers (reads_at h.shape «record».now w) many first (view (lent (head_of h lens.now flags.now) counters.now norms.now entries.now counts.now)) }
 {
-    let end = first + many;
-    let mut l = first;
-    while l < end {
+    for l in first..first + many {
         if !reads_at(h, lens, flags, counters, norms, entries, counts, record, l) {
             return false;
         }
-        l += 1;
     }
     true
 }
 
-// 0 if the update may be made, 9 if something that it reads is out of range, 11 if a counter would
+// Whether the update may be made: 9 if something that it reads is out of range, 11 if a counter would
 // leave the range. One pass where all is well; only a refusal looks again, since 9 anywhere comes
 // before 11 anywhere.
-pub fn judge_layers(
+pub fn check_layers(
     h: Scalars,
     lens: &[usize],
     flags: &[bool],
@@ -145,19 +141,19 @@ pub fn judge_layers(
     weight: u64,
     first: usize,
     many: usize,
-) -> u64
+) -> Result<(), Refusal>
     requires { JudgeReady (lent_now (head_now h lens flags) counters norms entries counts) «record».now weight many first }
-    ensures { result ≡ number (layers_tests h.shape «record».now weight many first (view (lent (head_of h lens.now flags.now) counters.now norms.now entries.now counts.now))) }
+    ensures { refused result ≡ number (layers_tests h.shape «record».now weight many first (view (lent (head_of h lens.now flags.now) counters.now norms.now entries.now counts.now))) }
 {
     if all_ready(
         h, lens, flags, counters, norms, entries, counts, record, weight, first, many,
     ) {
-        return 0;
+        return Ok(());
     }
     if all_read(
         h, lens, flags, counters, norms, entries, counts, record, first, many,
     ) {
-        return 11;
+        return Err(Refusal::CounterAbove);
     }
-    9
+    Err(Refusal::OutOfRange)
 }

@@ -1,6 +1,7 @@
 // The updates on a header whose lengths and flags are lent beside the slices, 19 places each, so that no
 // header is copied in and out. Shape, totals and mode go by value, as `Scalars`; lengths and flags are
 // stored in place.
+ghost use Rattle.refusal.specs.Refusals.{kept, refused};
 ghost use Rattle.std.specs.Prelude.{◌≡◌, ℕ, length};
 ghost use Rattle.header.specs.Lending.{head_in, head_out};
 ghost use Rattle.layout.specs.Slices.{view};
@@ -12,8 +13,9 @@ ghost use Rattle.univmon.specs.Updates.{update_answers};
 ghost use Rattle.univmon.specs.Calls.{lent_update_list_call};
 
 use crate::Kind;
-use crate::stages::{mode_of, update};
-use header::{AnsweredLent, Scalars};
+use crate::stages::{begins, mode_of, update};
+use header::Scalars;
+use refusal::Refusal;
 
 // An update of either kind, on any arguments.
 fn update_lent(
@@ -28,17 +30,17 @@ fn update_lent(
     record: &[u64],
     weight: i64,
     list: &mut [u64],
-) -> AnsweredLent
-    ensures counts_value { left result.refusal (lent_out (head_out result.scalars lens flags) counters norms entries counts)
+) -> Result<Scalars, Refusal>
+    ensures counts_value { left (refused result) (lent_out (head_out (kept scalars result) lens flags) counters norms entries counts)
         ≡ left_after (λ s. lent_update_list_call kind s «record».now weight (length list.old)) (lent_in (head_in scalars lens flags) counters norms entries counts) }
     ensures list_after { list.new
-        ≡ list_left result.refusal (update_answers kind (view (lent_in (head_in scalars lens flags) counters norms entries counts)) «record».now weight) list.old }
+        ≡ list_left (refused result) (update_answers kind (view (lent_in (head_in scalars lens flags) counters norms entries counts)) «record».now weight) list.old }
 {
     let begun = scalars.begin_update(weight, mode_of(kind));
-    let refusal = update(
+    update(
         kind,
         scalars,
-        begun.refusal,
+        begins(begun),
         lens,
         flags,
         counters,
@@ -48,10 +50,7 @@ fn update_lent(
         record,
         weight,
         list,
-    );
-    if refusal != 0 {
-        return AnsweredLent { refusal, scalars };
-    }
+    )?;
     begun
 }
 
@@ -67,11 +66,11 @@ pub fn update_weighted_lent(
     record: &[u64],
     weight: i64,
     list: &mut [u64],
-) -> AnsweredLent
-    ensures counts_value { left result.refusal (lent_out (head_out result.scalars lens flags) counters norms entries counts)
+) -> Result<Scalars, Refusal>
+    ensures counts_value { left (refused result) (lent_out (head_out (kept scalars result) lens flags) counters norms entries counts)
         ≡ left_after (λ s. lent_update_list_call kind.Standard s «record».now weight (length list.old)) (lent_in (head_in scalars lens flags) counters norms entries counts) }
     ensures list_after { list.new
-        ≡ list_left result.refusal (update_answers kind.Standard (view (lent_in (head_in scalars lens flags) counters norms entries counts)) «record».now weight) list.old }
+        ≡ list_left (refused result) (update_answers kind.Standard (view (lent_in (head_in scalars lens flags) counters norms entries counts)) «record».now weight) list.old }
 {
     update_lent(
         Kind::Standard,
@@ -100,11 +99,11 @@ pub fn update_weighted_terminal_lent(
     record: &[u64],
     weight: i64,
     list: &mut [u64],
-) -> AnsweredLent
-    ensures counts_value { left result.refusal (lent_out (head_out result.scalars lens flags) counters norms entries counts)
+) -> Result<Scalars, Refusal>
+    ensures counts_value { left (refused result) (lent_out (head_out (kept scalars result) lens flags) counters norms entries counts)
         ≡ left_after (λ s. lent_update_list_call kind.Terminal s «record».now weight (length list.old)) (lent_in (head_in scalars lens flags) counters norms entries counts) }
     ensures list_after { list.new
-        ≡ list_left result.refusal (update_answers kind.Terminal (view (lent_in (head_in scalars lens flags) counters norms entries counts)) «record».now weight) list.old }
+        ≡ list_left (refused result) (update_answers kind.Terminal (view (lent_in (head_in scalars lens flags) counters norms entries counts)) «record».now weight) list.old }
 {
     update_lent(
         Kind::Terminal,

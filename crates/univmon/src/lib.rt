@@ -17,7 +17,7 @@ pub use calls::{update_weighted, update_weighted_terminal};
 pub use fresh::{clear, new, new_two_tier};
 pub use lent::{update_weighted_lent, update_weighted_terminal_lent};
 pub use marks::{mark_candidates_incomplete, mark_layer_candidates_incomplete, set_total_weight};
-pub use stages::{bottom_word, first_sent, mode_of, sized_refusal};
+pub use stages::{begins, bottom_word, check_sizes, first_sent, mode_of};
 pub use update::note;
 
 // How an update sends its key to layers.

@@ -1,5 +1,6 @@
 // What both forms of an update share, with lengths and flags lent: everything but the beginning of weight
 // and mode. Everything is judged before anything is written, so a refused call leaves all as it was.
+ghost use Rattle.refusal.specs.Refusals.{refused};
 ghost use Rattle.std.specs.Prelude.{◌≡◌, Bool, true, false, ◌&&◌, ◌++◌, ℕ, ◌*◌, ◌≤◌, length, nat_abs, leb};
 ghost use Rattle.words.specs.Num.{top};
 ghost use Rattle.words.specs.Tests.{number};
@@ -16,10 +17,11 @@ ghost use Rattle.univmon.specs.inner.Needs.{JudgeReady, KeyReady, ready_at, Sent
 ghost use Rattle.header.specs.Header.{head_of};
 
 use crate::Kind;
-use crate::judge::{all_ready, judge_layers};
+use crate::judge::{all_ready, check_layers};
 use crate::update::{send, send_first};
 use header::{Mode, Scalars, Shape};
 use layout::lengths_match;
+use refusal::Refusal;
 
 pub fn mode_of(kind: Kind) -> Mode
     ensures { result ≡ mode_of kind }
@@ -40,9 +42,8 @@ pub fn first_sent(kind: Kind, bottom: usize) -> usize
     }
 }
 
-// 9 for a header out of range or a wrong slice length, 0 for none. It is 9 too where the lent lengths or
-// flags do not have 19 places.
-pub fn sized_refusal(
+// Whether the header is in range and the slices have its lengths, lengths and flags 19 places: 9.
+pub fn check_sizes(
     scalars: Scalars,
     lens: &[usize],
     flags: &[bool],
@@ -50,27 +51,27 @@ pub fn sized_refusal(
     norms: usize,
     entries: usize,
     counts: usize,
-) -> u64
-    ensures { result ≡ number (place_tests (head_of scalars lens.now flags.now) ++ size_tests (head_of scalars lens.now flags.now) counters norms entries counts) }
+) -> Result<(), Refusal>
+    ensures { refused result ≡ number (place_tests (head_of scalars lens.now flags.now) ++ size_tests (head_of scalars lens.now flags.now) counters norms entries counts) }
 {
     if lens.len() != Shape::MAX_LAYERS {
-        return 9;
+        return Err(Refusal::OutOfRange);
     }
     if flags.len() != Shape::MAX_LAYERS {
-        return 9;
+        return Err(Refusal::OutOfRange);
     }
     let shape = scalars.shape;
     if !header::fields_in_range(shape, scalars.totals, lens, flags) {
-        return 9;
+        return Err(Refusal::OutOfRange);
     }
     if !lengths_match(shape, counters, norms, entries, counts) {
-        return 9;
+        return Err(Refusal::OutOfRange);
     }
-    0
+    Ok(())
 }
 
 // The same, then 12 for a wrong record length.
-fn sound_refusal(
+fn check_sound(
     scalars: Scalars,
     lens: &[usize],
     flags: &[bool],
@@ -79,17 +80,14 @@ fn sound_refusal(
     entries: usize,
     counts: usize,
     record: usize,
-) -> u64
-    ensures { result ≡ number (sound_tests (head_of scalars lens.now flags.now) counters norms entries counts «record») }
+) -> Result<(), Refusal>
+    ensures { refused result ≡ number (sound_tests (head_of scalars lens.now flags.now) counters norms entries counts «record») }
 {
-    let unfit = sized_refusal(scalars, lens, flags, counters, norms, entries, counts);
-    if unfit != 0 {
-        return unfit;
-    }
+    check_sizes(scalars, lens, flags, counters, norms, entries, counts)?;
     if record != 2 + 2 * scalars.shape.layers {
-        return 12;
+        return Err(Refusal::RecordLength);
     }
-    0
+    Ok(())
 }
 
 // Where the list is long enough and every layer is ready, all are sent to; if not, nothing is touched. The
@@ -153,27 +151,24 @@ fn send_judged(
     first: usize,
     many: usize,
     list: &mut [u64],
-) -> u64
+) -> Result<(), Refusal>
     requires judge_ready { JudgeReady (lent (head_of h lens.old flags.old) counters.old norms.old entries.old counts.old) «record».now weight many first }
     requires le_many { 1 ≤ many }
-    ensures counts_value { left result (lent_out (head_out h lens flags) counters norms entries counts)
+    ensures counts_value { left (refused result) (lent_out (head_out h lens flags) counters norms entries counts)
         ≡ sent_by «record».now weight many first (length list.old) (lent_in (head_in h lens flags) counters norms entries counts) }
     ensures list_after { list.new
-        ≡ list_left result (told_by «record».now weight many first (lent_in (head_in h lens flags) counters norms entries counts)) list.old }
+        ≡ list_left (refused result) (told_by «record».now weight many first (lent_in (head_in h lens flags) counters norms entries counts)) list.old }
 {
     if send_if_ready(
         h, lens, flags, counters, norms, entries, counts, record, weight, first, many, list,
     ) {
-        return 0;
+        return Ok(());
     }
-    let refusal = judge_layers(
+    check_layers(
         h, &*lens, &*flags, &*counters, &*norms, &*entries, &*counts, record, weight, first, many,
-    );
-    if refusal != 0 {
-        return refusal;
-    }
+    )?;
     // every layer is ready, so it was the list
-    16
+    Err(Refusal::TooShort)
 }
 
 // A key goes to the layers that its bottom hash says: 9, 11, 16.
@@ -190,13 +185,13 @@ fn send_key(
     weight: u64,
     list: &mut [u64],
     bottom_hash: u64,
-) -> u64
+) -> Result<(), Refusal>
     requires key_ready { KeyReady (lent (head_of h lens.old flags.old) counters.old norms.old entries.old counts.old) «record».now weight }
     requires bottom_hash_value { bottom_hash ≡ bottom_word «record».now }
-    ensures counts_value { left result (lent_out (head_out h lens flags) counters norms entries counts)
+    ensures counts_value { left (refused result) (lent_out (head_out h lens flags) counters norms entries counts)
         ≡ key_sent kind «record».now weight (length list.old) (lent_in (head_in h lens flags) counters norms entries counts) }
     ensures list_after { list.new
-        ≡ list_left result (key_told kind «record».now weight (lent_in (head_in h lens flags) counters norms entries counts)) list.old }
+        ≡ list_left (refused result) (key_told kind «record».now weight (lent_in (head_in h lens flags) counters norms entries counts)) list.old }
 {
     let bottom = header::bottom_of(bottom_hash, h.shape.layers);
     let first = first_sent(kind, bottom);
@@ -211,18 +206,23 @@ fn send_key(
 pub fn bottom_word(record: &[u64]) -> u64
     ensures { result ≡ bottom_word «record».now }
 {
-    if record.len() < 2 {
-        return 0;
-    }
-    record[1]
+    record.get(1).copied().unwrap_or(0)
 }
 
-// All of an update but its beginning; `begins` is the number that the beginning is refused with, or 0.
-// Answers 9, 12, then `begins`, then 9, 11, 16.
+// Whether an update begins, without what it begins with.
+pub fn begins<T: Copy>(begun: Result<T, Refusal>) -> Result<(), Refusal>
+    ensures { refused result ≡ refused begun }
+{
+    begun?;
+    Ok(())
+}
+
+// All of an update but its beginning; `begins` says whether that is refused. Answers 9, 12, then
+// `begins`, then 9, 11, 16.
 pub fn update(
     kind: Kind,
     scalars: Scalars,
-    begins: u64,
+    begins: Result<(), Refusal>,
     lens: &mut [usize],
     flags: &mut [bool],
     counters: &mut [i64],
@@ -232,15 +232,15 @@ pub fn update(
     record: &[u64],
     weight: i64,
     list: &mut [u64],
-) -> u64
-    requires { begins ≡ 0 → nat_abs weight ≤ top }
-    ensures counts_value { left result (lent_out (head_out scalars lens flags) counters norms entries counts)
-        ≡ sent_after kind begins «record».now weight (length list.old) (lent_in (head_in scalars lens flags) counters norms entries counts) }
+) -> Result<(), Refusal>
+    requires { refused begins ≡ 0 → nat_abs weight ≤ top }
+    ensures counts_value { left (refused result) (lent_out (head_out scalars lens flags) counters norms entries counts)
+        ≡ sent_after kind (refused begins) «record».now weight (length list.old) (lent_in (head_in scalars lens flags) counters norms entries counts) }
     ensures list_after { list.new
-        ≡ list_left result (update_answers kind (view (lent_in (head_in scalars lens flags) counters norms entries counts)) «record».now weight) list.old }
+        ≡ list_left (refused result) (update_answers kind (view (lent_in (head_in scalars lens flags) counters norms entries counts)) «record».now weight) list.old }
 {
     let bottom_hash = bottom_word(record);
-    let refusal = sound_refusal(
+    check_sound(
         scalars,
         &*lens,
         &*flags,
@@ -249,14 +249,8 @@ pub fn update(
         entries.len(),
         counts.len(),
         record.len(),
-    );
-    if refusal != 0 {
-        return refusal;
-    }
-    let refused = begins != 0;
-    if refused {
-        return begins;
-    }
+    )?;
+    begins?;
     send_key(
         kind,
         scalars,

@@ -33,10 +33,9 @@ pub fn note(
 {
     lens[l] = heap::len_after(len, answer);
     heap::tell_at(list, l, answer);
-    if heap::kept(answer) {
-        return;
+    if !heap::kept(answer) {
+        flags[l] = false;
     }
-    flags[l] = false;
 }
 
 // Sends an update to one layer, whose place in the list tells what the offer of the key did.
@@ -63,19 +62,11 @@ fn send_one(
     let d = dims(shape, l);
     let item = item_in(record, l);
     let len = lens[l];
-    let ca = s.cells;
-    let ce = s.cells_end;
-    let na = s.norms;
-    let ne = s.norms_end;
-    let ea = s.words;
-    let ee = s.words_end;
-    let ta = s.seats;
-    let te = s.seats_end;
     let answer = layer::add(
-        &mut counters[ca..ce],
-        &mut norms[na..ne],
-        &mut entries[ea..ee],
-        &mut counts[ta..te],
+        &mut counters[s.cells],
+        &mut norms[s.norms],
+        &mut entries[s.words],
+        &mut counts[s.seats],
         d,
         len,
         item,
@@ -112,28 +103,18 @@ pub fn send_first(
     let d = dims(shape, l);
     let item = item_in(record, l);
     let len = lens[l];
-    let ca = s.cells;
-    let ce = s.cells_end;
-    let na = s.norms;
-    let ne = s.norms_end;
-    let ea = s.words;
-    let ee = s.words_end;
-    let ta = s.seats;
-    let te = s.seats_end;
-    let tried = layer::add_if_ready(
-        &mut counters[ca..ce],
-        &mut norms[na..ne],
-        &mut entries[ea..ee],
-        &mut counts[ta..te],
+    let Some(answer) = layer::add_if_ready(
+        &mut counters[s.cells],
+        &mut norms[s.norms],
+        &mut entries[s.words],
+        &mut counts[s.seats],
         d,
         len,
         item,
         weight,
-    );
-    if !tried.made {
+    ) else {
         return false;
-    }
-    let answer = tried.answer;
+    };
     zero_places(list, shape.layers);
     note(lens, flags, list, l, len, answer);
     true
@@ -159,12 +140,9 @@ pub fn send(
     ensures { SentAll «record».now weight many first (lent_in (head_in h lens flags) counters norms entries counts) (lent_out (head_out h lens flags) counters norms entries counts)
         list.old list.new }
 {
-    let end = first + many;
-    let mut l = first;
-    while l < end {
+    for l in first..first + many {
         send_one(
             h, lens, flags, counters, norms, entries, counts, record, weight, l, list,
         );
-        l += 1;
     }
 }

@@ -2,10 +2,10 @@
 -- then "Header and slices remain unchanged".
 use Rattle.std.specs.Prelude.{ℕ, Bool, cond, ◌&&◌, List, ℤ}
 use Rattle.header.specs.declared.Header.{Header}
-use Rattle.header.specs.declared.Answered.{Answered}
+use Rattle.header.specs.Answers.{Answered}
 use Rattle.layout.specs.Slices.{Lent, lent}
 use Rattle.layout.specs.Outcomes.{Outcome, Left, left_by}
-use Rattle.estimates.specs.declared.Answer.{Answer}
+use Rattle.estimates.specs.Answers.{Answer}
 use Rattle.estimates.specs.declared.PanelAnswer.{PanelAnswer}
 use Rattle.estimates.specs.Calls.{refused_by, no_panel}
 use Rattle.state_text.specs.Calls.{Copied, not_copied}

@@ -1,20 +1,19 @@
 -- Between C's shapes and the library's: "When an answer is an enum, a definition specifies this paper's number and values for each of its cases."
 use Rattle.std.specs.Prelude.{ℕ, Bool, cond, List, eqb, leb}
 use Rattle.header.specs.declared.Header.{Header}
-use Rattle.header.specs.declared.Answered.{Answered}
+use Rattle.header.specs.Answers.{Answered}
 use Rattle.header.specs.declared.Scalars.{Scalars}
-use Rattle.header.specs.declared.AnsweredLent.{AnsweredLent}
+use Rattle.header.specs.Answers.{AnsweredLent}
 use Rattle.header.specs.OneTier.{one_tier}
 use Rattle.header.specs.Header.{mode_number, mode_by}
-use Rattle.header.specs.declared.BottomLayer.{BottomLayer}
-use Rattle.header.specs.declared.BottomLayer.TheVariants as bottom
+use Rattle.refusal.specs.Refusals.{Answer as Judged}
 use Rattle.univmon_delta.specs.declared.Fidelity.{Fidelity}
 use Rattle.univmon_delta.specs.declared.Fidelity.TheVariants as fidelity
 use Rattle.sums.specs.declared.G.{G}
 use Rattle.sums.specs.declared.G.TheVariants as g
-use Rattle.estimates.specs.declared.Answer.{Answer}
+use Rattle.estimates.specs.Answers.{Answer}
 use Rattle.estimates.specs.declared.PanelAnswer.{PanelAnswer}
-use Rattle.state_text.specs.declared.write.Written.{Written}
+use Rattle.state_text.specs.Calls.{Written}
 use Rattle.univmon_c.specs.declared.CHeader.{CHeader}
 use Rattle.univmon_c.specs.declared.CAnswered.{CAnswered}
 use Rattle.univmon_c.specs.declared.CBottom.{CBottom}
@@ -89,9 +88,9 @@ c_step b = record { refusal = b.refusal; weight = b.scalars.totals.weight; updat
 abbrev pub c_answered : Answered → CAnswered
 c_answered a = record { refusal = a.refusal; header = c_header a.header }
 
-abbrev pub c_bottom : BottomLayer → CBottom
-c_bottom (bottom.At l) = record { refusal = 0; layer = l }
-c_bottom (bottom.Refused n) = record { refusal = n; layer = 0 }
+abbrev pub c_bottom : Judged ℕ → CBottom
+c_bottom (Judged.yes l) = record { refusal = 0; layer = l }
+c_bottom (Judged.no n) = record { refusal = n; layer = 0 }
 
 abbrev pub c_answer : Answer → CAnswer
 c_answer a = record { refusal = a.refusal; value = a.value }

@@ -5,35 +5,33 @@ ghost use Rattle.state_check.specs.Check.{state_ok};
 ghost use Rattle.univmon_c.specs.Crossing.{is_g, g_by, header_of};
 ghost use Rattle.univmon_c.specs.Calls.{one_tier_face, lent_of, answer_by, panel_by, check_by, c_lent};
 
-use crate::crossing::{LAST_MODE, c_answer, c_panel, g_of, header_of, no_answer, no_panel};
+use crate::crossing::{known_g, known_header, no_answer, no_panel};
 use crate::{CAnswer, CHeader, CPanel};
 
-// The greatest number that is a choice of g.
-pub const LAST_G: u64 = 2;
-
 // L1: the exact weight.
+#[tactic(auto, unfolding(crate::specs::Calls::answer_by))]
 pub fn univmon_estimate_l1(header: CHeader) -> CAnswer
     ensures { result ≡ answer_by true header.mode (l1_call (header_of header)) }
 {
-    if LAST_MODE < header.mode {
+    let Some(h) = known_header(header) else {
         return no_answer();
-    }
-    let h = header_of(header);
-    c_answer(estimates::estimate_l1(h))
+    };
+    CAnswer::from(estimates::estimate_l1(h))
 }
 
 // L2, from the norms.
+#[tactic(auto, unfolding(crate::specs::Calls::answer_by))]
 pub fn univmon_estimate_l2(header: CHeader, norms: &[u64]) -> CAnswer
     ensures { result ≡ answer_by true header.mode (l2_call (header_of header) norms.now) }
 {
-    if LAST_MODE < header.mode {
+    let Some(h) = known_header(header) else {
         return no_answer();
-    }
-    let h = header_of(header);
-    c_answer(estimates::estimate_l2(h, norms))
+    };
+    CAnswer::from(estimates::estimate_l2(h, norms))
 }
 
 // The sum of g over the candidates: g 0 is one, 1 value, 2 square; another number is refused with 9.
+#[tactic(auto, unfolding(crate::specs::Calls::answer_by))]
 pub fn univmon_estimate_g_sum(
     header: CHeader,
     counters: &[i64],
@@ -45,15 +43,13 @@ pub fn univmon_estimate_g_sum(
 ) -> CAnswer
     ensures { result ≡ answer_by (is_g g) header.mode (sum_call (g_by g) count_every_key (lent_of one_tier_face (c_lent header counters.now norms.now entries.now counts.now))) }
 {
-    if LAST_MODE < header.mode {
+    let Some(h) = known_header(header) else {
         return no_answer();
-    }
-    if LAST_G < g {
+    };
+    let Some(choice) = known_g(g) else {
         return no_answer();
-    }
-    let h = header_of(header);
-    let choice = g_of(g);
-    c_answer(estimates::estimate_g_sum(
+    };
+    CAnswer::from(estimates::estimate_g_sum(
         h,
         counters,
         norms,
@@ -65,6 +61,7 @@ pub fn univmon_estimate_g_sum(
 }
 
 // The number of keys.
+#[tactic(auto, unfolding(crate::specs::Calls::answer_by))]
 pub fn univmon_estimate_cardinality(
     header: CHeader,
     counters: &[i64],
@@ -74,14 +71,14 @@ pub fn univmon_estimate_cardinality(
 ) -> CAnswer
     ensures { result ≡ answer_by true header.mode (cardinality_call (lent_of one_tier_face (c_lent header counters.now norms.now entries.now counts.now))) }
 {
-    if LAST_MODE < header.mode {
+    let Some(h) = known_header(header) else {
         return no_answer();
-    }
-    let h = header_of(header);
-    c_answer(estimates::estimate_cardinality(h, counters, norms, entries, counts))
+    };
+    CAnswer::from(estimates::estimate_cardinality(h, counters, norms, entries, counts))
 }
 
 // L1, L2 and cardinality.
+#[tactic(auto, unfolding(crate::specs::Calls::panel_by))]
 pub fn univmon_panel_answer(
     header: CHeader,
     counters: &[i64],
@@ -91,15 +88,15 @@ pub fn univmon_panel_answer(
 ) -> CPanel
     ensures { result ≡ panel_by header (panel_call (lent_of one_tier_face (c_lent header counters.now norms.now entries.now counts.now))) }
 {
-    if LAST_MODE < header.mode {
+    let Some(h) = known_header(header) else {
         return no_panel();
-    }
-    let h = header_of(header);
-    c_panel(estimates::panel_answer(h, counters, norms, entries, counts))
+    };
+    CPanel::from(estimates::panel_answer(h, counters, norms, entries, counts))
 }
 
 // Whether a header and four slices have what every accepted call keeps: no, where the mode's number
 // stands for no mode.
+#[tactic(auto, unfolding(crate::specs::Calls::check_by))]
 pub fn univmon_check_state(
     header: CHeader,
     counters: &[i64],
@@ -109,9 +106,8 @@ pub fn univmon_check_state(
 ) -> bool
     ensures { result ≡ check_by state_ok (c_lent header counters.now norms.now entries.now counts.now) }
 {
-    if LAST_MODE < header.mode {
+    let Some(h) = known_header(header) else {
         return false;
-    }
-    let h = header_of(header);
+    };
     state_check::check_state(h, counters, norms, entries, counts)
 }

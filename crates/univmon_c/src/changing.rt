@@ -13,11 +13,10 @@ ghost use Rattle.univmon_c.specs.Crossing.{is_fidelity, fidelity_of, c_bottom};
 ghost use Rattle.univmon_c.specs.Calls.{one_tier_face, lent_of, c_left, crossed, change_by, merge_by, head_by, c_lent};
 ghost use Rattle.univmon_c.specs.Lending.{c_lent_in, c_lent_out};
 
-use crate::crossing::{LAST_MODE, c_answered, c_bottom, fidelity_of, header_of};
+use crate::crossing::{c_answered, known_fidelity, known_header};
 use crate::{CAnswered, CBottom, CHeader};
-
-// The greatest number that is a fidelity.
-const LAST_FIDELITY: u64 = 1;
+use header::Header;
+use refusal::number_in;
 
 // ---- shapes
 
@@ -25,14 +24,14 @@ const LAST_FIDELITY: u64 = 1;
 pub fn univmon_check_shape(heap_size: usize, rows: usize, cols: usize, layers: usize) -> u64
     ensures { result ≡ shape_refusal (one_tier heap_size rows cols layers) }
 {
-    header::check_shape(heap_size, rows, cols, layers)
+    number_in(&header::check_shape(heap_size, rows, cols, layers))
 }
 
 // The last layer that a key with this bottom hash reaches.
 pub fn univmon_bottom_layer_for_hash(hash: u64, layers: usize) -> CBottom
     ensures { result ≡ c_bottom (bottom_layer hash layers) }
 {
-    c_bottom(header::bottom_layer_for_hash(hash, layers))
+    CBottom::from(header::bottom_layer_for_hash(hash, layers))
 }
 
 // ---- whole states
@@ -51,12 +50,16 @@ pub fn univmon_new(
     ensures { c_left result.refusal (c_lent_out result.header counters norms entries counts)
         ≡ crossed one_tier_face (new_call (one_tier heap_size rows cols layers) counters.old norms.old entries.old counts.old) }
 {
-    c_answered(univmon::new(
-        heap_size, rows, cols, layers, counters, norms, entries, counts,
-    ))
+    c_answered(
+        Header::zero(),
+        univmon::new(
+            heap_size, rows, cols, layers, counters, norms, entries, counts,
+        ),
+    )
 }
 
 // Clears a state: header and slices are then as `new` leaves them.
+#[tactic(auto, unfolding(crate::specs::Calls::change_by))]
 pub fn univmon_clear(
     header: CHeader,
     counters: &mut [i64],
@@ -67,16 +70,16 @@ pub fn univmon_clear(
     ensures { c_left result.refusal (c_lent_out result.header counters norms entries counts)
         ≡ change_by one_tier_face true clear_call (c_lent_in header counters norms entries counts) }
 {
-    if LAST_MODE < header.mode {
+    let Some(h) = known_header(header) else {
         return CAnswered { refusal: 9, header };
-    }
-    let h = header_of(header);
-    c_answered(univmon::clear(h, counters, norms, entries, counts))
+    };
+    c_answered(h, univmon::clear(h, counters, norms, entries, counts))
 }
 
 // ---- updates
 
 // The key goes to layers 0 to its bottom layer.
+#[tactic(auto, unfolding(crate::specs::Calls::change_by, layout::specs::Answers::list_left))]
 pub fn univmon_update_weighted(
     header: CHeader,
     counters: &mut [i64],
@@ -92,14 +95,17 @@ pub fn univmon_update_weighted(
     ensures list_after { list.new
         ≡ list_left result.refusal (update_answers kind.Standard (view (lent_of one_tier_face (c_lent_in header counters norms entries counts))) «record».now weight) list.old }
 {
-    if LAST_MODE < header.mode {
+    let Some(h) = known_header(header) else {
         return CAnswered { refusal: 9, header };
-    }
-    let h = header_of(header);
-    c_answered(univmon::update_weighted(h, counters, norms, entries, counts, record, weight, list))
+    };
+    c_answered(
+        h,
+        univmon::update_weighted(h, counters, norms, entries, counts, record, weight, list),
+    )
 }
 
 // The key goes to its bottom layer only.
+#[tactic(auto, unfolding(crate::specs::Calls::change_by, layout::specs::Answers::list_left))]
 pub fn univmon_update_weighted_terminal(
     header: CHeader,
     counters: &mut [i64],
@@ -115,17 +121,20 @@ pub fn univmon_update_weighted_terminal(
     ensures list_after { list.new
         ≡ list_left result.refusal (update_answers kind.Terminal (view (lent_of one_tier_face (c_lent_in header counters norms entries counts))) «record».now weight) list.old }
 {
-    if LAST_MODE < header.mode {
+    let Some(h) = known_header(header) else {
         return CAnswered { refusal: 9, header };
-    }
-    let h = header_of(header);
-    c_answered(univmon::update_weighted_terminal(
-        h, counters, norms, entries, counts, record, weight, list,
-    ))
+    };
+    c_answered(
+        h,
+        univmon::update_weighted_terminal(
+            h, counters, norms, entries, counts, record, weight, list,
+        ),
+    )
 }
 
 // A change of one counter that another relay saw: fidelity 0 is every insert, 1 promoted only;
 // another number is refused with 9.
+#[tactic(auto, unfolding(crate::specs::Calls::change_by, layout::specs::Answers::list_left))]
 pub fn univmon_apply_delta(
     header: CHeader,
     counters: &mut [i64],
@@ -146,22 +155,24 @@ pub fn univmon_apply_delta(
     ensures list_after { list.new
         ≡ list_left result.refusal (delta_answers (view (lent_of one_tier_face (c_lent_in header counters norms entries counts))) «record».now (arrival layer row col count (fidelity_of fidelity))) list.old }
 {
-    if LAST_MODE < header.mode {
+    let Some(h) = known_header(header) else {
         return CAnswered { refusal: 9, header };
-    }
-    if LAST_FIDELITY < fidelity {
+    };
+    let Some(f) = known_fidelity(fidelity) else {
         return CAnswered { refusal: 9, header };
-    }
-    let h = header_of(header);
-    let f = fidelity_of(fidelity);
-    c_answered(univmon_delta::apply_delta(
-        h, counters, norms, entries, counts, record, layer, row, col, count, f, list,
-    ))
+    };
+    c_answered(
+        h,
+        univmon_delta::apply_delta(
+            h, counters, norms, entries, counts, record, layer, row, col, count, f, list,
+        ),
+    )
 }
 
 // ---- two states
 
 // Merges the other state into this one.
+#[tactic(auto, unfolding(crate::specs::Calls::merge_by, layout::specs::Answers::list_left))]
 pub fn univmon_merge(
     header: CHeader,
     counters: &mut [i64],
@@ -182,60 +193,61 @@ pub fn univmon_merge(
         ≡ list_left result.refusal (merge_answers (view (lent_of one_tier_face (c_lent_in header counters norms entries counts)))
         (view (lent_of one_tier_face (c_lent other other_counters.now other_norms.now other_entries.now other_counts.now)))) list.old }
 {
-    if LAST_MODE < header.mode {
+    let Some(h) = known_header(header) else {
         return CAnswered { refusal: 9, header };
-    }
-    if LAST_MODE < other.mode {
+    };
+    let Some(o) = known_header(other) else {
         return CAnswered { refusal: 9, header };
-    }
-    let h = header_of(header);
-    let o = header_of(other);
-    c_answered(univmon_merge::merge(
+    };
+    c_answered(
         h,
-        counters,
-        norms,
-        entries,
-        counts,
-        o,
-        other_counters,
-        other_norms,
-        other_entries,
-        other_counts,
-        list,
-    ))
+        univmon_merge::merge(
+            h,
+            counters,
+            norms,
+            entries,
+            counts,
+            o,
+            other_counters,
+            other_norms,
+            other_entries,
+            other_counts,
+            list,
+        ),
+    )
 }
 
 // ---- the header alone
 
 // Sets the weight that a relay fed by deltas believes it has seen.
+#[tactic(auto, unfolding(crate::specs::Calls::head_by))]
 pub fn univmon_set_total_weight(header: CHeader, weight: u64) -> CAnswered
     ensures { result ≡ head_by (λ h. weight_call h weight) header }
 {
-    if LAST_MODE < header.mode {
+    let Some(h) = known_header(header) else {
         return CAnswered { refusal: 9, header };
-    }
-    let h = header_of(header);
-    c_answered(univmon::set_total_weight(h, weight))
+    };
+    c_answered(h, univmon::set_total_weight(h, weight))
 }
 
 // Marks every layer's candidates as partial.
+#[tactic(auto, unfolding(crate::specs::Calls::head_by))]
 pub fn univmon_mark_candidates_incomplete(header: CHeader) -> CAnswered
     ensures { result ≡ head_by mark_call header }
 {
-    if LAST_MODE < header.mode {
+    let Some(h) = known_header(header) else {
         return CAnswered { refusal: 9, header };
-    }
-    let h = header_of(header);
-    c_answered(univmon::mark_candidates_incomplete(h))
+    };
+    c_answered(h, univmon::mark_candidates_incomplete(h))
 }
 
 // Marks one layer's candidates as partial.
+#[tactic(auto, unfolding(crate::specs::Calls::head_by))]
 pub fn univmon_mark_layer_candidates_incomplete(header: CHeader, layer: usize) -> CAnswered
     ensures { result ≡ head_by (λ h. mark_layer_call h layer) header }
 {
-    if LAST_MODE < header.mode {
+    let Some(h) = known_header(header) else {
         return CAnswered { refusal: 9, header };
-    }
-    let h = header_of(header);
-    c_answered(univmon::mark_layer_candidates_incomplete(h, layer))
+    };
+    c_answered(h, univmon::mark_layer_candidates_incomplete(h, layer))
 }

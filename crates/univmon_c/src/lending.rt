@@ -9,10 +9,11 @@ ghost use Rattle.univmon.specs.Calls.{lent_update_list_call};
 ghost use Rattle.univmon_c.specs.Calls.{one_tier_face, lent_of, c_left, change_by};
 ghost use Rattle.univmon_c.specs.Lending.{c_head_in, c_head_out, c_lent_in, c_lent_out};
 
-use crate::crossing::{LAST_MODE, c_step, scalars_of};
+use crate::crossing::{c_step, known_scalars};
 use crate::{CShape, CStep};
 
 // The key goes to layers 0 to its bottom layer.
+#[tactic(auto, unfolding(crate::specs::Calls::change_by, layout::specs::Answers::list_left))]
 pub fn univmon_update_weighted_lent(
     shape: CShape,
     total_weight: u64,
@@ -33,21 +34,24 @@ pub fn univmon_update_weighted_lent(
     ensures list_after { list.new
         ≡ list_left result.refusal (update_answers kind.Standard (view (lent_of one_tier_face (c_lent_in (c_head_in shape total_weight total_updates mode lens flags) counters norms entries counts))) «record».now weight) list.old }
 {
-    if LAST_MODE < mode {
+    let Some(scalars) = known_scalars(shape, total_weight, total_updates, mode) else {
         return CStep {
             refusal: 9,
             weight: total_weight,
             updates: total_updates,
             mode,
         };
-    }
-    let scalars = scalars_of(shape, total_weight, total_updates, mode);
-    c_step(univmon::update_weighted_lent(
-        scalars, lens, flags, counters, norms, entries, counts, record, weight, list,
-    ))
+    };
+    c_step(
+        scalars,
+        univmon::update_weighted_lent(
+            scalars, lens, flags, counters, norms, entries, counts, record, weight, list,
+        ),
+    )
 }
 
 // The key goes to its bottom layer only.
+#[tactic(auto, unfolding(crate::specs::Calls::change_by, layout::specs::Answers::list_left))]
 pub fn univmon_update_weighted_terminal_lent(
     shape: CShape,
     total_weight: u64,
@@ -68,16 +72,18 @@ pub fn univmon_update_weighted_terminal_lent(
     ensures list_after { list.new
         ≡ list_left result.refusal (update_answers kind.Terminal (view (lent_of one_tier_face (c_lent_in (c_head_in shape total_weight total_updates mode lens flags) counters norms entries counts))) «record».now weight) list.old }
 {
-    if LAST_MODE < mode {
+    let Some(scalars) = known_scalars(shape, total_weight, total_updates, mode) else {
         return CStep {
             refusal: 9,
             weight: total_weight,
             updates: total_updates,
             mode,
         };
-    }
-    let scalars = scalars_of(shape, total_weight, total_updates, mode);
-    c_step(univmon::update_weighted_terminal_lent(
-        scalars, lens, flags, counters, norms, entries, counts, record, weight, list,
-    ))
+    };
+    c_step(
+        scalars,
+        univmon::update_weighted_terminal_lent(
+            scalars, lens, flags, counters, norms, entries, counts, record, weight, list,
+        ),
+    )
 }

@@ -3,7 +3,8 @@
 
 #![tactic(auto)]
 
-ghost use Rattle.std.specs.Prelude.{◌≡◌, Bool, true, ◌&&◌, ◌++◌, ℕ, ◌+◌, ◌*◌, ◌≤◌, ◌<◌, length};
+ghost use Rattle.refusal.specs.Refusals.{kept, refused};
+ghost use Rattle.std.specs.Prelude.{◌≡◌, Bool, ◌&&◌, ◌++◌, ℕ, ◌+◌, ◌*◌, ◌≤◌, ◌<◌, length};
 ghost use Rattle.words.specs.Tests.{number};
 ghost use Rattle.heap.specs.Offer.{kept_by};
 ghost use Rattle.heap.specs.inner.Telling.{tell_at};
@@ -17,17 +18,18 @@ ghost use Rattle.layout.specs.Outcomes.{left, left_after};
 ghost use Rattle.layout.specs.Answers.{list_left};
 ghost use Rattle.layout.specs.inner.Needs.{Standing};
 ghost use Rattle.layout.specs.inner.Telling.{list_tests};
-ghost use Rattle.layout.specs.Lending.{lent_in, lent_now, lent_out};
+ghost use Rattle.layout.specs.Lending.{lent_in, lent_out, lent_read};
 ghost use Rattle.univmon_delta.specs.declared.Fidelity.{Fidelity};
 ghost use Rattle.univmon_delta.specs.Deltas.{every_insert, delta_tests_at, delta_tests, delta_answers, delta_list_call, arrival};
 ghost use Rattle.univmon_delta.specs.inner.Needs.{Placed, Arrives};
 
-use header::{Answered, Header, Mode};
+use header::{Header, Mode};
 use heap::Answer;
-use layout::{cells_at, dims, item_in, lent_refusal, norms_at, seats_at, span_of, zero_places};
+use layout::{LentState, check_lent, dims, item_in, span_of, zero_places};
+use refusal::Refusal;
 
 // How much of the stream reached a relay that is fed by deltas.
-#[derive(Clone, Copy)]
+#[derive(Clone, Copy, Debug, PartialEq, Eq)]
 pub enum Fidelity {
     EveryInsert,
     PromotedOnly,
@@ -37,62 +39,48 @@ pub enum Fidelity {
 pub fn every_insert(f: Fidelity) -> bool
     ensures { result ≡ every_insert f }
 {
-    match f {
-        Fidelity::EveryInsert => true,
-        Fidelity::PromotedOnly => false,
-    }
+    matches!(f, Fidelity::EveryInsert)
 }
 
 // Whether the layer still holds every key: none was lost, and every insert came here.
 pub fn kept_all(a: Answer, every: bool) -> bool
     ensures { result ≡ kept_by a && every }
 {
-    if heap::kept(a) {
-        return every;
-    }
-    false
+    heap::kept(a) && every
 }
 
-// 0 if the delta may be made, 9 if something that it reads is out of range, 11 if its counter would
-// leave the range. The state is lent whole, so that the contract can name it; no entry is read.
-fn judge_delta(
-    h: Header,
-    counters: &[i64],
-    norms: &[u64],
-    entries: &[u64],
-    counts: &[i64],
+// Whether the delta may be made: 9 if something that it reads is out of range, 11 if its counter would
+// leave the range. No entry is read.
+fn check_layer(
+    state: LentState,
     record: &[u64],
     l: usize,
     row: usize,
     col: usize,
     count: i64,
-) -> u64
-    requires { Placed (lent_now h counters norms entries counts) «record».now l row col }
-    ensures { (every : Bool) → result ≡ number (delta_tests_at (dims_at h.shape l) (delta row col count (item_at «record».now l) every)
-        (layer_at (view (lent h counters.now norms.now entries.now counts.now)) l)) }
+) -> Result<(), Refusal>
+    requires { Placed (lent_read state) «record».now l row col }
+    ensures { (every : Bool) → refused result ≡ number (delta_tests_at (dims_at state.entry.header.now.shape l) (delta row col count (item_at «record».now l) every)
+        (layer_at (view (lent_read state.entry)) l)) }
 {
-    let shape = h.shape;
-    let d = dims(shape, l);
+    let here = state.layer(l);
     let item = item_in(record, l);
-    let lens = h.lens;
-    let len = lens[l];
-    let cells = cells_at(shape, l, counters);
     if !layer::delta_reads(
-        cells,
-        norms_at(shape, l, norms),
-        seats_at(shape, l, counts),
-        d,
-        len,
+        here.cells,
+        here.norms,
+        here.counts,
+        here.dims,
+        here.len,
         row,
         col,
         item,
     ) {
-        return 9;
+        return Err(Refusal::OutOfRange);
     }
-    if layer::delta_fits(cells, d, row, col, count) {
-        return 0;
+    if layer::delta_fits(here.cells, here.dims, row, col, count) {
+        return Ok(());
     }
-    11
+    Err(Refusal::CounterAbove)
 }
 
 // Makes the delta on its layer, once it is judged; the layer's place in the list tells what the offer of
@@ -128,14 +116,14 @@ fn deliver(
     let item = item_in(record, l);
     let lens = h.lens;
     let len = lens[l];
-    let ca = s.cells;
-    let ce = s.cells_end;
-    let na = s.norms;
-    let ne = s.norms_end;
-    let ea = s.words;
-    let ee = s.words_end;
-    let ta = s.seats;
-    let te = s.seats_end;
+    let ca = s.cells.start;
+    let ce = s.cells.end;
+    let na = s.norms.start;
+    let ne = s.norms.end;
+    let ea = s.words.start;
+    let ee = s.words.end;
+    let ta = s.seats.start;
+    let te = s.seats.end;
     let answer = layer::apply_delta(
         &mut counters[ca..ce],
         &mut norms[na..ne],
@@ -152,52 +140,44 @@ fn deliver(
     h.touched(l, heap::len_after(len, answer), kept_all(answer, every))
 }
 
-// The number that a delta with a list of so many words is refused with, 0 for none: 9, 12, 8, then 9 and
-// 11 for its layer, then 16.
-fn delta_refusal(
-    h: Header,
-    counters: &[i64],
-    norms: &[u64],
-    entries: &[u64],
-    counts: &[i64],
+// Whether a delta with a list of so many words may be made: 9, 12, 8, then 9 and 11 for its layer, then 16.
+fn check_delta(
+    state: LentState,
     record: &[u64],
     l: usize,
     row: usize,
     col: usize,
     count: i64,
     list: usize,
-) -> u64
-    ensures { (f : Fidelity) → result ≡ number (delta_tests (lent h counters.now norms.now entries.now counts.now) «record».now (arrival l row col count f) ++ list_tests (2 * h.shape.layers) list) }
+) -> Result<(), Refusal>
+    ensures { (f : Fidelity) → refused result ≡ number (delta_tests (lent_read state.entry) «record».now (arrival l row col count f) ++ list_tests (2 * state.entry.header.now.shape.layers) list) }
 {
-    let unfit = lent_refusal(h, counters, norms, entries, counts);
-    if unfit != 0 {
-        return unfit;
-    }
-    let shape = h.shape;
+    check_lent(
+        *state.header,
+        state.counters,
+        state.norms,
+        state.entries,
+        state.counts,
+    )?;
+    let shape = state.header.shape;
     if record.len() != 2 + 2 * shape.layers {
-        return 12;
+        return Err(Refusal::RecordLength);
     }
     if shape.layers <= l {
-        return 8;
+        return Err(Refusal::OutsideShape);
     }
     let d = dims(shape, l);
     if d.rows <= row {
-        return 8;
+        return Err(Refusal::OutsideShape);
     }
     if d.cols <= col {
-        return 8;
+        return Err(Refusal::OutsideShape);
     }
-    let unready = judge_delta(
-        h, counters, norms, entries, counts, record, l, row, col, count,
-    );
-    let refused = unready != 0;
-    if refused {
-        return unready;
-    }
+    check_layer(state, record, l, row, col, count)?;
     if list < 2 * shape.layers {
-        return 16;
+        return Err(Refusal::TooShort);
     }
-    unready
+    Ok(())
 }
 
 // The header that a delta begins with: an unset mode becomes standard, and nothing is added up.
@@ -222,36 +202,32 @@ pub fn apply_delta(
     count: i32,
     fidelity: Fidelity,
     list: &mut [u64],
-) -> Answered
-    ensures counts_value { left result.refusal (lent_out result.header counters norms entries counts)
+) -> Result<Header, Refusal>
+    ensures counts_value { left (refused result) (lent_out (kept header result) counters norms entries counts)
         ≡ left_after (λ s. delta_list_call s «record».now (arrival layer row col count fidelity) (length list.old)) (lent_in header counters norms entries counts) }
     ensures list_after { list.new
-        ≡ list_left result.refusal (delta_answers (view (lent_in header counters norms entries counts)) «record».now (arrival layer row col count fidelity)) list.old }
+        ≡ list_left (refused result) (delta_answers (view (lent_in header counters norms entries counts)) «record».now (arrival layer row col count fidelity)) list.old }
 {
-    let n = count as i64;
-    let refusal = delta_refusal(
-        header,
-        &*counters,
-        &*norms,
-        &*entries,
-        &*counts,
+    let n = i64::from(count);
+    check_delta(
+        LentState {
+            header: &header,
+            counters: &*counters,
+            norms: &*norms,
+            entries: &*entries,
+            counts: &*counts,
+        },
         record,
         layer,
         row,
         col,
         n,
         list.len(),
-    );
-    if refusal != 0 {
-        return Answered { refusal, header };
-    }
+    )?;
     let begun = begin_delta(header);
     let every = every_insert(fidelity);
     zero_places(list, header.shape.layers);
-    Answered {
-        refusal: 0,
-        header: deliver(
-            begun, counters, norms, entries, counts, record, layer, row, col, n, every, list,
-        ),
-    }
+    Ok(deliver(
+        begun, counters, norms, entries, counts, record, layer, row, col, n, every, list,
+    ))
 }

@@ -14,11 +14,11 @@ use Rattle.layer_indexed.specs.Adding.{delta_reads_in, delta_moves_in}
 use Rattle.layer_indexed.specs.inner.Needs.{grade_by, delta_grade}
 use Rattle.univmon_delta_indexed.specs.Deltas.{delta_tests_in}
 
--- what `grade_number` answers of a grade
-abbrev pub grade_number : ℕ → ℕ
-grade_number g = cond (eqb g 4) 0 (cond (eqb g 2) 11 9)
+-- what a grade is refused with, 0 where it is fine
+abbrev pub refused_by : ℕ → ℕ
+refused_by g = cond (eqb g 4) 0 (cond (eqb g 2) 11 9)
 
-by_tests : (reads fits moves : Bool) → grade_number (grade_by reads fits moves) ≡ number ((not reads, 9) ∷ (not fits, 11) ∷ (not moves, 9) ∷ [])
+by_tests : (reads fits moves : Bool) → refused_by (grade_by reads fits moves) ≡ number ((not reads, 9) ∷ (not fits, 11) ∷ (not moves, 9) ∷ [])
 by_tests false f m = refl
 by_tests true false m = refl
 by_tests true true false = refl
@@ -28,9 +28,9 @@ all_hold : (reads fits moves : Bool) → reads ≡ true → fits ≡ true → mo
 all_hold reads fits moves a b c = rw (a, b, c)
 
 module _ (d : Dims) (u : Delta) (xs : List ℕ) (y : Layer) where
-  pub number_graded : (g n : ℕ) → g ≡ delta_grade d u xs y → n ≡ grade_number g → n ≡ number (delta_tests_in d u xs y)
+  pub number_graded : (g n : ℕ) → g ≡ delta_grade d u xs y → n ≡ refused_by g → n ≡ number (delta_tests_in d u xs y)
   unfolding delta_grade
-  number_graded g n e q = q ∙ ap grade_number e ∙ by_tests (delta_reads_in d u xs y) (delta_fits d u y) (delta_moves_in d u xs y)
+  number_graded g n e q = q ∙ ap refused_by e ∙ by_tests (delta_reads_in d u xs y) (delta_fits d u y) (delta_moves_in d u xs y)
 
   -- where no test refuses, the delta may be made
   pub grade_off : Off (delta_tests_in d u xs y) → delta_grade d u xs y ≡ 4

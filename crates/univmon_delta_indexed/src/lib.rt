@@ -3,11 +3,13 @@
 
 #![tactic(auto)]
 
+ghost use Rattle.refusal.specs.Refusals.{kept, refused};
 ghost use Rattle.std.specs.Prelude.{◌≡◌, Bool, cond, ◌++◌, ℕ, ◌+◌, ◌*◌, ◌≤◌, length, eqb};
 ghost use Rattle.words.specs.Tests.{number};
 ghost use Rattle.heap.specs.inner.Telling.{tell_at};
 ghost use Rattle.layer.specs.inner.Needs.{delta};
 ghost use Rattle.layer_indexed.specs.Adding.{delta_layer_in, delta_index_in, delta_answer_in};
+ghost use Rattle.layer_indexed.specs.inner.Needs.{grade_number};
 ghost use Rattle.layout.specs.State.{dims_at, layer_at, put_layer};
 ghost use Rattle.layout.specs.Slices.{view, lent};
 ghost use Rattle.layout.specs.Records.{item_at};
@@ -22,27 +24,27 @@ ghost use Rattle.univmon_delta.specs.Deltas.{arrival};
 ghost use Rattle.univmon_delta_indexed.specs.Deltas.{arrived_index, delta_answers_in, delta_tests_in, indexed_delta_tests, indexed_delta_call};
 ghost use Rattle.univmon_delta_indexed.specs.inner.Needs.{PlacedIn, ArrivesIn};
 
-use header::{Answered, Header};
+use header::Header;
+use layer_indexed::Grade;
 use layout::{dims, item_in, norms_at, span_of, zero_places};
-use layout_index::{indexed_refusal, table_span};
+use layout_index::{check_indexed, table_span};
+use refusal::Refusal;
 use univmon_delta::{Fidelity, begin_delta, every_insert, kept_all};
 
-// The number that a grade is refused with.
-fn grade_number(grade: u64) -> u64
-    ensures { result ≡ cond (eqb grade 4) 0 (cond (eqb grade 2) 11 9) }
+// Whether a grade is refused.
+fn check_grade(grade: Grade) -> Result<(), Refusal>
+    ensures { refused result ≡ cond (eqb (grade_number grade) 4) 0 (cond (eqb (grade_number grade) 2) 11 9) }
 {
-    if grade == 4 {
-        return 0;
+    match grade {
+        Grade::Unread | Grade::Unmoved => Err(Refusal::OutOfRange),
+        Grade::Above => Err(Refusal::CounterAbove),
+        Grade::Fine => Ok(()),
     }
-    if grade == 2 {
-        return 11;
-    }
-    9
 }
 
-// 0 if the delta may be made, 9 if something that it reads first is out of range, 11 if its counter would leave
+// Whether the delta may be made: 9 if something that it reads first is out of range, 11 if its counter would leave
 // the range, 9 if a visit of its moves is refused.
-fn judge_delta(
+fn check_layer(
     h: Header,
     counters: &mut [i64],
     norms: &[u64],
@@ -54,9 +56,9 @@ fn judge_delta(
     row: usize,
     col: usize,
     count: i64,
-) -> u64
+) -> Result<(), Refusal>
     requires { PlacedIn (lent h counters.old norms.now entries.old counts.old) index.old «record».now l row col }
-    ensures value { (every : Bool) → result ≡ number (delta_tests_in (dims_at h.shape l) (delta row col count (item_at «record».now l) every) (table_at h.shape index.old l)
+    ensures value { (every : Bool) → refused result ≡ number (delta_tests_in (dims_at h.shape l) (delta row col count (item_at «record».now l) every) (table_at h.shape index.old l)
         (layer_at (view (lent h counters.old norms.now entries.old counts.old)) l)) }
     ensures counters_unchanged { (counters.new ≡ counters.old) × ((entries.new ≡ entries.old) × ((counts.new ≡ counts.old) × (index.new ≡ index.old))) }
 {
@@ -67,12 +69,12 @@ fn judge_delta(
     let item = item_in(record, l);
     let lens = h.lens;
     let len = lens[l];
-    let ca = s.cells;
-    let ce = s.cells_end;
-    let ea = s.words;
-    let ee = s.words_end;
-    let ta = s.seats;
-    let te = s.seats_end;
+    let ca = s.cells.start;
+    let ce = s.cells.end;
+    let ea = s.words.start;
+    let ee = s.words.end;
+    let ta = s.seats.start;
+    let te = s.seats.end;
     let ia = t.start;
     let ie = t.end;
     let grade = layer_indexed::delta_grade(
@@ -88,7 +90,7 @@ fn judge_delta(
         count,
         item,
     );
-    grade_number(grade)
+    check_grade(grade)
 }
 
 // Makes the delta on its layer, once it is judged; the layer's place in the list tells what the offer of
@@ -129,14 +131,14 @@ fn deliver(
     let item = item_in(record, l);
     let lens = h.lens;
     let len = lens[l];
-    let ca = s.cells;
-    let ce = s.cells_end;
-    let na = s.norms;
-    let ne = s.norms_end;
-    let ea = s.words;
-    let ee = s.words_end;
-    let ta = s.seats;
-    let te = s.seats_end;
+    let ca = s.cells.start;
+    let ce = s.cells.end;
+    let na = s.norms.start;
+    let ne = s.norms.end;
+    let ea = s.words.start;
+    let ee = s.words.end;
+    let ta = s.seats.start;
+    let te = s.seats.end;
     let ia = t.start;
     let ie = t.end;
     let answer = layer_indexed::apply_delta(
@@ -156,9 +158,8 @@ fn deliver(
     h.touched(l, heap::len_after(len, answer), kept_all(answer, every))
 }
 
-// The number that a delta with a list of so many words is refused with, 0 for none: 9, 12, 8, then 9, 11 and 9 for
-// its layer, then 16.
-fn delta_refusal(
+// Whether a delta with a list of so many words may be made: 9, 12, 8, then 9, 11 and 9 for its layer, then 16.
+fn check_delta(
     h: Header,
     counters: &mut [i64],
     norms: &[u64],
@@ -171,38 +172,32 @@ fn delta_refusal(
     col: usize,
     count: i64,
     list: usize,
-) -> u64
-    ensures value { (f : Fidelity) → result ≡ number (indexed_delta_tests (lent h counters.old norms.now entries.old counts.old) index.old «record».now (arrival l row col count f) ++ list_tests (2 * h.shape.layers) list) }
+) -> Result<(), Refusal>
+    ensures value { (f : Fidelity) → refused result ≡ number (indexed_delta_tests (lent h counters.old norms.now entries.old counts.old) index.old «record».now (arrival l row col count f) ++ list_tests (2 * h.shape.layers) list) }
     ensures counters_unchanged { (counters.new ≡ counters.old) × ((entries.new ≡ entries.old) × ((counts.new ≡ counts.old) × (index.new ≡ index.old))) }
 {
-    let unfit = indexed_refusal(h, &*counters, norms, &*entries, &*counts, &*index);
-    if unfit != 0 {
-        return unfit;
-    }
+    check_indexed(h, &*counters, norms, &*entries, &*counts, &*index)?;
     let shape = h.shape;
     if record.len() != 2 + 2 * shape.layers {
-        return 12;
+        return Err(Refusal::RecordLength);
     }
     if shape.layers <= l {
-        return 8;
+        return Err(Refusal::OutsideShape);
     }
     let d = dims(shape, l);
     if d.rows <= row {
-        return 8;
+        return Err(Refusal::OutsideShape);
     }
     if d.cols <= col {
-        return 8;
+        return Err(Refusal::OutsideShape);
     }
-    let unready = judge_delta(
+    check_layer(
         h, counters, norms, entries, counts, index, record, l, row, col, count,
-    );
-    if unready != 0 {
-        return unready;
-    }
+    )?;
     if list < 2 * shape.layers {
-        return 16;
+        return Err(Refusal::TooShort);
     }
-    unready
+    Ok(())
 }
 
 // A delta on one counter of one layer, and the offer of its key there: 9, 12, 8, 9, 11, 9, 16.
@@ -220,16 +215,16 @@ pub fn apply_delta_indexed(
     count: i32,
     fidelity: Fidelity,
     list: &mut [u64],
-) -> Answered
-    ensures counts_value { left result.refusal (lent_out result.header counters norms entries counts)
+) -> Result<Header, Refusal>
+    ensures counts_value { left (refused result) (lent_out (kept header result) counters norms entries counts)
         ≡ left_after (λ s. indexed_delta_call s index.old «record».now (arrival layer row col count fidelity) (length list.old)) (lent_in header counters norms entries counts) }
     ensures index_after { index.new
-        ≡ index_left result.refusal (arrived_index (view (lent_in header counters norms entries counts)) index.old «record».now (arrival layer row col count fidelity)) index.old }
+        ≡ index_left (refused result) (arrived_index (view (lent_in header counters norms entries counts)) index.old «record».now (arrival layer row col count fidelity)) index.old }
     ensures list_after { list.new
-        ≡ list_left result.refusal (delta_answers_in (view (lent_in header counters norms entries counts)) index.old «record».now (arrival layer row col count fidelity)) list.old }
+        ≡ list_left (refused result) (delta_answers_in (view (lent_in header counters norms entries counts)) index.old «record».now (arrival layer row col count fidelity)) list.old }
 {
-    let n = count as i64;
-    let refusal = delta_refusal(
+    let n = i64::from(count);
+    check_delta(
         header,
         counters,
         &*norms,
@@ -242,17 +237,11 @@ pub fn apply_delta_indexed(
         col,
         n,
         list.len(),
-    );
-    if refusal != 0 {
-        return Answered { refusal, header };
-    }
+    )?;
     let begun = begin_delta(header);
     let every = every_insert(fidelity);
     zero_places(list, header.shape.layers);
-    Answered {
-        refusal: 0,
-        header: deliver(
-            begun, counters, norms, entries, counts, index, record, layer, row, col, n, every, list,
-        ),
-    }
+    Ok(deliver(
+        begun, counters, norms, entries, counts, index, record, layer, row, col, n, every, list,
+    ))
 }

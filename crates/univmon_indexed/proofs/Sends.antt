@@ -96,8 +96,8 @@ module _ {r : Lent} {l : ℕ} {s : Span} (words : List ℕ) (w : ℕ) (q : Spann
           subst (Fits d) (e ∙ layer_is)
           (record { cells = b.cells ∙ (housed q).cells; norms = length-norms ws d.rows; cands = length-cands es ns ∙ b.seats ∙ (housed q).seats })
 
-      pub sent-one : SentOneIn words w l r (lent h (put_part s.cells (s.cells_end - s.cells) r.counters xs) (put_part s.norms (s.norms_end - s.norms) r.norms ws)
-          (put_part s.words (s.words_end - s.words) r.entries es) (put_part s.seats (s.seats_end - s.seats) r.counts ns)) index index' list₀ list
+      pub sent-one : SentOneIn words w l r (lent h (put_part s.cells.start (s.cells.end - s.cells.start) r.counters xs) (put_part s.norms.start (s.norms.end - s.norms.start) r.norms ws)
+          (put_part s.words.start (s.words.end - s.words.start) r.entries es) (put_part s.seats.start (s.seats.end - s.seats.start) r.counts ns)) index index' list₀ list
       unfolding layer_at view
       sent-one =
           record {

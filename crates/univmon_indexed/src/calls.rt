@@ -1,5 +1,6 @@
 // The updates on a header by value, with an index. Lengths and flags are taken out once and lent, as in
 // `univmon`.
+ghost use Rattle.refusal.specs.Refusals.{kept, refused};
 ghost use Rattle.std.specs.Prelude.{◌≡◌, ℕ, length};
 ghost use Rattle.layout.specs.Slices.{view};
 ghost use Rattle.layout.specs.Outcomes.{left, left_after};
@@ -11,11 +12,11 @@ ghost use Rattle.univmon_indexed.specs.Updates.{updated_index, update_answers_in
 ghost use Rattle.univmon_indexed.specs.Calls.{indexed_update_call};
 
 use crate::stages::update;
-use header::{Answered, Header};
-use univmon::{Kind, mode_of};
+use header::Header;
+use refusal::Refusal;
+use univmon::{Kind, begins, mode_of};
 
-// An update of either kind, on any arguments: 9, 12, 5, 6, 7, 14, 9, 11, 9, 16. The lent lengths and flags
-// are put back after a refusal too: a refused update has not changed them, so no second copy is kept.
+// An update of either kind, on any arguments: 9, 12, 5, 6, 7, 14, 9, 11, 9, 16.
 fn update_held(
     kind: Kind,
     header: Header,
@@ -27,21 +28,21 @@ fn update_held(
     record: &[u64],
     weight: i64,
     list: &mut [u64],
-) -> Answered
-    ensures counts_value { left result.refusal (lent_out result.header counters norms entries counts)
+) -> Result<Header, Refusal>
+    ensures counts_value { left (refused result) (lent_out (kept header result) counters norms entries counts)
         ≡ left_after (λ s. indexed_update_call kind s index.old «record».now weight (length list.old)) (lent_in header counters norms entries counts) }
     ensures index_after { index.new
-        ≡ index_left result.refusal (updated_index kind (view (lent_in header counters norms entries counts)) index.old «record».now weight) index.old }
+        ≡ index_left (refused result) (updated_index kind (view (lent_in header counters norms entries counts)) index.old «record».now weight) index.old }
     ensures list_after { list.new
-        ≡ list_left result.refusal (update_answers_in kind (view (lent_in header counters norms entries counts)) index.old «record».now weight) list.old }
+        ≡ list_left (refused result) (update_answers_in kind (view (lent_in header counters norms entries counts)) index.old «record».now weight) list.old }
 {
     let begun = header.begin_update(weight, mode_of(kind));
     let mut lens = header.lens;
     let mut flags = header.flags;
-    let refusal = update(
+    update(
         kind,
         header.scalars(),
-        begun.refusal,
+        begins(begun),
         &mut lens,
         &mut flags,
         counters,
@@ -52,18 +53,8 @@ fn update_held(
         record,
         weight,
         list,
-    );
-    if refusal != 0 {
-        return Answered {
-            refusal,
-            header: header.with_layers(lens, flags),
-        };
-    }
-    let start = begun.header;
-    Answered {
-        refusal: 0,
-        header: start.with_layers(lens, flags),
-    }
+    )?;
+    Ok(begun?.with_layers(lens, flags))
 }
 
 // The key goes to layers 0 to its bottom layer.
@@ -77,13 +68,13 @@ pub fn update_weighted_indexed(
     record: &[u64],
     weight: i64,
     list: &mut [u64],
-) -> Answered
-    ensures counts_value { left result.refusal (lent_out result.header counters norms entries counts)
+) -> Result<Header, Refusal>
+    ensures counts_value { left (refused result) (lent_out (kept header result) counters norms entries counts)
         ≡ left_after (λ s. indexed_update_call kind.Standard s index.old «record».now weight (length list.old)) (lent_in header counters norms entries counts) }
     ensures index_after { index.new
-        ≡ index_left result.refusal (updated_index kind.Standard (view (lent_in header counters norms entries counts)) index.old «record».now weight) index.old }
+        ≡ index_left (refused result) (updated_index kind.Standard (view (lent_in header counters norms entries counts)) index.old «record».now weight) index.old }
     ensures list_after { list.new
-        ≡ list_left result.refusal (update_answers_in kind.Standard (view (lent_in header counters norms entries counts)) index.old «record».now weight) list.old }
+        ≡ list_left (refused result) (update_answers_in kind.Standard (view (lent_in header counters norms entries counts)) index.old «record».now weight) list.old }
 {
     update_held(
         Kind::Standard,
@@ -110,13 +101,13 @@ pub fn update_weighted_terminal_indexed(
     record: &[u64],
     weight: i64,
     list: &mut [u64],
-) -> Answered
-    ensures counts_value { left result.refusal (lent_out result.header counters norms entries counts)
+) -> Result<Header, Refusal>
+    ensures counts_value { left (refused result) (lent_out (kept header result) counters norms entries counts)
         ≡ left_after (λ s. indexed_update_call kind.Terminal s index.old «record».now weight (length list.old)) (lent_in header counters norms entries counts) }
     ensures index_after { index.new
-        ≡ index_left result.refusal (updated_index kind.Terminal (view (lent_in header counters norms entries counts)) index.old «record».now weight) index.old }
+        ≡ index_left (refused result) (updated_index kind.Terminal (view (lent_in header counters norms entries counts)) index.old «record».now weight) index.old }
     ensures list_after { list.new
-        ≡ list_left result.refusal (update_answers_in kind.Terminal (view (lent_in header counters norms entries counts)) index.old «record».now weight) list.old }
+        ≡ list_left (refused result) (update_answers_in kind.Terminal (view (lent_in header counters norms entries counts)) index.old «record».now weight) list.old }
 {
     update_held(
         Kind::Terminal,

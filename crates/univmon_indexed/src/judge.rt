@@ -1,8 +1,10 @@
 // How far an update may come at the layers that it touches. The offer is tried on the slices and taken back,
 // so that everything is left as it was lent.
+ghost use Rattle.refusal.specs.Refusals.{refused};
 ghost use Rattle.std.specs.Prelude.{◌≡◌, ℕ};
 ghost use Rattle.words.specs.Tests.{number};
 ghost use Rattle.header.specs.Lending.{head_now};
+ghost use Rattle.layer_indexed.specs.inner.Needs.{grade_number};
 ghost use Rattle.layout.specs.State.{layer_at, all_layers};
 ghost use Rattle.layout.specs.Slices.{view, lent};
 ghost use Rattle.univmon_indexed.specs.Updates.{layers_tests_in};
@@ -10,8 +12,10 @@ ghost use Rattle.univmon_indexed.specs.inner.Needs.{JudgeReadyIn, grade_in, reac
 ghost use Rattle.header.specs.Header.{head_of};
 
 use header::Scalars;
+use layer_indexed::Grade;
 use layout::{cells_at, dims, item_in, norms_at, span_of};
 use layout_index::table_span;
+use refusal::Refusal;
 
 // The grade of one layer.
 fn grade_at(
@@ -26,9 +30,9 @@ fn grade_at(
     record: &[u64],
     weight: u64,
     l: usize,
-) -> u64
+) -> Grade
     requires { JudgeReadyIn (lent (head_now h lens flags) counters.now norms.now entries.old counts.old) index.old «record».now weight 1 l }
-    ensures value { result ≡ grade_in h.shape «record».now weight index.old l (layer_at (view (lent (head_of h lens.now flags.now) counters.now norms.now entries.old counts.old)) l) }
+    ensures value { grade_number result ≡ grade_in h.shape «record».now weight index.old l (layer_at (view (lent (head_of h lens.now flags.now) counters.now norms.now entries.old counts.old)) l) }
     ensures entries_unchanged { (entries.new ≡ entries.old) × ((counts.new ≡ counts.old) × (index.new ≡ index.old)) }
 {
     let shape = h.shape;
@@ -37,18 +41,12 @@ fn grade_at(
     let d = dims(shape, l);
     let item = item_in(record, l);
     let len = lens[l];
-    let ea = s.words;
-    let ee = s.words_end;
-    let ta = s.seats;
-    let te = s.seats_end;
-    let ia = t.start;
-    let ie = t.end;
     layer_indexed::add_grade(
         cells_at(shape, l, counters),
         norms_at(shape, l, norms),
-        &mut entries[ea..ee],
-        &mut counts[ta..te],
-        &mut index[ia..ie],
+        &mut entries[s.words],
+        &mut counts[s.seats],
+        &mut index[t],
         d,
         len,
         item,
@@ -70,30 +68,27 @@ pub fn all_reach(
     weight: u64,
     first: usize,
     many: usize,
-    grade: u64,
+    grade: Grade,
 ) -> bool
     requires { JudgeReadyIn (lent (head_now h lens flags) counters.now norms.now entries.old counts.old) index.old «record».now weight many first }
-    ensures value { result ≡ all_layers (reaches_at grade h.shape «record».now weight index.old) many first (view (lent (head_of h lens.now flags.now) counters.now norms.now entries.old counts.old)) }
+    ensures value { result ≡ all_layers (reaches_at (grade_number grade) h.shape «record».now weight index.old) many first (view (lent (head_of h lens.now flags.now) counters.now norms.now entries.old counts.old)) }
     ensures entries_unchanged { (entries.new ≡ entries.old) × ((counts.new ≡ counts.old) × (index.new ≡ index.old)) }
 {
-    let end = first + many;
-    let mut l = first;
-    while l < end {
+    for l in first..first + many {
         let here = grade_at(
             h, lens, flags, counters, norms, entries, counts, index, record, weight, l,
         );
-        if here < grade {
+        if !here.reaches(grade) {
             return false;
         }
-        l += 1;
     }
     true
 }
 
-// 0 if the update may be made, 9 if something that it reads first is out of range, 11 if a counter would leave
+// Whether the update may be made: 9 if something that it reads first is out of range, 11 if a counter would leave
 // the range, 9 if a visit of its moves is refused. For a call that is refused: what is read first anywhere comes
 // before a counter anywhere, and that before the moves.
-pub fn judge_layers(
+pub fn check_layers(
     h: Scalars,
     lens: &[usize],
     flags: &[bool],
@@ -106,25 +101,61 @@ pub fn judge_layers(
     weight: u64,
     first: usize,
     many: usize,
-) -> u64
+) -> Result<(), Refusal>
     requires { JudgeReadyIn (lent (head_now h lens flags) counters.now norms.now entries.old counts.old) index.old «record».now weight many first }
-    ensures value { result ≡ number (layers_tests_in h.shape «record».now weight index.old many first (view (lent (head_of h lens.now flags.now) counters.now norms.now entries.old counts.old))) }
+    ensures value { refused result ≡ number (layers_tests_in h.shape «record».now weight index.old many first (view (lent (head_of h lens.now flags.now) counters.now norms.now entries.old counts.old))) }
     ensures entries_unchanged { (entries.new ≡ entries.old) × ((counts.new ≡ counts.old) × (index.new ≡ index.old)) }
 {
     if !all_reach(
-        h, lens, flags, counters, norms, entries, counts, index, record, weight, first, many, 2,
+        h,
+        lens,
+        flags,
+        counters,
+        norms,
+        entries,
+        counts,
+        index,
+        record,
+        weight,
+        first,
+        many,
+        Grade::Above,
     ) {
-        return 9;
+        return Err(Refusal::OutOfRange);
     }
     if !all_reach(
-        h, lens, flags, counters, norms, entries, counts, index, record, weight, first, many, 3,
+        h,
+        lens,
+        flags,
+        counters,
+        norms,
+        entries,
+        counts,
+        index,
+        record,
+        weight,
+        first,
+        many,
+        Grade::Unmoved,
     ) {
-        return 11;
+        return Err(Refusal::CounterAbove);
     }
     if !all_reach(
-        h, lens, flags, counters, norms, entries, counts, index, record, weight, first, many, 4,
+        h,
+        lens,
+        flags,
+        counters,
+        norms,
+        entries,
+        counts,
+        index,
+        record,
+        weight,
+        first,
+        many,
+        Grade::Fine,
     ) {
-        return 9;
+        return Err(Refusal::OutOfRange);
     }
-    0
+    Ok(())
 }

@@ -1,4 +1,5 @@
 // The updates with an index, on a header whose lengths and flags are lent beside the slices, 19 places each.
+ghost use Rattle.refusal.specs.Refusals.{kept, refused};
 ghost use Rattle.std.specs.Prelude.{◌≡◌, ℕ, length};
 ghost use Rattle.header.specs.Lending.{head_in, head_out};
 ghost use Rattle.layout.specs.Slices.{view};
@@ -11,8 +12,9 @@ ghost use Rattle.univmon_indexed.specs.Updates.{updated_index, update_answers_in
 ghost use Rattle.univmon_indexed.specs.Calls.{lent_indexed_update_call};
 
 use crate::stages::update;
-use header::{AnsweredLent, Scalars};
-use univmon::{Kind, mode_of};
+use header::Scalars;
+use refusal::Refusal;
+use univmon::{Kind, begins, mode_of};
 
 // An update of either kind, on any arguments.
 fn update_lent(
@@ -28,19 +30,19 @@ fn update_lent(
     record: &[u64],
     weight: i64,
     list: &mut [u64],
-) -> AnsweredLent
-    ensures counts_value { left result.refusal (lent_out (head_out result.scalars lens flags) counters norms entries counts)
+) -> Result<Scalars, Refusal>
+    ensures counts_value { left (refused result) (lent_out (head_out (kept scalars result) lens flags) counters norms entries counts)
         ≡ left_after (λ s. lent_indexed_update_call kind s index.old «record».now weight (length list.old)) (lent_in (head_in scalars lens flags) counters norms entries counts) }
     ensures index_after { index.new
-        ≡ index_left result.refusal (updated_index kind (view (lent_in (head_in scalars lens flags) counters norms entries counts)) index.old «record».now weight) index.old }
+        ≡ index_left (refused result) (updated_index kind (view (lent_in (head_in scalars lens flags) counters norms entries counts)) index.old «record».now weight) index.old }
     ensures list_after { list.new
-        ≡ list_left result.refusal (update_answers_in kind (view (lent_in (head_in scalars lens flags) counters norms entries counts)) index.old «record».now weight) list.old }
+        ≡ list_left (refused result) (update_answers_in kind (view (lent_in (head_in scalars lens flags) counters norms entries counts)) index.old «record».now weight) list.old }
 {
     let begun = scalars.begin_update(weight, mode_of(kind));
-    let refusal = update(
+    update(
         kind,
         scalars,
-        begun.refusal,
+        begins(begun),
         lens,
         flags,
         counters,
@@ -51,10 +53,7 @@ fn update_lent(
         record,
         weight,
         list,
-    );
-    if refusal != 0 {
-        return AnsweredLent { refusal, scalars };
-    }
+    )?;
     begun
 }
 
@@ -71,13 +70,13 @@ pub fn update_weighted_indexed_lent(
     record: &[u64],
     weight: i64,
     list: &mut [u64],
-) -> AnsweredLent
-    ensures counts_value { left result.refusal (lent_out (head_out result.scalars lens flags) counters norms entries counts)
+) -> Result<Scalars, Refusal>
+    ensures counts_value { left (refused result) (lent_out (head_out (kept scalars result) lens flags) counters norms entries counts)
         ≡ left_after (λ s. lent_indexed_update_call kind.Standard s index.old «record».now weight (length list.old)) (lent_in (head_in scalars lens flags) counters norms entries counts) }
     ensures index_after { index.new
-        ≡ index_left result.refusal (updated_index kind.Standard (view (lent_in (head_in scalars lens flags) counters norms entries counts)) index.old «record».now weight) index.old }
+        ≡ index_left (refused result) (updated_index kind.Standard (view (lent_in (head_in scalars lens flags) counters norms entries counts)) index.old «record».now weight) index.old }
     ensures list_after { list.new
-        ≡ list_left result.refusal (update_answers_in kind.Standard (view (lent_in (head_in scalars lens flags) counters norms entries counts)) index.old «record».now weight) list.old }
+        ≡ list_left (refused result) (update_answers_in kind.Standard (view (lent_in (head_in scalars lens flags) counters norms entries counts)) index.old «record».now weight) list.old }
 {
     update_lent(
         Kind::Standard,
@@ -108,13 +107,13 @@ pub fn update_weighted_terminal_indexed_lent(
     record: &[u64],
     weight: i64,
     list: &mut [u64],
-) -> AnsweredLent
-    ensures counts_value { left result.refusal (lent_out (head_out result.scalars lens flags) counters norms entries counts)
+) -> Result<Scalars, Refusal>
+    ensures counts_value { left (refused result) (lent_out (head_out (kept scalars result) lens flags) counters norms entries counts)
         ≡ left_after (λ s. lent_indexed_update_call kind.Terminal s index.old «record».now weight (length list.old)) (lent_in (head_in scalars lens flags) counters norms entries counts) }
     ensures index_after { index.new
-        ≡ index_left result.refusal (updated_index kind.Terminal (view (lent_in (head_in scalars lens flags) counters norms entries counts)) index.old «record».now weight) index.old }
+        ≡ index_left (refused result) (updated_index kind.Terminal (view (lent_in (head_in scalars lens flags) counters norms entries counts)) index.old «record».now weight) index.old }
     ensures list_after { list.new
-        ≡ list_left result.refusal (update_answers_in kind.Terminal (view (lent_in (head_in scalars lens flags) counters norms entries counts)) index.old «record».now weight) list.old }
+        ≡ list_left (refused result) (update_answers_in kind.Terminal (view (lent_in (head_in scalars lens flags) counters norms entries counts)) index.old «record».now weight) list.old }
 {
     update_lent(
         Kind::Terminal,

@@ -39,22 +39,12 @@ fn send_one(
     let d = dims(shape, l);
     let item = item_in(record, l);
     let len = lens[l];
-    let ca = s.cells;
-    let ce = s.cells_end;
-    let na = s.norms;
-    let ne = s.norms_end;
-    let ea = s.words;
-    let ee = s.words_end;
-    let ta = s.seats;
-    let te = s.seats_end;
-    let ia = t.start;
-    let ie = t.end;
     let answer = layer_indexed::add(
-        &mut counters[ca..ce],
-        &mut norms[na..ne],
-        &mut entries[ea..ee],
-        &mut counts[ta..te],
-        &mut index[ia..ie],
+        &mut counters[s.cells],
+        &mut norms[s.norms],
+        &mut entries[s.words],
+        &mut counts[s.seats],
+        &mut index[t],
         d,
         len,
         item,
@@ -93,31 +83,19 @@ pub fn send_first(
     let d = dims(shape, l);
     let item = item_in(record, l);
     let len = lens[l];
-    let ca = s.cells;
-    let ce = s.cells_end;
-    let na = s.norms;
-    let ne = s.norms_end;
-    let ea = s.words;
-    let ee = s.words_end;
-    let ta = s.seats;
-    let te = s.seats_end;
-    let ia = t.start;
-    let ie = t.end;
-    let tried = layer_indexed::add_if_fine(
-        &mut counters[ca..ce],
-        &mut norms[na..ne],
-        &mut entries[ea..ee],
-        &mut counts[ta..te],
-        &mut index[ia..ie],
+    let Some(answer) = layer_indexed::add_if_fine(
+        &mut counters[s.cells],
+        &mut norms[s.norms],
+        &mut entries[s.words],
+        &mut counts[s.seats],
+        &mut index[t],
         d,
         len,
         item,
         weight,
-    );
-    if !tried.made {
+    ) else {
         return false;
-    }
-    let answer = tried.answer;
+    };
     zero_places(list, shape.layers);
     note(lens, flags, list, l, len, answer);
     true
@@ -144,12 +122,9 @@ pub fn send(
     ensures { SentAllIn «record».now weight many first (lent_in (head_in h lens flags) counters norms entries counts) (lent_out (head_out h lens flags) counters norms entries counts)
         index.old index.new list.old list.new }
 {
-    let end = first + many;
-    let mut l = first;
-    while l < end {
+    for l in first..first + many {
         send_one(
             h, lens, flags, counters, norms, entries, counts, index, record, weight, l, list,
         );
-        l += 1;
     }
 }

@@ -1,5 +1,6 @@
 // What both forms of an update share, with lengths and flags lent: everything but the beginning of weight
 // and mode. Everything is judged before anything is written, so a refused call leaves all as it was.
+ghost use Rattle.refusal.specs.Refusals.{refused};
 ghost use Rattle.std.specs.Prelude.{◌≡◌, Bool, true, false, ◌&&◌, ◌++◌, ℕ, ◌*◌, ◌≤◌, length, nat_abs, leb};
 ghost use Rattle.words.specs.Num.{top};
 ghost use Rattle.words.specs.Tests.{number};
@@ -14,11 +15,13 @@ ghost use Rattle.univmon_indexed.specs.Updates.{layers_tests_in};
 ghost use Rattle.univmon_indexed.specs.inner.Needs.{JudgeReadyIn, fine_at, KeyReadyIn, SentAllIn, KeptIn, SentOrKept, KeySentOrKept, key_tests_in, sound_tests_in, staged_tests};
 ghost use Rattle.header.specs.Header.{head_of};
 
-use crate::judge::{all_reach, judge_layers};
+use crate::judge::{all_reach, check_layers};
 use crate::send::{send, send_first};
 use header::Scalars;
+use layer_indexed::Grade;
 use layout_index::tables_in;
-use univmon::{Kind, bottom_word, first_sent, sized_refusal};
+use refusal::Refusal;
+use univmon::{Kind, bottom_word, check_sizes, first_sent};
 
 // Where the list is long enough and the update may be made at every layer, all are sent to; if not, nothing is
 // touched. The layers behind the first are judged, then the first is judged and sent to in one go: half of all
@@ -53,8 +56,19 @@ fn send_if_fine(
     let next = first + 1;
     let rest = many - 1;
     if !all_reach(
-        h, &*lens, &*flags, &*counters, &*norms, entries, counts, index, record, weight, next,
-        rest, 4,
+        h,
+        &*lens,
+        &*flags,
+        &*counters,
+        &*norms,
+        entries,
+        counts,
+        index,
+        record,
+        weight,
+        next,
+        rest,
+        Grade::Fine,
     ) {
         return false;
     }
@@ -84,28 +98,25 @@ fn send_judged(
     first: usize,
     many: usize,
     list: &mut [u64],
-) -> u64
+) -> Result<(), Refusal>
     requires judge_ready_in { JudgeReadyIn (lent (head_of h lens.old flags.old) counters.old norms.old entries.old counts.old) index.old «record».now weight many first }
     requires le_many { 1 ≤ many }
-    ensures value { result ≡ number (layers_tests_in h.shape «record».now weight index.old many first (view (lent_in (head_in h lens flags) counters norms entries counts))
+    ensures value { refused result ≡ number (layers_tests_in h.shape «record».now weight index.old many first (view (lent_in (head_in h lens flags) counters norms entries counts))
         ++ list_tests (2 * h.shape.layers) (length list.old)) }
     ensures sent_or_kept { SentOrKept «record».now weight many first (lent_in (head_in h lens flags) counters norms entries counts) (lent_out (head_out h lens flags) counters norms entries counts)
-        index.old index.new list.old list.new result }
+        index.old index.new list.old list.new (refused result) }
 {
     if send_if_fine(
         h, lens, flags, counters, norms, entries, counts, index, record, weight, first, many, list,
     ) {
-        return 0;
+        return Ok(());
     }
-    let refusal = judge_layers(
+    check_layers(
         h, &*lens, &*flags, &*counters, &*norms, entries, counts, index, record, weight, first,
         many,
-    );
-    if refusal != 0 {
-        return refusal;
-    }
+    )?;
     // every layer is fine, so it was the list
-    16
+    Err(Refusal::TooShort)
 }
 
 // A key goes to the layers that its bottom hash says: 9, 11, 9, 16.
@@ -123,12 +134,12 @@ fn send_key(
     weight: u64,
     list: &mut [u64],
     bottom_hash: u64,
-) -> u64
+) -> Result<(), Refusal>
     requires key_ready_in { KeyReadyIn (lent (head_of h lens.old flags.old) counters.old norms.old entries.old counts.old) index.old «record».now weight }
     requires bottom_hash_value { bottom_hash ≡ bottom_word «record».now }
-    ensures value { result ≡ number (key_tests_in kind «record».now weight (lent_in (head_in h lens flags) counters norms entries counts) index.old (length list.old)) }
+    ensures value { refused result ≡ number (key_tests_in kind «record».now weight (lent_in (head_in h lens flags) counters norms entries counts) index.old (length list.old)) }
     ensures key_sent_or_kept { KeySentOrKept kind «record».now weight (lent_in (head_in h lens flags) counters norms entries counts) (lent_out (head_out h lens flags) counters norms entries counts)
-        index.old index.new list.old list.new result }
+        index.old index.new list.old list.new (refused result) }
 {
     let bottom = header::bottom_of(bottom_hash, h.shape.layers);
     let first = first_sent(kind, bottom);
@@ -139,8 +150,8 @@ fn send_key(
 }
 
 // 9 for a header out of range, a wrong slice length or a wrong length of the index, 12 for a wrong record
-// length, 0 for none.
-fn sound_refusal(
+// length.
+fn check_sound(
     scalars: Scalars,
     lens: &[usize],
     flags: &[bool],
@@ -150,10 +161,10 @@ fn sound_refusal(
     counts: &[i64],
     index: usize,
     record: usize,
-) -> u64
-    ensures { result ≡ number (sound_tests_in (lent (head_of scalars lens.now flags.now) counters.now norms.now entries.now counts.now) index «record») }
+) -> Result<(), Refusal>
+    ensures { refused result ≡ number (sound_tests_in (lent (head_of scalars lens.now flags.now) counters.now norms.now entries.now counts.now) index «record») }
 {
-    let unfit = sized_refusal(
+    check_sizes(
         scalars,
         lens,
         flags,
@@ -161,26 +172,23 @@ fn sound_refusal(
         norms.len(),
         entries.len(),
         counts.len(),
-    );
-    if unfit != 0 {
-        return unfit;
-    }
+    )?;
     let shape = scalars.shape;
     if index != tables_in(shape) {
-        return 9;
+        return Err(Refusal::OutOfRange);
     }
     if record != 2 + 2 * shape.layers {
-        return 12;
+        return Err(Refusal::RecordLength);
     }
-    0
+    Ok(())
 }
 
-// All of an update but its beginning; `begins` is the number that the beginning is refused with, or 0.
-// Answers 9, 12, then `begins`, then 9, 11, 9, 16.
+// All of an update but its beginning; `begins` says whether that is refused. Answers 9, 12, then
+// `begins`, then 9, 11, 9, 16.
 pub fn update(
     kind: Kind,
     scalars: Scalars,
-    begins: u64,
+    begins: Result<(), Refusal>,
     lens: &mut [usize],
     flags: &mut [bool],
     counters: &mut [i64],
@@ -191,14 +199,14 @@ pub fn update(
     record: &[u64],
     weight: i64,
     list: &mut [u64],
-) -> u64
-    requires { begins ≡ 0 → nat_abs weight ≤ top }
-    ensures value { result ≡ number (staged_tests kind begins (lent_in (head_in scalars lens flags) counters norms entries counts) index.old «record».now weight (length list.old)) }
+) -> Result<(), Refusal>
+    requires { refused begins ≡ 0 → nat_abs weight ≤ top }
+    ensures value { refused result ≡ number (staged_tests kind (refused begins) (lent_in (head_in scalars lens flags) counters norms entries counts) index.old «record».now weight (length list.old)) }
     ensures key_sent_or_kept { KeySentOrKept kind «record».now (nat_abs weight) (lent_in (head_in scalars lens flags) counters norms entries counts) (lent_out (head_out scalars lens flags) counters norms entries counts)
-        index.old index.new list.old list.new result }
+        index.old index.new list.old list.new (refused result) }
 {
     let bottom_hash = bottom_word(record);
-    let refusal = sound_refusal(
+    check_sound(
         scalars,
         &*lens,
         &*flags,
@@ -208,13 +216,8 @@ pub fn update(
         &*counts,
         index.len(),
         record.len(),
-    );
-    if refusal != 0 {
-        return refusal;
-    }
-    if begins != 0 {
-        return begins;
-    }
+    )?;
+    begins?;
     send_key(
         kind,
         scalars,

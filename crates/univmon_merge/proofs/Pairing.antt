@@ -5,8 +5,7 @@ use mathlib.Core.List.{List}
 use Prim.Native.Nat.{ℕ, ◌+◌, ◌-◌, ◌*◌, ◌≤◌, ◌<◌}
 use native.Mathlib.Omega.{arith}
 use native.Mathlib.Nat.{mul-suc, mul-le-mul, le_refl}
-use lib.ListN.{length, get_or, take}
-use lib.IntN.{ℤ}
+use lib.ListN.{length, get_or}
 use Rattle.words.specs.Num.{all_in}
 use Rattle.words.specs.Parts.{part, put_part}
 use Rattle.words.proofs.Bools.{and_left, and_right}
@@ -14,104 +13,78 @@ use Rattle.words.proofs.Parts.{length_part}
 use Rattle.heap.specs.Places.{places}
 use Rattle.header.specs.Shape.{max_layers, max_heap}
 use Rattle.header.specs.declared.Shape.{Shape}
+use Rattle.layer.specs.declared.Dims.{Dims}
+use Rattle.layer.specs.Layer.{Layer, counts_read}
 use Rattle.layer.specs.Merge.{merge_answer, merge_reads, merge_fits}
 use Rattle.layer.specs.inner.Gather as gather
-use Rattle.layer.specs.inner.Needs.{Housed}
-use Rattle.layer.proofs.Merges.{merge_reads_are, merge_fits_are}
+use Rattle.layer.specs.inner.Needs.{layer_of, Housed}
 use Rattle.layout.specs.declared.Span.{Span}
-use Rattle.layout.specs.State.{dims_at, cell_off, norm_off, cand_off, layer_at}
+use Rattle.layout.specs.declared.lending.LentLayer.{LentLayer}
+use Rattle.layout.specs.State.{dims_at, layer_at}
 use Rattle.layout.specs.Slices.{Lent, view}
-use Rattle.layout.specs.inner.Needs.{Sizes}
+use Rattle.layout.specs.inner.Lending.{layer_read}
 use Rattle.layout.specs.inner.Telling.{put_places}
-use Rattle.layout.proofs.Pieces.{Piece, piece, words_long}
-use Rattle.layout.proofs.Views.{shape_by, layer_by, layer_here, layer-view, housed_here}
-use Rattle.layout.proofs.Handed.{Spanned, handed, cell_part, norm_part, word_part, seat_part, cell_piece, housed, word-length, handed_is}
-use Rattle.univmon_merge.specs.inner.Pairs.{Paired, MergeReady, reads_with, fits_with, answers_with}
+use Rattle.layout.proofs.Pieces.{Piece, piece}
+use Rattle.layout.proofs.Views.{shape_by}
+use Rattle.layout.proofs.Handed.{Spanned, handed, cell_part, norm_part, word_part, seat_part, housed, word-length, handed_is}
+use Rattle.univmon_merge.specs.inner.Pairs.{Paired, MergeReady, answers_with}
 
--- the counters and the used counts of a layer, in the parts of the slices
-abbrev cells_of : Shape → Lent → ℕ → List ℤ
-cells_of sh r l = part (cell_off sh l) ((dims_at sh l).rows * (dims_at sh l).cols) r.counters
+-- y is layer l of the second state
+pub record Second (r t : Lent) (l : ℕ) (y : LentLayer) : Type 0 where
+  pub paired : Paired r t 1 l
+  pub is : layer_read y ≡ layer_at (view t) l
+  pub dims : y.dims ≡ dims_at (shape_by t) l
+  pub housed : Housed y.dims (length y.cells.now) (length y.norms.now) (length y.counts.now) y.len
+  pub words : length y.entries.now ≡ 4 * y.dims.size
 
-abbrev counts_of : Shape → Lent → ℕ → List ℤ
-counts_of sh r l = take (get_or r.head.lens l 0) (part (cand_off sh l) (dims_at sh l).size r.counts)
+pub pair_inside : {r t : Lent} {l : ℕ} → Paired r t 1 l → l < (shape_by r).layers
+pair_inside p = omega (arith, p.inside)
 
-module _ {r t : Lent} {l : ℕ} (p : Paired r t 1 l) where
-  pub pair_inside : l < (shape_by r).layers
-  pair_inside = omega (arith, p.inside)
+-- the layer, with other dimensions
+abbrev pub layer_as : Dims → LentLayer → Layer
+layer_as d y = layer_of d y.cells.now y.norms.now y.entries.now y.counts.now y.len y.flag
 
-  other-inside : l < (shape_by t).layers
-  other-inside = subst (λ (sh : Shape). l < sh.layers) (sym p.same) pair_inside
+-- ---- the second state's layer, by the shape of the first
 
-  -- ---- the second state, by the shape of the first
+module _ {r t : Lent} {l : ℕ} {y : LentLayer} (q : Second r t l y) where
+  alike : y.dims ≡ dims_at (shape_by r) l
+  alike = q.dims ∙ ap (λ (sh : Shape). dims_at sh l) q.paired.same
 
-  pub other-sizes : Sizes (shape_by r) (length t.counters) (length t.norms) (length t.entries) (length t.counts)
-  other-sizes = subst (λ (sh : Shape). Sizes sh (length t.counters) (length t.norms) (length t.entries) (length t.counts)) p.same p.other.sizes
+  pub other_is : layer_at (view t) l ≡ layer_as (dims_at (shape_by r) l) y
+  other_is = sym q.is ∙ ap (λ (d : Dims). layer_as d y) alike
 
-  pub other_is : layer_at (view t) l ≡ layer_by (shape_by r) t l
-  other_is = layer-view t p.other.sizes l other-inside ∙ ap (λ (sh : Shape). layer_by sh t l) p.same
+  pub other-housed : Housed (dims_at (shape_by r) l) (length y.cells.now) (length y.norms.now) (length y.counts.now) y.len
+  other-housed = subst (λ (d : Dims). Housed d (length y.cells.now) (length y.norms.now) (length y.counts.now) y.len) alike q.housed
 
-  pub other-housed : let d = dims_at (shape_by r) l in
-      Housed d (length (part (cell_off (shape_by r) l) (d.rows * d.cols) t.counters)) (length (part (2 * norm_off (shape_by r) l) (2 * d.rows) t.norms))
-      (length (part (cand_off (shape_by r) l) d.size t.counts)) (get_or t.head.lens l 0)
-  other-housed =
-      subst (λ (sh : Shape). Housed (dims_at sh l) (length (part (cell_off sh l) ((dims_at sh l).rows * (dims_at sh l).cols) t.counters)) (length (part (2 * norm_off sh l) (2 * (dims_at sh l).rows) t.norms))
-      (length (part (cand_off sh l) (dims_at sh l).size t.counts)) (get_or t.head.lens l 0)) p.same
-      (housed_here t p.other l other-inside)
+  other-words : length y.entries.now ≡ 4 * (dims_at (shape_by r) l).size
+  other-words = q.words ∙ ap (λ (d : Dims). 4 * d.size) alike
 
-  pub other-words : length (part (4 * cand_off (shape_by r) l) (4 * (dims_at (shape_by r) l).size) t.entries) ≡ 4 * (dims_at (shape_by r) l).size
-  other-words = words_long (shape_by r) l pair_inside t.entries other-sizes.entries
+-- what a merge reads of two layers is in range: so are the counters
+pub cells_read : (x y : Layer) → merge_reads x y ≡ true → (all_in x.sketch.cells ≡ true) × (all_in y.sketch.cells ≡ true)
+unfolding merge_reads
+cells_read x y e =
+    let a = all_in x.sketch.cells in
+    let b = counts_read x.table in
+    let c = all_in y.sketch.cells in
+    let three = and_left (a && b && c) (counts_read y.table) e in
+    (and_left a b (and_left (a && b) c three), and_right (a && b) c three)
 
-  -- ---- the tests
-
-  own_is : layer_at (view r) l ≡ layer_here r l
-  own_is = layer-view r p.standing.sizes l pair_inside
-
-  pub reads_here : merge_reads (layer_here r l) (layer_by (shape_by r) t l) ≡ reads_with (view t) l (layer_at (view r) l)
-  reads_here = sym (ap₂ merge_reads own_is other_is)
-
-  pub fits_here : merge_fits (layer_here r l) (layer_by (shape_by r) t l) ≡ fits_with (view t) l (layer_at (view r) l)
-  fits_here = sym (ap₂ merge_fits own_is other_is)
-
-  -- the counters that are read are in range
-  module _ (e : reads_with (view t) l (layer_at (view r) l) ≡ true) where
-    three : all_in (cells_of (shape_by r) r l) && all_in (counts_of (shape_by r) r l) && all_in (cells_of (shape_by r) t l) ≡ true
-    three =
-        let sh = shape_by r in
-        let d = dims_at sh l in
-        and_left (all_in (cells_of sh r l) && all_in (counts_of sh r l) && all_in (cells_of sh t l)) (all_in (counts_of sh t l))
-        (sym (merge_reads_are d (cells_of sh r l) (part (2 * norm_off sh l) (2 * d.rows) r.norms) (part (4 * cand_off sh l) (4 * d.size) r.entries) (part (cand_off sh l) d.size r.counts) (get_or r.head.lens l 0) (get_or r.head.flags l false)
-        (cells_of sh t l) (part (2 * norm_off sh l) (2 * d.rows) t.norms) (part (4 * cand_off sh l) (4 * d.size) t.entries) (part (cand_off sh l) d.size t.counts) (get_or t.head.lens l 0) (get_or t.head.flags l false))
-        ∙ reads_here ∙ e)
-
-    pub own_in_lem : all_in (part (cell_off (shape_by r) l) ((dims_at (shape_by r) l).rows * (dims_at (shape_by r) l).cols) r.counters) ≡ true
-    own_in_lem =
-        let sh = shape_by r in
-        and_left (all_in (cells_of sh r l)) (all_in (counts_of sh r l)) (and_left (all_in (cells_of sh r l) && all_in (counts_of sh r l)) (all_in (cells_of sh t l)) three)
-
-    pub other_in : all_in (part (cell_off (shape_by r) l) ((dims_at (shape_by r) l).rows * (dims_at (shape_by r) l).cols) t.counters) ≡ true
-    other_in = let sh = shape_by r in and_right (all_in (cells_of sh r l) && all_in (counts_of sh r l)) (all_in (cells_of sh t l)) three
-
--- what the merge of one layer needs: the first's parts as a span names them, the second's as functions return them
-pub merge-ready : {r t : Lent} {l : ℕ} {s : Span} → MergeReady r t l → Spanned r l s → let d = dims_at (shape_by r) l in
-    gather.LayerMergeReady d (get_or r.head.lens l 0) (get_or t.head.lens l 0) (cell_part s r.counters) (norm_part s r.norms) (word_part s r.entries) (seat_part s r.counts)
-    (part (cell_off (shape_by r) l) (d.rows * d.cols) t.counters) (part (4 * cand_off (shape_by r) l) (4 * d.size) t.entries)
-merge-ready {r} {t} {l} {s} p q =
-    let w = p.ready.paired in
+-- what the merge of one layer needs: the first's parts as a span names them, the second's as it is read
+pub merge-ready : {r t : Lent} {l : ℕ} {s : Span} {y : LentLayer} → MergeReady r t l → Spanned r l s → Second r t l y → let d = dims_at (shape_by r) l in
+    gather.LayerMergeReady d (get_or r.head.lens l 0) y.len (cell_part s r.counters) (norm_part s r.norms) (word_part s r.entries) (seat_part s r.counts) y.cells.now y.entries.now
+unfolding merge_fits
+merge-ready {r} {t} {l} {s} {y} p q w =
     let h = other-housed w in
-    let d = dims_at (shape_by r) l in
+    let read = cells_read (handed r l s) (layer_as (dims_at (shape_by r) l) y) (sym (ap₂ merge_reads (handed_is q) (other_is w)) ∙ p.ready.read) in
     record {
       housed = housed q;
       words = word-length q;
       cells = h.cells;
       others = record { words = omega (arith, h.used, other-words w); few = omega (arith, h.used, h.few) };
       other_used = h.used;
-      read = ap all_in (cell_piece q).is ∙ own_in_lem w p.ready.read;
-      other_read = other_in w p.ready.read;
-      fit =
-          sym (merge_fits_are d (cell_part s r.counters) (norm_part s r.norms) (word_part s r.entries) (seat_part s r.counts) (get_or r.head.lens l 0) (get_or r.head.flags l false)
-          (cells_of (shape_by r) t l) (part (2 * norm_off (shape_by r) l) (2 * d.rows) t.norms) (part (4 * cand_off (shape_by r) l) (4 * d.size) t.entries) (part (cand_off (shape_by r) l) d.size t.counts)
-          (get_or t.head.lens l 0) (get_or t.head.flags l false))
-          ∙ sym (ap₂ merge_fits (handed_is q) (other_is w)) ∙ p.fit;
+      read = read.0;
+      other_read = read.1;
+      fit = sym (ap₂ merge_fits (handed_is q) (other_is w)) ∙ p.fit;
     }
 
 -- the flag as the header takes it
@@ -145,11 +118,11 @@ module _ {r : Lent} {l : ℕ} {s : Span} (q : Spanned r l s) (list : List ℕ) (
   pub list_length : length (part (width * l) (width * l + width - width * l) list) ≡ width
   list_length = ap length list_piece.is ∙ length_part (width * l) width list room
 
-  pub list_back : {t : Lent} → Paired r t 1 l → (ys : List ℕ)
-      → ys ≡ places (2 * (shape_by r).heap_size) (merge_answer (dims_at (shape_by r) l) (handed r l s) (layer_by (shape_by r) t l))
+  pub list_back : {t : Lent} {y : LentLayer} → Second r t l y → (ys : List ℕ)
+      → ys ≡ places (2 * (shape_by r).heap_size) (merge_answer (dims_at (shape_by r) l) (handed r l s) (layer_as (dims_at (shape_by r) l) y))
       → put_part (width * l) (width * l + width - width * l) list ys ≡ put_places (2 * (shape_by r).heap_size) list l (answers_with (view r) (view t) l)
   unfolding put_places view
-  list_back {t} p ys e =
+  list_back {t} {y} p ys e =
       let n = 2 * (shape_by r).heap_size in
       list_piece.put ys
       ∙ ap (put_part (width * l) width list) (e ∙ sym (ap (places n) (ap₂ (merge_answer (dims_at (shape_by r) l)) (handed_is q) (other_is p))))

@@ -1,277 +1,121 @@
-// What a merge reads of two states, whether the sums fit, and the number that it is refused with: nothing
-// is written here. Both states are lent whole, so that a contract can name them.
+// What a merge reads of two states, whether the sums fit, and what it is refused with: nothing is written here.
+ghost use Rattle.refusal.specs.Refusals.{refused};
 ghost use Rattle.std.specs.Prelude.{◌≡◌, ◌++◌, ◌*◌};
 ghost use Rattle.words.specs.Tests.{number};
 ghost use Rattle.layout.specs.State.{layer_at, all_layers};
-ghost use Rattle.layout.specs.Slices.{view, lent};
-ghost use Rattle.layout.specs.Lending.{lent_now};
+ghost use Rattle.layout.specs.Slices.{view};
+ghost use Rattle.layout.specs.Lending.{lent_read};
 ghost use Rattle.layout.specs.inner.Telling.{list_tests};
 ghost use Rattle.univmon_merge.specs.Merges.{heads_tests, pair_tests, merge_tests};
 ghost use Rattle.univmon_merge.specs.inner.Pairs.{Paired, PairRead, PairsRead, reads_with, fits_with};
 
 use header::Header;
-use layout::{cells_at, lent_refusal, seats_at};
+use layout::{LentState, check_lent};
+use refusal::Refusal;
 
 // Whether what a merge reads of one layer of both states is in range.
-fn reads_at(
-    h: Header,
-    counters: &[i64],
-    norms: &[u64],
-    entries: &[u64],
-    counts: &[i64],
-    other: Header,
-    other_counters: &[i64],
-    other_norms: &[u64],
-    other_entries: &[u64],
-    other_counts: &[i64],
-    l: usize,
-) -> bool
-    requires { Paired (lent_now h counters norms entries counts) (lent_now other other_counters other_norms other_entries other_counts) 1 l }
-    ensures { result ≡ reads_with (view (lent other other_counters.now other_norms.now other_entries.now other_counts.now)) l
-        (layer_at (view (lent h counters.now norms.now entries.now counts.now)) l) }
+fn reads_at(state: LentState, other: LentState, l: usize) -> bool
+    requires { Paired (lent_read state) (lent_read other) 1 l }
+    ensures { result ≡ reads_with (view (lent_read other.entry)) l
+        (layer_at (view (lent_read state.entry)) l) }
 {
-    let shape = h.shape;
-    let lens = h.lens;
-    let len = lens[l];
-    let other_lens = other.lens;
-    let other_len = other_lens[l];
+    let own = state.layer(l);
+    let second = other.layer(l);
     layer::merge_reads(
-        cells_at(shape, l, counters),
-        seats_at(shape, l, counts),
-        len,
-        cells_at(shape, l, other_counters),
-        seats_at(shape, l, other_counts),
-        other_len,
+        own.cells,
+        own.counts,
+        own.len,
+        second.cells,
+        second.counts,
+        second.len,
     )
 }
 
 // Whether the sums of one layer's counters are in range.
-fn fits_at(
-    h: Header,
-    counters: &[i64],
-    norms: &[u64],
-    entries: &[u64],
-    counts: &[i64],
-    other: Header,
-    other_counters: &[i64],
-    other_norms: &[u64],
-    other_entries: &[u64],
-    other_counts: &[i64],
-    l: usize,
-) -> bool
-    requires { PairRead (lent_now h counters norms entries counts) (lent_now other other_counters other_norms other_entries other_counts) l }
-    ensures { result ≡ fits_with (view (lent other other_counters.now other_norms.now other_entries.now other_counts.now)) l
-        (layer_at (view (lent h counters.now norms.now entries.now counts.now)) l) }
+fn fits_at(state: LentState, other: LentState, l: usize) -> bool
+    requires { PairRead (lent_read state) (lent_read other) l }
+    ensures { result ≡ fits_with (view (lent_read other.entry)) l
+        (layer_at (view (lent_read state.entry)) l) }
 {
-    let shape = h.shape;
-    layer::merge_fits(
-        cells_at(shape, l, counters),
-        cells_at(shape, l, other_counters),
-    )
+    let own = state.layer(l);
+    let second = other.layer(l);
+    layer::merge_fits(own.cells, second.cells)
 }
 
 // Whether all that a merge reads is in range, in many layers from the first on.
-fn all_read(
-    h: Header,
-    counters: &[i64],
-    norms: &[u64],
-    entries: &[u64],
-    counts: &[i64],
-    other: Header,
-    other_counters: &[i64],
-    other_norms: &[u64],
-    other_entries: &[u64],
-    other_counts: &[i64],
-    many: usize,
-) -> bool
-    requires { Paired (lent_now h counters norms entries counts) (lent_now other other_counters other_norms other_entries other_counts) many 0 }
-    ensures { result ≡ all_layers (reads_with (view (lent other other_counters.now other_norms.now other_entries.now other_counts.now))) many 0
-        (view (lent h counters.now norms.now entries.now counts.now)) }
+fn all_read(state: LentState, other: LentState, many: usize) -> bool
+    requires { Paired (lent_read state) (lent_read other) many 0 }
+    ensures { result ≡ all_layers (reads_with (view (lent_read other.entry))) many 0
+        (view (lent_read state.entry)) }
 {
-    let mut l = 0;
-    while l < many {
-        if !reads_at(
-            h,
-            counters,
-            norms,
-            entries,
-            counts,
-            other,
-            other_counters,
-            other_norms,
-            other_entries,
-            other_counts,
-            l,
-        ) {
-            return false;
-        }
-        l += 1;
-    }
-    true
+    (0..many).all(|l| reads_at(state, other, l))
 }
 
 // Whether all sums are in range.
-fn all_fit(
-    h: Header,
-    counters: &[i64],
-    norms: &[u64],
-    entries: &[u64],
-    counts: &[i64],
-    other: Header,
-    other_counters: &[i64],
-    other_norms: &[u64],
-    other_entries: &[u64],
-    other_counts: &[i64],
-    many: usize,
-) -> bool
-    requires { PairsRead (lent_now h counters norms entries counts) (lent_now other other_counters other_norms other_entries other_counts) many }
-    ensures { result ≡ all_layers (fits_with (view (lent other other_counters.now other_norms.now other_entries.now other_counts.now))) many 0
-        (view (lent h counters.now norms.now entries.now counts.now)) }
+fn all_fit(state: LentState, other: LentState, many: usize) -> bool
+    requires { PairsRead (lent_read state) (lent_read other) many }
+    ensures { result ≡ all_layers (fits_with (view (lent_read other.entry))) many 0
+        (view (lent_read state.entry)) }
 {
-    let mut l = 0;
-    while l < many {
-        if !fits_at(
-            h,
-            counters,
-            norms,
-            entries,
-            counts,
-            other,
-            other_counters,
-            other_norms,
-            other_entries,
-            other_counts,
-            l,
-        ) {
-            return false;
-        }
-        l += 1;
-    }
-    true
+    (0..many).all(|l| fits_at(state, other, l))
 }
 
-// ---- the number that a merge is refused with
+// ---- whether a merge is refused
 
-// 10, 6, 7 or 14 by the two headers, 0 for none.
-fn heads_refusal(h: Header, other: Header) -> u64
-    ensures { result ≡ number (heads_tests h other) }
+// 10, 6, 7 or 14 by the two headers.
+fn check_heads(h: Header, other: Header) -> Result<(), Refusal>
+    ensures { refused result ≡ number (heads_tests h other) }
 {
     let shape = h.shape;
     if !shape.same(other.shape) {
-        return 10;
+        return Err(Refusal::ShapesDiffer);
     }
     let mode = h.mode;
     let other_mode = other.mode;
     if header::clashes(mode, other_mode) {
-        return 6;
+        return Err(Refusal::MixedModes);
     }
-    h.totals.sum_refusal(other.totals)
+    h.totals.check_sum(other.totals)
 }
 
-// 9 for what is read of the layers or 11 for their sums, 0 for none: 9 anywhere comes first.
-fn layers_refusal(
-    h: Header,
-    counters: &[i64],
-    norms: &[u64],
-    entries: &[u64],
-    counts: &[i64],
-    other: Header,
-    other_counters: &[i64],
-    other_norms: &[u64],
-    other_entries: &[u64],
-    other_counts: &[i64],
-    layers: usize,
-) -> u64
-    requires { Paired (lent_now h counters norms entries counts) (lent_now other other_counters other_norms other_entries other_counts) layers 0 }
-    ensures { result ≡ number (pair_tests layers (view (lent h counters.now norms.now entries.now counts.now)) (view (lent other other_counters.now other_norms.now other_entries.now other_counts.now))) }
+// 9 for what is read of the layers or 11 for their sums: 9 anywhere comes first.
+fn check_layers(state: LentState, other: LentState, layers: usize) -> Result<(), Refusal>
+    requires { Paired (lent_read state) (lent_read other) layers 0 }
+    ensures { refused result ≡ number (pair_tests layers (view (lent_read state.entry)) (view (lent_read other.entry))) }
 {
-    if !all_read(
-        h,
-        counters,
-        norms,
-        entries,
-        counts,
-        other,
-        other_counters,
-        other_norms,
-        other_entries,
-        other_counts,
-        layers,
-    ) {
-        return 9;
+    if !all_read(state, other, layers) {
+        return Err(Refusal::OutOfRange);
     }
-    if !all_fit(
-        h,
-        counters,
-        norms,
-        entries,
-        counts,
-        other,
-        other_counters,
-        other_norms,
-        other_entries,
-        other_counts,
-        layers,
-    ) {
-        return 11;
+    if !all_fit(state, other, layers) {
+        return Err(Refusal::CounterAbove);
     }
-    0
+    Ok(())
 }
 
-// The number that a merge with a list of so many words is refused with, 0 for none.
-pub fn merge_refusal(
-    h: Header,
-    counters: &[i64],
-    norms: &[u64],
-    entries: &[u64],
-    counts: &[i64],
-    other: Header,
-    other_counters: &[i64],
-    other_norms: &[u64],
-    other_entries: &[u64],
-    other_counts: &[i64],
-    list: usize,
-) -> u64
-    ensures { result ≡ number (merge_tests (lent h counters.now norms.now entries.now counts.now) (lent other other_counters.now other_norms.now other_entries.now other_counts.now)
-        ++ list_tests (4 * h.shape.heap_size * h.shape.layers) list) }
+// Whether a merge with a list of so many words may be made.
+pub fn check_merge(state: LentState, other: LentState, list: usize) -> Result<(), Refusal>
+    ensures { refused result ≡ number (merge_tests (lent_read state.entry) (lent_read other.entry)
+        ++ list_tests (4 * state.entry.header.now.shape.heap_size * state.entry.header.now.shape.layers) list) }
 {
-    let own = lent_refusal(h, counters, norms, entries, counts);
-    if own != 0 {
-        return own;
+    check_lent(
+        *state.header,
+        state.counters,
+        state.norms,
+        state.entries,
+        state.counts,
+    )?;
+    check_lent(
+        *other.header,
+        other.counters,
+        other.norms,
+        other.entries,
+        other.counts,
+    )?;
+    check_heads(*state.header, *other.header)?;
+    let shape = state.header.shape;
+    check_layers(state, other, shape.layers)?;
+    if list < 4 * shape.heap_size * shape.layers {
+        return Err(Refusal::TooShort);
     }
-    let others = lent_refusal(
-        other,
-        other_counters,
-        other_norms,
-        other_entries,
-        other_counts,
-    );
-    if others != 0 {
-        return others;
-    }
-    let heads = heads_refusal(h, other);
-    if heads != 0 {
-        return heads;
-    }
-    let layers = h.shape.layers;
-    let unready = layers_refusal(
-        h,
-        counters,
-        norms,
-        entries,
-        counts,
-        other,
-        other_counters,
-        other_norms,
-        other_entries,
-        other_counts,
-        layers,
-    );
-    if unready != 0 {
-        return unready;
-    }
-    if list < 4 * h.shape.heap_size * layers {
-        return 16;
-    }
-    0
+    Ok(())
 }

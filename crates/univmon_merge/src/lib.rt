@@ -9,5 +9,5 @@ mod judge;
 mod layers;
 
 pub use calls::merge;
-pub use judge::merge_refusal;
+pub use judge::check_merge;
 pub use layers::seated;

@@ -5,12 +5,12 @@ ghost use Rattle.layout.specs.State.{dims_at, layer_at, put_layer, over_layers};
 ghost use Rattle.layout.specs.Slices.{view, lent};
 ghost use Rattle.layout.specs.inner.Needs.{Standing};
 ghost use Rattle.layout.specs.inner.Telling.{put_places, tell_layers};
-ghost use Rattle.layout.specs.Lending.{lent_in, lent_now, lent_out};
+ghost use Rattle.layout.specs.Lending.{lent_in, lent_out, lent_read};
 ghost use Rattle.layout_index.specs.Tables.{tables_in, put_table, over_tables};
 ghost use Rattle.univmon_merge.specs.inner.Pairs.{MergeReady, MergesReady, merges_with, answers_with};
 
 use header::Header;
-use layout::{cells_at, dims, span_of, words_at};
+use layout::{LentState, dims, span_of};
 use layout_index::table_span;
 use univmon_merge::seated;
 
@@ -22,44 +22,39 @@ fn merge_one(
     entries: &mut [u64],
     counts: &mut [i64],
     index: &mut [u64],
-    other: Header,
-    other_counters: &[i64],
-    other_norms: &[u64],
-    other_entries: &[u64],
-    other_counts: &[i64],
+    other: LentState,
     l: usize,
     list: &mut [u64],
 ) -> Header
-    requires merge_ready { MergeReady (lent h counters.old norms.old entries.old counts.old) (lent_now other other_counters other_norms other_entries other_counts) l }
+    requires merge_ready { MergeReady (lent h counters.old norms.old entries.old counts.old) (lent_read other) l }
     requires layers_in_bounds { 4 * h.shape.heap_size * h.shape.layers ≤ length list.old }
     requires index_len { length index.old ≡ tables_in h.shape }
     ensures counts_value { view (lent_out result counters norms entries counts)
         ≡ put_layer (view (lent_in h counters norms entries counts)) l
-        (merges_with h.shape (view (lent other other_counters.now other_norms.now other_entries.now other_counts.now)) l
+        (merges_with h.shape (view (lent_read other.entry)) l
         (layer_at (view (lent_in h counters norms entries counts)) l)) }
     ensures standing { Standing (lent_out result counters norms entries counts) }
     ensures index_after { index.new
         ≡ put_table h.shape index.old l (merge_index_in (dims_at h.shape l) (layer_at (view (lent_in h counters norms entries counts)) l)
-        (layer_at (view (lent other other_counters.now other_norms.now other_entries.now other_counts.now)) l)) }
+        (layer_at (view (lent_read other.entry)) l)) }
     ensures list_after { list.new
         ≡ put_places (2 * h.shape.heap_size) list.old l
-        (answers_with (view (lent_in h counters norms entries counts)) (view (lent other other_counters.now other_norms.now other_entries.now other_counts.now)) l) }
+        (answers_with (view (lent_in h counters norms entries counts)) (view (lent_read other.entry)) l) }
 {
     let shape = h.shape;
     let s = span_of(shape, l);
     let d = dims(shape, l);
     let lens = h.lens;
     let len = lens[l];
-    let other_lens = other.lens;
-    let other_len = other_lens[l];
-    let ca = s.cells;
-    let ce = s.cells_end;
-    let na = s.norms;
-    let ne = s.norms_end;
-    let ea = s.words;
-    let ee = s.words_end;
-    let ta = s.seats;
-    let te = s.seats_end;
+    let second = other.layer(l);
+    let ca = s.cells.start;
+    let ce = s.cells.end;
+    let na = s.norms.start;
+    let ne = s.norms.end;
+    let ea = s.words.start;
+    let ee = s.words.end;
+    let ta = s.seats.start;
+    let te = s.seats.end;
     let t = table_span(shape, l);
     let ia = t.start;
     let ie = t.end;
@@ -75,12 +70,11 @@ fn merge_one(
         &mut list[pa..pe],
         d,
         len,
-        cells_at(shape, l, other_counters),
-        words_at(shape, l, other_entries),
-        other_len,
+        second.cells,
+        second.entries,
+        second.len,
     );
-    let flags = other.flags;
-    let whole = seated(flags[l], m.keys, shape.heap_size);
+    let whole = seated(second.flag, m.keys, shape.heap_size);
     h.touched(l, m.len, whole)
 }
 
@@ -92,47 +86,29 @@ pub fn merge_layers(
     entries: &mut [u64],
     counts: &mut [i64],
     index: &mut [u64],
-    other: Header,
-    other_counters: &[i64],
-    other_norms: &[u64],
-    other_entries: &[u64],
-    other_counts: &[i64],
+    other: LentState,
     many: usize,
     list: &mut [u64],
 ) -> Header
-    requires merges_ready { MergesReady (lent h counters.old norms.old entries.old counts.old) (lent_now other other_counters other_norms other_entries other_counts) many }
+    requires merges_ready { MergesReady (lent h counters.old norms.old entries.old counts.old) (lent_read other) many }
     requires layers_in_bounds { 4 * h.shape.heap_size * h.shape.layers ≤ length list.old }
     requires index_len { length index.old ≡ tables_in h.shape }
     ensures counts_value { view (lent_out result counters norms entries counts)
-        ≡ over_layers (merges_with h.shape (view (lent other other_counters.now other_norms.now other_entries.now other_counts.now))) many 0
+        ≡ over_layers (merges_with h.shape (view (lent_read other.entry))) many 0
         (view (lent_in h counters norms entries counts)) }
     ensures standing { Standing (lent_out result counters norms entries counts) }
     ensures index_after { index.new
         ≡ over_tables h.shape (λ l. merge_index_in (dims_at h.shape l) (layer_at (view (lent_in h counters norms entries counts)) l)
-        (layer_at (view (lent other other_counters.now other_norms.now other_entries.now other_counts.now)) l)) many 0 index.old }
+        (layer_at (view (lent_read other.entry)) l)) many 0 index.old }
     ensures list_after { list.new
         ≡ tell_layers (2 * h.shape.heap_size)
-        (answers_with (view (lent_in h counters norms entries counts)) (view (lent other other_counters.now other_norms.now other_entries.now other_counts.now))) many 0 list.old }
+        (answers_with (view (lent_in h counters norms entries counts)) (view (lent_read other.entry))) many 0 list.old }
 {
     let mut header = h;
-    let mut l = 0;
-    while l < many {
+    for l in 0..many {
         header = merge_one(
-            header,
-            counters,
-            norms,
-            entries,
-            counts,
-            index,
-            other,
-            other_counters,
-            other_norms,
-            other_entries,
-            other_counts,
-            l,
-            list,
+            header, counters, norms, entries, counts, index, other, l, list,
         );
-        l += 1;
     }
     header
 }

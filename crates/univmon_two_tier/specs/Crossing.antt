@@ -3,7 +3,7 @@ use Rattle.std.specs.Prelude.{ℕ, Bool, List}
 use Rattle.header.specs.declared.Shape.{Shape}
 use Rattle.header.specs.declared.Header.{Header}
 use Rattle.header.specs.Shape.{two_tier}
-use Rattle.header.specs.declared.Answered.{Answered}
+use Rattle.header.specs.Answers.{Answered}
 use Rattle.header.specs.declared.Scalars.{Scalars}
 use Rattle.header.specs.Header.{mode_number, mode_by}
 use Rattle.univmon_c.specs.Calls.{Face}

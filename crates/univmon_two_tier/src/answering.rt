@@ -6,36 +6,36 @@ ghost use Rattle.univmon_c.specs.Calls.{lent_of, answer_by, c_lent};
 ghost use Rattle.univmon_two_tier.specs.Crossing.{header_of, two_tier_face};
 
 use crate::CTwoTier;
-use crate::crossing::header_of;
+use crate::crossing::known_header;
 use univmon_c::CAnswer;
-use univmon_c::answering::LAST_G;
-use univmon_c::crossing::{LAST_MODE, c_answer, g_of, no_answer};
+use univmon_c::crossing::{known_g, no_answer};
 
 // L1: the exact weight.
+#[tactic(auto, unfolding(univmon_c::specs::Calls::answer_by))]
 #[unsafe(no_mangle)]
 pub extern "C" fn univmon_two_tier_estimate_l1(header: CTwoTier) -> CAnswer
     ensures { result ≡ answer_by true header.mode (l1_call (header_of header)) }
 {
-    if LAST_MODE < header.mode {
+    let Some(h) = known_header(header) else {
         return no_answer();
-    }
-    let h = header_of(header);
-    c_answer(estimates::estimate_l1(h))
+    };
+    CAnswer::from(estimates::estimate_l1(h))
 }
 
 // L2, from the norms.
+#[tactic(auto, unfolding(univmon_c::specs::Calls::answer_by))]
 #[unsafe(no_mangle)]
 pub extern "C" fn univmon_two_tier_estimate_l2(header: CTwoTier, norms: &[u64]) -> CAnswer
     ensures { result ≡ answer_by true header.mode (l2_call (header_of header) norms.now) }
 {
-    if LAST_MODE < header.mode {
+    let Some(h) = known_header(header) else {
         return no_answer();
-    }
-    let h = header_of(header);
-    c_answer(estimates::estimate_l2(h, norms))
+    };
+    CAnswer::from(estimates::estimate_l2(h, norms))
 }
 
 // The sum of g over the candidates: g 0 is one, 1 value, 2 square; another number is refused with 9.
+#[tactic(auto, unfolding(univmon_c::specs::Calls::answer_by))]
 #[unsafe(no_mangle)]
 pub extern "C" fn univmon_two_tier_estimate_g_sum(
     header: CTwoTier,
@@ -48,15 +48,13 @@ pub extern "C" fn univmon_two_tier_estimate_g_sum(
 ) -> CAnswer
     ensures { result ≡ answer_by (is_g g) header.mode (sum_call (g_by g) count_every_key (lent_of two_tier_face (c_lent header counters.now norms.now entries.now counts.now))) }
 {
-    if LAST_MODE < header.mode {
+    let Some(h) = known_header(header) else {
         return no_answer();
-    }
-    if LAST_G < g {
+    };
+    let Some(choice) = known_g(g) else {
         return no_answer();
-    }
-    let h = header_of(header);
-    let choice = g_of(g);
-    c_answer(estimates::estimate_g_sum(
+    };
+    CAnswer::from(estimates::estimate_g_sum(
         h,
         counters,
         norms,
@@ -68,6 +66,7 @@ pub extern "C" fn univmon_two_tier_estimate_g_sum(
 }
 
 // The number of keys.
+#[tactic(auto, unfolding(univmon_c::specs::Calls::answer_by))]
 #[unsafe(no_mangle)]
 pub extern "C" fn univmon_two_tier_estimate_cardinality(
     header: CTwoTier,
@@ -78,9 +77,8 @@ pub extern "C" fn univmon_two_tier_estimate_cardinality(
 ) -> CAnswer
     ensures { result ≡ answer_by true header.mode (cardinality_call (lent_of two_tier_face (c_lent header counters.now norms.now entries.now counts.now))) }
 {
-    if LAST_MODE < header.mode {
+    let Some(h) = known_header(header) else {
         return no_answer();
-    }
-    let h = header_of(header);
-    c_answer(estimates::estimate_cardinality(h, counters, norms, entries, counts))
+    };
+    CAnswer::from(estimates::estimate_cardinality(h, counters, norms, entries, counts))
 }

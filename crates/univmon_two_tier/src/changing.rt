@@ -11,10 +11,10 @@ ghost use Rattle.univmon_c.specs.Calls.{lent_of, c_left, crossed, change_by, mer
 ghost use Rattle.univmon_c.specs.Lending.{c_lent_in, c_lent_out};
 ghost use Rattle.univmon_two_tier.specs.Crossing.{two_tier_face};
 
-use crate::crossing::{c_answered, header_of};
+use crate::crossing::{c_answered, known_header};
 use crate::{CTwoTier, CTwoTierAnswered};
-use header::{CheckedShape, Shape};
-use univmon_c::crossing::LAST_MODE;
+use header::{Header, Shape};
+use refusal::number_in;
 
 // 0, or the refusal of these dimensions.
 #[unsafe(no_mangle)]
@@ -29,19 +29,16 @@ pub extern "C" fn univmon_two_tier_check_shape(
 ) -> u64
     ensures { result ≡ shape_refusal (two_tier heap_size elephant_layers elephant_rows elephant_cols mouse_rows mouse_cols layers) }
 {
-    let checked = Shape::new(
+    let shape = Shape {
         heap_size,
+        layers,
         elephant_layers,
         elephant_rows,
         elephant_cols,
         mouse_rows,
         mouse_cols,
-        layers,
-    );
-    match checked {
-        CheckedShape::Good(_) => 0,
-        CheckedShape::Refused(n) => n,
-    }
+    };
+    number_in(&shape.check())
 }
 
 // A fresh state in lent slices.
@@ -62,22 +59,26 @@ pub extern "C" fn univmon_two_tier_new(
     ensures { c_left result.refusal (c_lent_out result.header counters norms entries counts)
         ≡ crossed two_tier_face (new_call (two_tier heap_size elephant_layers elephant_rows elephant_cols mouse_rows mouse_cols layers) counters.old norms.old entries.old counts.old) }
 {
-    c_answered(univmon::new_two_tier(
-        heap_size,
-        elephant_layers,
-        elephant_rows,
-        elephant_cols,
-        mouse_rows,
-        mouse_cols,
-        layers,
-        counters,
-        norms,
-        entries,
-        counts,
-    ))
+    c_answered(
+        Header::zero(),
+        univmon::new_two_tier(
+            heap_size,
+            elephant_layers,
+            elephant_rows,
+            elephant_cols,
+            mouse_rows,
+            mouse_cols,
+            layers,
+            counters,
+            norms,
+            entries,
+            counts,
+        ),
+    )
 }
 
 // Clears a state: header and slices are then as `new` leaves them.
+#[tactic(auto, unfolding(univmon_c::specs::Calls::change_by))]
 #[unsafe(no_mangle)]
 pub extern "C" fn univmon_two_tier_clear(
     header: CTwoTier,
@@ -89,14 +90,14 @@ pub extern "C" fn univmon_two_tier_clear(
     ensures { c_left result.refusal (c_lent_out result.header counters norms entries counts)
         ≡ change_by two_tier_face true clear_call (c_lent_in header counters norms entries counts) }
 {
-    if LAST_MODE < header.mode {
+    let Some(h) = known_header(header) else {
         return CTwoTierAnswered { refusal: 9, header };
-    }
-    let h = header_of(header);
-    c_answered(univmon::clear(h, counters, norms, entries, counts))
+    };
+    c_answered(h, univmon::clear(h, counters, norms, entries, counts))
 }
 
 // The key goes to layers 0 to its bottom layer.
+#[tactic(auto, unfolding(univmon_c::specs::Calls::change_by, layout::specs::Answers::list_left))]
 #[unsafe(no_mangle)]
 pub extern "C" fn univmon_two_tier_update_weighted(
     header: CTwoTier,
@@ -113,14 +114,17 @@ pub extern "C" fn univmon_two_tier_update_weighted(
     ensures list_after { list.new
         ≡ list_left result.refusal (update_answers kind.Standard (view (lent_of two_tier_face (c_lent_in header counters norms entries counts))) «record».now weight) list.old }
 {
-    if LAST_MODE < header.mode {
+    let Some(h) = known_header(header) else {
         return CTwoTierAnswered { refusal: 9, header };
-    }
-    let h = header_of(header);
-    c_answered(univmon::update_weighted(h, counters, norms, entries, counts, record, weight, list))
+    };
+    c_answered(
+        h,
+        univmon::update_weighted(h, counters, norms, entries, counts, record, weight, list),
+    )
 }
 
 // The key goes to its bottom layer only.
+#[tactic(auto, unfolding(univmon_c::specs::Calls::change_by, layout::specs::Answers::list_left))]
 #[unsafe(no_mangle)]
 pub extern "C" fn univmon_two_tier_update_weighted_terminal(
     header: CTwoTier,
@@ -137,16 +141,19 @@ pub extern "C" fn univmon_two_tier_update_weighted_terminal(
     ensures list_after { list.new
         ≡ list_left result.refusal (update_answers kind.Terminal (view (lent_of two_tier_face (c_lent_in header counters norms entries counts))) «record».now weight) list.old }
 {
-    if LAST_MODE < header.mode {
+    let Some(h) = known_header(header) else {
         return CTwoTierAnswered { refusal: 9, header };
-    }
-    let h = header_of(header);
-    c_answered(univmon::update_weighted_terminal(
-        h, counters, norms, entries, counts, record, weight, list,
-    ))
+    };
+    c_answered(
+        h,
+        univmon::update_weighted_terminal(
+            h, counters, norms, entries, counts, record, weight, list,
+        ),
+    )
 }
 
 // Merges the other state into this one.
+#[tactic(auto, unfolding(univmon_c::specs::Calls::merge_by, layout::specs::Answers::list_left))]
 #[unsafe(no_mangle)]
 pub extern "C" fn univmon_two_tier_merge(
     header: CTwoTier,
@@ -168,25 +175,26 @@ pub extern "C" fn univmon_two_tier_merge(
         ≡ list_left result.refusal (merge_answers (view (lent_of two_tier_face (c_lent_in header counters norms entries counts)))
         (view (lent_of two_tier_face (c_lent other other_counters.now other_norms.now other_entries.now other_counts.now)))) list.old }
 {
-    if LAST_MODE < header.mode {
+    let Some(h) = known_header(header) else {
         return CTwoTierAnswered { refusal: 9, header };
-    }
-    if LAST_MODE < other.mode {
+    };
+    let Some(o) = known_header(other) else {
         return CTwoTierAnswered { refusal: 9, header };
-    }
-    let h = header_of(header);
-    let o = header_of(other);
-    c_answered(univmon_merge::merge(
+    };
+    c_answered(
         h,
-        counters,
-        norms,
-        entries,
-        counts,
-        o,
-        other_counters,
-        other_norms,
-        other_entries,
-        other_counts,
-        list,
-    ))
+        univmon_merge::merge(
+            h,
+            counters,
+            norms,
+            entries,
+            counts,
+            o,
+            other_counters,
+            other_norms,
+            other_entries,
+            other_counts,
+            list,
+        ),
+    )
 }

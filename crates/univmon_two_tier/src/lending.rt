@@ -12,11 +12,12 @@ ghost use Rattle.univmon_two_tier.specs.Crossing.{two_tier_face};
 ghost use Rattle.univmon_two_tier.specs.Lending.{c_head_in, c_head_out};
 
 use crate::CTwoTierShape;
-use crate::crossing::scalars_of;
+use crate::crossing::known_scalars;
 use univmon_c::CStep;
-use univmon_c::crossing::{LAST_MODE, c_step};
+use univmon_c::crossing::c_step;
 
 // The key goes to layers 0 to its bottom layer.
+#[tactic(auto, unfolding(univmon_c::specs::Calls::change_by, layout::specs::Answers::list_left))]
 #[unsafe(no_mangle)]
 pub extern "C" fn univmon_two_tier_update_weighted_lent(
     shape: CTwoTierShape,
@@ -38,21 +39,24 @@ pub extern "C" fn univmon_two_tier_update_weighted_lent(
     ensures list_after { list.new
         ≡ list_left result.refusal (update_answers kind.Standard (view (lent_of two_tier_face (c_lent_in (c_head_in shape total_weight total_updates mode lens flags) counters norms entries counts))) «record».now weight) list.old }
 {
-    if LAST_MODE < mode {
+    let Some(scalars) = known_scalars(shape, total_weight, total_updates, mode) else {
         return CStep {
             refusal: 9,
             weight: total_weight,
             updates: total_updates,
             mode,
         };
-    }
-    let scalars = scalars_of(shape, total_weight, total_updates, mode);
-    c_step(univmon::update_weighted_lent(
-        scalars, lens, flags, counters, norms, entries, counts, record, weight, list,
-    ))
+    };
+    c_step(
+        scalars,
+        univmon::update_weighted_lent(
+            scalars, lens, flags, counters, norms, entries, counts, record, weight, list,
+        ),
+    )
 }
 
 // The key goes to its bottom layer only.
+#[tactic(auto, unfolding(univmon_c::specs::Calls::change_by, layout::specs::Answers::list_left))]
 #[unsafe(no_mangle)]
 pub extern "C" fn univmon_two_tier_update_weighted_terminal_lent(
     shape: CTwoTierShape,
@@ -74,16 +78,18 @@ pub extern "C" fn univmon_two_tier_update_weighted_terminal_lent(
     ensures list_after { list.new
         ≡ list_left result.refusal (update_answers kind.Terminal (view (lent_of two_tier_face (c_lent_in (c_head_in shape total_weight total_updates mode lens flags) counters norms entries counts))) «record».now weight) list.old }
 {
-    if LAST_MODE < mode {
+    let Some(scalars) = known_scalars(shape, total_weight, total_updates, mode) else {
         return CStep {
             refusal: 9,
             weight: total_weight,
             updates: total_updates,
             mode,
         };
-    }
-    let scalars = scalars_of(shape, total_weight, total_updates, mode);
-    c_step(univmon::update_weighted_terminal_lent(
-        scalars, lens, flags, counters, norms, entries, counts, record, weight, list,
-    ))
+    };
+    c_step(
+        scalars,
+        univmon::update_weighted_terminal_lent(
+            scalars, lens, flags, counters, norms, entries, counts, record, weight, list,
+        ),
+    )
 }

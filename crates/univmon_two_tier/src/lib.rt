@@ -1,6 +1,7 @@
 // UnivMonTwoTier for programs in C and Rust: wide top layers, under plain names with the prefix
 // `univmon_two_tier_`. Each call takes the header apart, calls what the calls of one tier call, and puts
-// the answer together. What crosses besides headers is as in `univmon_c`.
+// the answer together. What crosses besides headers is as in `univmon_c`, and so are the bodies here: an
+// export to C has no type parameter, so each of the two headers has its own.
 
 #![tactic(auto)]
 

@@ -13,32 +13,18 @@ pub const PRIME: u64 = 4294967291;
 fn digit(b: u8) -> u64
     ensures { result < 16 }
 {
-    if b < b'0' {
-        return 0;
+    match b {
+        b'0'..=b'9' => u64::from(b - b'0'),
+        b'A'..=b'F' => u64::from(b - b'A') + 10,
+        _ => 0,
     }
-    if b <= b'9' {
-        return (b - b'0') as u64;
-    }
-    if b < b'A' {
-        return 0;
-    }
-    if b <= b'F' {
-        return (b - b'A') as u64 + 10;
-    }
-    0
 }
 
-// The word that starts at a byte; a text that ends too early has zeros there.
+// The word that starts at a byte, of the digits that are there.
 fn word_from(text: &[u8], at: usize) -> u64 {
     let mut n: u64 = 0;
-    let mut i = at;
-    let mut left = 16usize;
-    while 0 < left {
-        left -= 1;
-        if i < text.len() {
-            n = n % 0x1000_0000_0000_0000 * 16 + digit(text[i]);
-            i += 1;
-        }
+    for b in text.iter().skip(at).take(16) {
+        n = n % 0x1000_0000_0000_0000 * 16 + digit(*b);
     }
     n
 }
@@ -53,18 +39,12 @@ pub fn word(text: &[u8], k: usize) -> u64 {
 
 // A word read as a signed number.
 pub fn signed(n: u64) -> i64 {
-    if n < 0x8000_0000_0000_0000 {
-        return n as i64;
-    }
-    -1 - (0xffff_ffff_ffff_ffff - n) as i64
+    n.cast_signed()
 }
 
 // The word of a signed number.
 pub fn unsigned(x: i64) -> u64 {
-    if x < 0 {
-        return 0xffff_ffff_ffff_ffff - (-1 - x) as u64;
-    }
-    x as u64
+    x.cast_unsigned()
 }
 
 // Reads n words from standard input to the front of a text; false where they do not all come.
@@ -107,10 +87,7 @@ pub fn print(output: Stdout, n: u64) -> io::Result<()> {
 
 // Writes 1 for true, 0 for false.
 pub fn print_flag(output: Stdout, b: bool) -> io::Result<()> {
-    if b {
-        return print(output, 1);
-    }
-    print(output, 0)
+    print(output, u64::from(b))
 }
 
 // Writes a refusal: its number in the top byte of a word.

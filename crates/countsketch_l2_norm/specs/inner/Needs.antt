@@ -1,12 +1,11 @@
 -- What updates, deltas and norms are to the code, and what the stores need, by name.
-use Rattle.std.specs.Prelude.{ℕ, ◌+◌, ◌-◌, ◌*◌, ◌^◌, ◌≤◌, ◌<◌, min, ◌%◌, ◌/◌, ◌≡◌, true, false, Bool, ◌&&◌, List, length, set, ℤ, pos, nat_abs, ◌+ℤ◌}
+use Rattle.std.specs.Prelude.{ℕ, ◌+◌, ◌-◌, ◌*◌, ◌^◌, ◌≤◌, ◌<◌, min, ◌%◌, ◌/◌, ◌≡◌, true, Bool, ◌&&◌, Option, is_some, IfSome, IfNone, List, length, set, ℤ, pos, nat_abs, ◌+ℤ◌}
 use Rattle.std.specs.Int.Signed.{mag}
 use Rattle.words.specs.Num.{top, square_cap, capped, word_size}
 use Rattle.float64.specs.Norm.{norm_top}
 use Rattle.matrix_storage.specs.Bits.{max_rows, max_cols, signed}
 use Rattle.matrix_storage.specs.inner.Shaped.{Shaped}
 use Rattle.countsketch_l2_norm.specs.Norms.{norm_at, norms_of}
-use Rattle.countsketch_l2_norm.specs.declared.TriedUpdate.{TriedUpdate}
 use Rattle.countsketch_l2_norm.specs.Sketch.{cell_at, cell_read, cell_fits, rows_read, rows_fit, add_rows, Sketch}
 use Rattle.countsketch_l2_norm.specs.Estimate.{estimate_of}
 
@@ -51,16 +50,12 @@ pub record RowAdded (at h w r : ℕ) (xs : List ℤ) (ws : List ℕ) (ys : List 
   pub norms : vs ≡ set_norm ws r (norm_at ws r - capped (cell_at xs at) + capped (cell_at xs at +ℤ signed h r (pos w)))
   pub estimate : v ≡ signed h r (cell_at ys at)
 
--- the answer of an update that may not be made
-abbrev pub not_made : TriedUpdate
-not_made = record { made = false; count = pos 0 }
-
--- what an update that is made only where it may be leaves of counters and norms, and its answer
-pub record MadeIfReady (rows cols h w : ℕ) (xs : List ℤ) (ws : List ℕ) (ys : List ℤ) (vs : List ℕ) (m : TriedUpdate) : Type 0 where
-  pub ready : m.made ≡ rows_ready cols h w (sketch_of xs ws rows) rows 0
-  pub made : m.made ≡ true → (sketch_of ys vs rows ≡ add_rows cols h w rows 0 (sketch_of xs ws rows)) × (m.count ≡ estimate_of rows cols h ys)
-  pub kept : m.made ≡ false → (ys ≡ xs) × (vs ≡ ws)
-  pub fits : mag m.count < 2 ^ 63
+-- what an update that is made only where it may be leaves of counters and norms, and its answer: the count after it, or `None` where it is not made
+pub record MadeIfReady (rows cols h w : ℕ) (xs : List ℤ) (ws : List ℕ) (ys : List ℤ) (vs : List ℕ) (m : Option ℤ) : Type 0 where
+  pub ready : is_some m ≡ rows_ready cols h w (sketch_of xs ws rows) rows 0
+  pub made : IfSome m (λ n. (sketch_of ys vs rows ≡ add_rows cols h w rows 0 (sketch_of xs ws rows)) × (n ≡ estimate_of rows cols h ys))
+  pub kept : IfNone m ((ys ≡ xs) × (vs ≡ ws))
+  pub fits : IfSome m (λ n. mag n < 2 ^ 63)
 
 -- a row and a column within the counters
 pub record CellPlaced (rows cols row col : ℕ) (xs : List ℤ) : Type 0 where

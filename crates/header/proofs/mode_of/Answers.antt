@@ -1,16 +1,20 @@
 -- `header::mode_of` meets its contract.
-use borrow.Author.Tests.{eq-eqb, ne_eqb}
+use Rattle.std.proofs.Common.{rules, ◌≢◌, arith}
+use borrow.Author.Tests.{ne_eqb}
 use Rattle.header.specs.Header.{mode_by}
 use Rattle.header.proofs.mode_of.Goals as goal
 
-pub returns-then-n-eq1 : goal.returns-then-n-eq1
+pub returns-in-1 : goal.returns-in-1
 unfolding mode_by
-returns-then-n-eq1 c = simp (eq-eqb _ 1 c.if-n-eq1.true)
+returns-in-1 c = search rules
 
-pub returns-then-n-eq2 : goal.returns-then-n-eq2
+pub returns-in-2 : goal.returns-in-2
 unfolding mode_by
-returns-then-n-eq2 c = simp (ne_eqb _ 1 c.if-n-eq1.false, eq-eqb _ 2 c.if-n-eq2.true)
+returns-in-2 c = search rules
 
-pub returns : goal.returns
+pub returns-in_default : goal.returns-in_default
 unfolding mode_by
-returns c = simp (ne_eqb _ 1 c.if-n-eq1.false, ne_eqb _ 2 c.if-n-eq2.false)
+returns-in_default c =
+    let a : c.args.n ≢ 1 = omega arith in
+    let b : c.args.n ≢ 2 = omega arith in
+    simp (ne_eqb _ 1 a, ne_eqb _ 2 b)

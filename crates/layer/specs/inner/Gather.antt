@@ -1,5 +1,5 @@
 -- The candidates of two layers gathered, as the code goes: entry by entry, with the number of distinct keys and the list of what their offers did.
-use Rattle.std.specs.Prelude.{ℕ, zero, suc, ◌+◌, ◌*◌, ◌≤◌, ◌<◌, ◌≡◌, true, cond, List, [], ◌∷◌, map, length, get_or, ℤ}
+use Rattle.std.specs.Prelude.{ℕ, zero, suc, ◌+◌, ◌*◌, ◌≤◌, ◌≡◌, true, cond, List, [], ◌∷◌, map, length, get_or, ℤ}
 use Rattle.words.specs.Num.{all_in}
 use Rattle.words.specs.Lending.{SliceBoth}
 use Rattle.matrix_storage.specs.inner.Shaped.{Shaped}
@@ -82,10 +82,6 @@ first_at d cells before m source i g =
     (offer_one d cells (item_of source i) g))
 
 -- ---- what the functions need, by name
-
--- ys begins with the first n words of xs
-pub record Front (n : ℕ) (xs ys : List ℕ) : Type 0 where
-  pub at : (j : ℕ) → j < n → get_or ys j 0 ≡ get_or xs j 0
 
 -- counters from which any key's count may be estimated
 pub record CountersRead (d : Dims) (xs : List ℤ) : Type 0 where

@@ -10,6 +10,8 @@ use Rattle.layer.specs.declared.Dims.{Dims}
 use Rattle.layer.specs.Layer.{Layer, LayerUpdate, layer_update, hash_by, add_fits}
 use Rattle.layer.specs.Delta.{Delta, delta_fits}
 use Rattle.layer.specs.inner.Needs.{Housed, layer_of, delta}
+use Rattle.layer_indexed.specs.declared.grades.Grade.{Grade}
+use Rattle.layer_indexed.specs.declared.grades.Grade.TheVariants as grade
 use Rattle.layer_indexed.specs.Adding.{add_reads_in, add_moves_in, delta_reads_in, delta_moves_in}
 
 -- slices of nx counters, nw norm words, ne entry words, nc counts and ni places are a layer's, with len candidates
@@ -17,6 +19,13 @@ pub record Seated (d : Dims) (nx nw ne nc ni len : ℕ) : Type 0 where
   pub housed : Housed d nx nw nc len
   pub words : ne ≡ 4 * d.size
   pub places : ni ≡ index_length d.size
+
+-- a grade as a number
+abbrev pub grade_number : Grade → ℕ
+grade_number grade.Unread = 1
+grade_number grade.Above = 2
+grade_number grade.Unmoved = 3
+grade_number grade.Fine = 4
 
 -- how far an update may come: 1 what it reads is out of range, 2 a counter leaves the range, 3 a visit of its moves is refused, 4 it may be made
 abbrev pub grade_by : Bool → Bool → Bool → ℕ

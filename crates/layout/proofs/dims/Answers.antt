@@ -7,6 +7,6 @@ pub returns-then-l-shape : goal.returns-then-l-shape
 unfolding rows_at cols_at
 returns-then-l-shape c = simp (lt-ltb _ _ c.if-l-shape.true)
 
-pub returns : goal.returns
+pub returns-else-l-shape : goal.returns-else-l-shape
 unfolding rows_at cols_at
-returns c = simp (le-ltb _ _ c.if-l-shape.false)
+returns-else-l-shape c = simp (le-ltb _ _ c.if-l-shape.false)

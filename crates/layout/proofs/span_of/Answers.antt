@@ -1,13 +1,11 @@
 -- `layout::span_of` meets its contract.
-use Prim.Native.Nat.{◌*◌, ◌≤◌}
-use mathlib.Core.Path.{refl}
-use native.Mathlib.Omega.{arith}
-use Rattle.header.specs.Shape.{max_layers, max_heap}
+use Rattle.std.proofs.Common.{◌*◌, ◌≤◌, refl, arith}
+use Rattle.header.specs.Shape.{max_layers}
 use Rattle.matrix_storage.specs.Bits.{max_rows, max_cols}
-use Rattle.layout.proofs.Offsets.{table_bound, cells_bound, norms_bound, seats_bound, cand-off, shaped-at}
+use Rattle.layout.proofs.Offsets.{table_bound, cells_bound, norms_bound, cand-off, shaped-at}
 use Rattle.layout.specs.inner.Spans.{span_of}
 use Rattle.layout.proofs.span_of.Goals as goal
-use Rattle.layout.proofs.span_of.Goals.{After-dims-d, After-start_of-start, Start}
+use Rattle.layout.proofs.span_of.Goals.{After-dims-d, After-start_of-start}
 
 -- how large the numbers are
 cells-here : (c : After-start_of-start) → c.start_of-start.result.cells ≤ max_layers * (max_rows * max_cols)
@@ -22,44 +20,20 @@ table c = rw c.dims-d.ensures (table_bound c.args.shape c.requires.accepted c.ar
 lines : (c : After-dims-d) → c.dims-d.result.rows ≤ max_rows
 lines c = rw c.dims-d.ensures (shaped-at c.args.shape c.requires.accepted c.args.l).few
 
-all-seats : (c : Start) → c.args.l * c.args.shape.heap_size ≤ max_layers * max_heap
-all-seats c = let s = c.args.shape in let l = c.args.l in omega (arith, cand-off s l, seats_bound s c.requires.accepted l (omega (arith, c.requires.l_lt_layers)))
-
-pub start_of-start-requires : goal.start_of-start-requires
-start_of-start-requires c = record {
-  accepted = c.requires.accepted;
-  l_le_layers = omega (arith, c.requires.l_lt_layers);
-}
-
-pub overflow_mul-cells_end : goal.overflow_mul-cells_end
-overflow_mul-cells_end c = record { fits = omega (arith, table (goal.at.overflow_mul-cells_end c).After-dims-d) }
-
-pub overflow_add-cells_end : goal.overflow_add-cells_end
-overflow_add-cells_end c = record { fits = omega (arith, table (goal.at.overflow_add-cells_end c).After-dims-d, cells-here (goal.at.overflow_add-cells_end c).After-start_of-start) }
-
 pub overflow_mul-norms : goal.overflow_mul-norms
 overflow_mul-norms c = record { fits = omega (arith, rows-here (goal.at.overflow_mul-norms c).After-start_of-start) }
 
-pub overflow_mul-norms_end : goal.overflow_mul-norms_end
-overflow_mul-norms_end c = record { fits = omega (arith, lines (goal.at.overflow_mul-norms_end c).After-dims-d) }
+pub overflow_mul-result : goal.overflow_mul-result
+overflow_mul-result c = record { fits = omega (arith, table (goal.at.overflow_mul-result c).After-dims-d) }
 
-pub overflow_add-norms_end : goal.overflow_add-norms_end
-overflow_add-norms_end c = record { fits = omega (arith, rows-here (goal.at.overflow_add-norms_end c).After-start_of-start, lines (goal.at.overflow_add-norms_end c).After-dims-d) }
+pub overflow_add-result : goal.overflow_add-result
+overflow_add-result c = let p = (goal.at.overflow_add-result c).After-dims-d in record { fits = omega (arith, table p, cells-here p.before) }
 
-pub overflow_mul-seats : goal.overflow_mul-seats
-overflow_mul-seats c = record { fits = omega (arith, all-seats (goal.at.overflow_mul-seats c).Start) }
+pub overflow_mul-result-2 : goal.overflow_mul-result-2
+overflow_mul-result-2 c = record { fits = omega (arith, lines (goal.at.overflow_mul-result-2 c).After-dims-d) }
 
-pub overflow_add-seats_end : goal.overflow_add-seats_end
-overflow_add-seats_end c = record { fits = omega (arith, all-seats (goal.at.overflow_add-seats_end c).Start, c.requires.accepted.small) }
-
-pub overflow_mul-words : goal.overflow_mul-words
-overflow_mul-words c = record { fits = omega (arith, all-seats (goal.at.overflow_mul-words c).Start) }
-
-pub overflow_mul-words_end : goal.overflow_mul-words_end
-overflow_mul-words_end c = record { fits = omega (arith, c.requires.accepted.small) }
-
-pub overflow_add-words_end : goal.overflow_add-words_end
-overflow_add-words_end c = record { fits = omega (arith, all-seats (goal.at.overflow_add-words_end c).Start, c.requires.accepted.small) }
+pub overflow_add-result-2 : goal.overflow_add-result-2
+overflow_add-result-2 c = let p = (goal.at.overflow_add-result-2 c).After-dims-d in record { fits = omega (arith, rows-here p.before, lines p) }
 
 pub returns : goal.returns
 unfolding span_of

@@ -11,12 +11,8 @@ elephants_before sh l = min l sh.elephant_layers
 unfoldable pub span_of : Shape → ℕ → Span
 span_of sh l =
     record {
-      cells = cell_off sh l;
-      cells_end = cell_off sh l + (dims_at sh l).rows * (dims_at sh l).cols;
-      norms = 2 * norm_off sh l;
-      norms_end = 2 * norm_off sh l + 2 * (dims_at sh l).rows;
-      words = 4 * cand_off sh l;
-      words_end = 4 * cand_off sh l + 4 * (dims_at sh l).size;
-      seats = cand_off sh l;
-      seats_end = cand_off sh l + (dims_at sh l).size;
+      cells = record { start = cell_off sh l; end = cell_off sh l + (dims_at sh l).rows * (dims_at sh l).cols };
+      norms = record { start = 2 * norm_off sh l; end = 2 * norm_off sh l + 2 * (dims_at sh l).rows };
+      words = record { start = 4 * cand_off sh l; end = 4 * cand_off sh l + 4 * (dims_at sh l).size };
+      seats = record { start = cand_off sh l; end = cand_off sh l + (dims_at sh l).size };
     }

@@ -2,7 +2,6 @@
 use mathlib.Core.Path.{◌≡◌, sym, ◌∙◌}
 use mathlib.Core.Bool.{true}
 use lib.ListN.{take}
-use native.Mathlib.Omega.{arith}
 use mir.Facts.{to_z-of_z}
 use Rattle.words.specs.Num.{in_range}
 use Rattle.structure_utils.proofs.Sorting.{all-bubble}
@@ -13,10 +12,6 @@ use Rattle.leaves_test.proofs.put.Goals.{Else-not-in_range}
 ranged : (c : Else-not-in_range) → in_range c.args.v ≡ true
 ranged c = sym (rw (to_z-of_z c.ranges.v) at c.in_range.ensures) ∙ c.if-not-in_range.false
 
-pub returns : goal.returns
-returns c =
-    let i = c.insert.ensures in
-    record {
-      upper_bound = (omega arith, i.buf_len);
-      buf_after = rw (rw (to_z-of_z c.ranges.v) at i.buf_after) (all-bubble c.args.v (take c.args.n c.args.buf.now) (ranged (goal.at.returns c).Else-not-in_range) c.requires.buf_value);
-    }
+pub returns-clause-buf_after : goal.returns-clause-buf_after
+returns-clause-buf_after c =
+    rw (rw (to_z-of_z c.ranges.v) at c.insert.ensures.buf_after) (all-bubble c.args.v (take c.args.n c.args.buf.now) (ranged (goal.at.returns-clause-buf_after c).Else-not-in_range) c.requires.buf_value)

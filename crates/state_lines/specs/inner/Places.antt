@@ -1,26 +1,13 @@
 -- Readings at places of a text: the place past a form stands for what is left of the text.
-use Rattle.std.specs.Prelude.{Bool, cond, List, ◌∷◌, ℕ, eqb, ℤ, length, drop}
+use Rattle.std.specs.Prelude.{List, ◌∷◌, ℕ, ℤ, length, drop, Option, None, Some}
 use Rattle.text.specs.Words.{bytes_of}
-use Rattle.text.specs.declared.decimals.Num.{Num}
-use Rattle.text.specs.declared.decimals.Num.TheVariants as N
+use Rattle.heap_moves.specs.declared.Item.{Item}
 use Rattle.heap_moves.specs.Cands.{Cand}
 use Rattle.heap_moves.specs.Flat.{cand_of}
-use Rattle.state_forms.specs.Formats.{Got, got, bad, then_read, word_r, num_r}
+use Rattle.state_forms.specs.Formats.{Got, got, bad, then_read, word_r, num_r, this}
 use Rattle.state_forms.specs.Whole.{First}
-use Rattle.state_lines.specs.declared.cells.Next.{Next}
-use Rattle.state_lines.specs.declared.cells.Next.TheVariants as X
-use Rattle.state_lines.specs.declared.cells.Pair.{Pair}
-use Rattle.state_lines.specs.declared.cells.Pair.TheVariants as P
 use Rattle.state_lines.specs.declared.heads.FirstLine.{FirstLine}
-use Rattle.state_lines.specs.declared.heads.FirstLine.TheVariants as F
 use Rattle.state_lines.specs.declared.heads.HeadLines.{HeadLines}
-use Rattle.state_lines.specs.declared.heads.HeadLines.TheVariants as H
-use Rattle.state_lines.specs.declared.heads.FlagLine.{FlagLine}
-use Rattle.state_lines.specs.declared.heads.FlagLine.TheVariants as B
-use Rattle.state_lines.specs.declared.keys.KeyLine.{KeyLine}
-use Rattle.state_lines.specs.declared.keys.KeyLine.TheVariants as K
-use Rattle.state_lines.specs.declared.keys.KeyLines.{KeyLines}
-use Rattle.state_lines.specs.declared.keys.KeyLines.TheVariants as KS
 
 -- rows and columns are at most so many wherever lines are read: 2^20, so that no place of a counter comes near the end of the numbers
 abbrev pub most_side : ℕ
@@ -28,37 +15,27 @@ most_side = 1048576
 
 -- ---- what a function answers, as what a format reads
 
-abbrev pub spot : List ℕ → Next → Got (Unit {0})
-spot s (X.At j) = got tt (drop j s)
-spot s X.Bad = bad
+-- a place alone
+abbrev pub spot : List ℕ → Option ℕ → Got (Unit {0})
+spot s (Some j) = got tt (drop j s)
+spot s None = bad
 
-abbrev pub num_spot : List ℕ → Num → Got ℕ
-num_spot s (N.At v j) = got v (drop j s)
-num_spot s N.Bad = bad
+-- a value, as another one says it, and the place past it
+abbrev pub spot_as : {A B : Type 0} → (A → B) → List ℕ → Option (A × ℕ) → Got B
+spot_as f s (Some p) = got (f p.0) (drop p.1 s)
+spot_as f s None = bad
 
-abbrev pub pair_spot : List ℕ → Pair → Got (ℕ × ℤ)
-pair_spot s (P.At c v j) = got (c, v) (drop j s)
-pair_spot s P.Bad = bad
+abbrev pub value_spot : {A : Type 0} → List ℕ → Option (A × ℕ) → Got A
+value_spot s r = spot_as (λ a. a) s r
 
-abbrev pub first_spot : List ℕ → FirstLine → Got First
-first_spot s (F.At h r c l j) = got (h, (r, (c, l))) (drop j s)
-first_spot s F.Bad = bad
+abbrev pub first_spot : List ℕ → Option (FirstLine × ℕ) → Got First
+first_spot s r = spot_as (λ f. (f.heap, (f.rows, (f.cols, f.layers)))) s r
 
-abbrev pub head_spot : List ℕ → HeadLines → Got (ℕ × (ℕ × ℕ))
-head_spot s (H.At w u m j) = got (w, (u, m)) (drop j s)
-head_spot s H.Bad = bad
+abbrev pub head_spot : List ℕ → Option (HeadLines × ℕ) → Got (ℕ × (ℕ × ℕ))
+head_spot s r = spot_as (λ h. (h.weight, (h.updates, h.mode))) s r
 
-abbrev pub flag_spot : List ℕ → FlagLine → Got Bool
-flag_spot s (B.At f j) = got f (drop j s)
-flag_spot s B.Bad = bad
-
-abbrev pub key_spot : List ℕ → KeyLine → Got Cand
-key_spot s (K.At w n j) = got (cand_of w n) (drop j s)
-key_spot s K.Bad = bad
-
-abbrev pub keys_spot : List ℕ → KeyLines → Got ℕ
-keys_spot s (KS.At n j) = got n (drop j s)
-keys_spot s KS.Bad = bad
+abbrev pub key_spot : List ℕ → Option ((Item × ℤ) × ℕ) → Got Cand
+key_spot s r = spot_as (λ k. cand_of k.0 k.1) s r
 
 -- ---- what is left, without the value, or with the number of values
 
@@ -75,4 +52,5 @@ how_many bad = bad
 unfoldable pub row_head_r : ℕ → List ℕ → Got ℕ
 row_head_r l s =
     then_read (word_r (bytes_of "(row ") s) (λ _ t.
-    then_read (num_r 32 t) (λ v u. cond (eqb v l) (then_read (num_r 32 u) (λ r w. got r (32 ∷ w))) bad))
+    then_read ((this l 32).read t) (λ _ u.
+    then_read (num_r 32 u) (λ r w. got r (32 ∷ w))))

@@ -1,12 +1,10 @@
 -- A layer read at a place.
-use Rattle.std.specs.Prelude.{◌≡◌, Bool, List, ℕ, ◌*◌, ◌≤◌, length, drop}
+use Rattle.std.specs.Prelude.{◌≡◌, Bool, List, ℕ, ◌*◌, ◌≤◌, length}
 use Rattle.heap_moves.specs.Cands.{most_cands}
 use Rattle.layer.specs.declared.Dims.{Dims}
 use Rattle.state_forms.specs.Formats.{Got, got, bad}
 use Rattle.state_forms.specs.Grammar.{Page}
 use Rattle.state_lines.specs.inner.Places.{most_side}
-use Rattle.state_reader.specs.declared.page.PageLines.{PageLines}
-use Rattle.state_reader.specs.declared.page.PageLines.TheVariants as P
 
 -- no number of a layer's shape is so large that a place leaves the numbers
 pub record Small (d : Dims) : Type 0 where
@@ -24,10 +22,6 @@ pub record PageRoom (d : Dims) (nw nc : ℕ) : Type 0 where
 unfoldable pub paged : Got Page → Got (Bool × ℕ)
 paged (got p t) = got (p.flag, length p.keys) t
 paged bad = bad
-
-abbrev pub page_spot : List ℕ → PageLines → Got (Bool × ℕ)
-page_spot s (P.At f n j) = got (f, n) (drop j s)
-page_spot s P.Bad = bad
 
 -- a text that was read
 pub record Legible {A : Type 0} (g : Got A) : Type 0 where

@@ -42,7 +42,7 @@ row_ready_at-requires c =
     }
 
 pub returns-then-not-row_ready_at : goal.returns-then-not-row_ready_at
-returns-then-not-row_ready_at c = told-not c.not_made.ensures (judge_stop (none (goal.at.returns-then-not-row_ready_at c).Start) c.place-a.ensures (omega arith) c.row_ready_at.ensures c.if-not-row_ready_at.true)
+returns-then-not-row_ready_at c = told-not (judge_stop (none (goal.at.returns-then-not-row_ready_at c).Start) c.place-a.ensures (omega arith) c.row_ready_at.ensures c.if-not-row_ready_at.true)
 
 pub row_ready_at-requires-2 : goal.row_ready_at-requires-2
 row_ready_at-requires-2 c =
@@ -53,7 +53,7 @@ row_ready_at-requires-2 c =
     }
 
 pub returns-then-not-row_ready_at-2 : goal.returns-then-not-row_ready_at-2
-returns-then-not-row_ready_at-2 c = told-not c.not_made-then-not-row_ready_at-2.ensures (judge_stop (one (goal.at.returns-then-not-row_ready_at-2 c).Else-not-row_ready_at) c.place-b.ensures (omega arith) c.row_ready_at-2.ensures c.if-not-row_ready_at-2.true)
+returns-then-not-row_ready_at-2 c = told-not (judge_stop (one (goal.at.returns-then-not-row_ready_at-2 c).Else-not-row_ready_at) c.place-b.ensures (omega arith) c.row_ready_at-2.ensures c.if-not-row_ready_at-2.true)
 
 pub row_ready_at-requires-3 : goal.row_ready_at-requires-3
 row_ready_at-requires-3 c =
@@ -64,7 +64,7 @@ row_ready_at-requires-3 c =
     }
 
 pub returns-then-not-row_ready_at-3 : goal.returns-then-not-row_ready_at-3
-returns-then-not-row_ready_at-3 c = told-not c.not_made-then-not-row_ready_at-3.ensures (judge_stop (two (goal.at.returns-then-not-row_ready_at-3 c).Else-not-row_ready_at-2) c.place-c.ensures (omega arith) c.row_ready_at-3.ensures c.if-not-row_ready_at-3.true)
+returns-then-not-row_ready_at-3 c = told-not (judge_stop (two (goal.at.returns-then-not-row_ready_at-3 c).Else-not-row_ready_at-2) c.place-c.ensures (omega arith) c.row_ready_at-3.ensures c.if-not-row_ready_at-3.true)
 
 pub three_at-requires : goal.three_at-requires
 three_at-requires c = record {

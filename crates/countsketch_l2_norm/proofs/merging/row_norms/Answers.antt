@@ -9,29 +9,20 @@ use Rattle.countsketch_l2_norm.proofs.merging.row_norms.Goals as goal
 pub loop-r-init : goal.loop-r-init
 loop-r-init c = record { low = omega arith; same = refl; done = λ k h. absurd (omega arith) }
 
-pub row_norm-w-requires : goal.row_norm-w-requires
-row_norm-w-requires c = record {
+pub row_norm-requires : goal.row_norm-requires
+row_norm-requires c = record {
   r_lt_max_rows = (omega (arith, c.requires.shaped.few), c.requires.shaped.wide);
   cols_in_bounds = omega (arith, row_end c.loop-r.r c.args.rows c.args.cols c.loop-r-test.true, c.requires.cols_in_bounds.0);
 }
 
 pub put_norm-requires : goal.put_norm-requires
-put_norm-requires c = (omega (arith, c.requires.shaped.few), omega (arith, c.requires.cols_in_bounds.1, c.loop-r.invariant.same))
-
-pub overflow_add-r : goal.overflow_add-r
-overflow_add-r c = omega arith
-
-pub loop-r-smaller : goal.loop-r-smaller
-loop-r-smaller c = omega arith
+put_norm-requires c = (omega (arith, c.requires.shaped.few), omega (arith, c.requires.cols_in_bounds.1))
 
 pub loop-r-preserved : goal.loop-r-preserved
 loop-r-preserved c =
     let a = c.args in
     norm_on a.rows a.cols a.counters.now a.norms.now c.loop-r.norms c.loop-r.r _ c.loop-r.invariant c.loop-r-test.true c.requires.cols_in_bounds.1
-    (c.put_norm.ensures ∙ ap (set_norm c.loop-r.norms c.loop-r.r) c.row_norm-w.ensures)
-
-pub shape_of-norms : goal.shape_of-norms
-shape_of-norms c = c.loop-r.invariant.same
+    (c.put_norm.ensures ∙ ap (set_norm c.loop-r.norms c.loop-r.r) c.row_norm.ensures)
 
 pub returns : goal.returns
 returns c = let a = c.args in norm_end a.rows a.cols a.counters.now a.norms.now c.loop-r.norms c.loop-r.r c.loop-r.invariant c.loop-r-test.false

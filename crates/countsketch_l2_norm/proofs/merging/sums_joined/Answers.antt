@@ -1,51 +1,42 @@
 -- `countsketch_l2_norm::merging::sums_joined` meets its contract.
-use Prim.Native.Nat.{◌^◌, ◌<◌}
 use mathlib.Core.Path.{◌≡◌, refl, subst, ◌∙◌}
-use lib.ListN.{length, get_or}
-use lib.IntN.{ℤ, pos, ◌+ℤ◌}
-use lib.Signed.{mag}
 use native.Mathlib.Omega.{arith}
-use borrow.Author.Rules.{rules, sfits_of}
+use lib.IntN.{ℤ, ◌+ℤ◌}
+use lib.Signed.{mag}
+use Prim.Native.Nat.{◌^◌, ◌<◌}
+use borrow.Author.Rules.{sfits_of}
 use mir.Syntax.{w64}
 use mir.Facts.{to_z-of_z}
-use Rattle.countsketch_l2_norm.proofs.Merges.{fit_on, fit_end}
-use Rattle.words.proofs.Squares.{all-at, range_bound}
+use Rattle.std.specs.Prelude.{None}
+use Rattle.countsketch_l2_norm.proofs.Merges.{pair_front, pair_next, fit_on, fit_end}
 use Rattle.words.proofs.Raises.{join_on}
+use Rattle.words.proofs.Signed.{back}
+use Rattle.std.proofs.lemmas.Iterator.{empty_from_Zip}
 use Rattle.countsketch_l2_norm.proofs.merging.sums_joined.Goals as goal
 
-pub loop-i-init : goal.loop-i-init
-loop-i-init c = (omega arith, λ b. refl)
-
-pub offset_bounds-ys-i : goal.offset_bounds-ys-i
-offset_bounds-ys-i c = let h : c.loop-i.i < length c.args.ys.now = omega (arith, c.requires.xs_len) in search rules
-
-pub bounds-ys-i : goal.bounds-ys-i
-bounds-ys-i c = omega (arith, c.requires.xs_len)
+pub loop-x-init : goal.loop-x-init
+loop-x-init c =
+    let z = c.zip-x-items.ensures in
+    rw (c.into_iter-x-iterator.ensures.into_iter_gives, z.second.0, z.first, c.iter.ensures.rest)
+    (record { in_xs = c.requires.xs_value.0; in_ys = c.requires.xs_value.1; same = c.requires.xs_len }, λ b. refl)
 
 pub sum_of-requires : goal.sum_of-requires
 sum_of-requires c =
-    let a = c.args in
-    let k = c.loop-i.i in
-    let p = c.requires.xs_value in
-    rw (to_z-of_z {w = w64} (sfits_of c.sum_of-arg-1.given), to_z-of_z {w = w64} (sfits_of c.sum_of-arg-in-loop-i-1.given)) (range_bound (get_or a.xs.now k (pos 0)) (all-at a.xs.now p.0 k), range_bound (get_or a.ys.now k (pos 0)) (all-at a.ys.now p.1 k))
+    let e = c.in-Some.ensures.steps in
+    let p = pair_front e.0 e.1 c.loop-x.invariant.0 in
+    rw (back c.in-Some.x.now (omega (arith, p.0)), back c.in-Some.y.now (omega (arith, p.1))) p
 
-pub overflow_add-i : goal.overflow_add-i
-overflow_add-i c = omega arith
-
-pub loop-i-smaller : goal.loop-i-smaller
-loop-i-smaller c = omega arith
-
-pub loop-i-preserved : goal.loop-i-preserved
-loop-i-preserved c =
-    let a = c.args in
-    let lp = c.loop-i in
-    let x = get_or a.xs.now lp.i (pos 0) in
-    let y = get_or a.ys.now lp.i (pos 0) in
-    let e : c.sum_of.result ≡ x +ℤ y = rw (to_z-of_z {w = w64} {z = x} (sfits_of c.sum_of-arg-1.given), to_z-of_z {w = w64} {z = y} (sfits_of c.sum_of-arg-in-loop-i-1.given)) at c.sum_of.ensures in (
-      omega arith,
-      join_on lp.all _ _ _ _ (x +ℤ y) (subst (λ (z : ℤ). mag z < 2 ^ 63) e c.sum_of.type_inv) (rw (to_z-of_z {w = w64} (sfits_of c.sum_of.type_inv), e) at c.raised-one.ensures)
-          (fit_on a.xs.now a.ys.now lp.i c.loop-i-test.true (omega (arith, c.requires.xs_len))) lp.invariant.1,
+pub loop-x-preserved : goal.loop-x-preserved
+loop-x-preserved c =
+    let e = c.in-Some.ensures.steps in
+    let g = c.loop-x.invariant in
+    let p = pair_front e.0 e.1 g.0 in
+    let s : c.sum_of.result ≡ c.in-Some.x.now +ℤ c.in-Some.y.now = rw (back c.in-Some.x.now (omega (arith, p.0)), back c.in-Some.y.now (omega (arith, p.1))) at c.sum_of.ensures in (
+      pair_next e.0 e.1 g.0,
+      join_on c.loop-x.all _ _ _ _ (c.in-Some.x.now +ℤ c.in-Some.y.now) (subst (λ (z : ℤ). mag z < 2 ^ 63) s c.sum_of.type_inv) (rw (to_z-of_z {w = w64} (sfits_of c.sum_of.type_inv), s) at c.raised-all.ensures) (fit_on e.0 e.1) g.1,
     )
 
 pub returns : goal.returns
-returns c = let a = c.args in let lp = c.loop-i in λ b. lp.invariant.1 b ∙ fit_end a.xs.now a.ys.now lp.i c.loop-i-test.false
+returns c =
+    let g = c.loop-x.invariant in
+    λ b. g.1 b ∙ fit_end _ (empty_from_Zip c.loop-x.x-iterator c.next.new.self None refl c.in-None.ensures.steps g.0.same).0

@@ -41,7 +41,7 @@ row_ready_at-requires c =
     }
 
 pub returns-then-not-row_ready_at : goal.returns-then-not-row_ready_at
-returns-then-not-row_ready_at c = made-not c.not_made.ensures (judge_stop (none (goal.at.returns-then-not-row_ready_at c).Start) c.place-a.ensures (omega arith) c.row_ready_at.ensures c.if-not-row_ready_at.true)
+returns-then-not-row_ready_at c = made-not (judge_stop (none (goal.at.returns-then-not-row_ready_at c).Start) c.place-a.ensures (omega arith) c.row_ready_at.ensures c.if-not-row_ready_at.true)
 
 pub row_ready_at-requires-2 : goal.row_ready_at-requires-2
 row_ready_at-requires-2 c =
@@ -52,7 +52,7 @@ row_ready_at-requires-2 c =
     }
 
 pub returns-then-not-row_ready_at-2 : goal.returns-then-not-row_ready_at-2
-returns-then-not-row_ready_at-2 c = made-not c.not_made-then-not-row_ready_at-2.ensures (judge_stop (one (goal.at.returns-then-not-row_ready_at-2 c).Else-not-row_ready_at) c.place-b.ensures (omega arith) c.row_ready_at-2.ensures c.if-not-row_ready_at-2.true)
+returns-then-not-row_ready_at-2 c = made-not (judge_stop (one (goal.at.returns-then-not-row_ready_at-2 c).Else-not-row_ready_at) c.place-b.ensures (omega arith) c.row_ready_at-2.ensures c.if-not-row_ready_at-2.true)
 
 pub row_ready_at-requires-3 : goal.row_ready_at-requires-3
 row_ready_at-requires-3 c =
@@ -63,7 +63,7 @@ row_ready_at-requires-3 c =
     }
 
 pub returns-then-not-row_ready_at-3 : goal.returns-then-not-row_ready_at-3
-returns-then-not-row_ready_at-3 c = made-not c.not_made-then-not-row_ready_at-3.ensures (judge_stop (two (goal.at.returns-then-not-row_ready_at-3 c).Else-not-row_ready_at-2) c.place-c.ensures (omega arith) c.row_ready_at-3.ensures c.if-not-row_ready_at-3.true)
+returns-then-not-row_ready_at-3 c = made-not (judge_stop (two (goal.at.returns-then-not-row_ready_at-3 c).Else-not-row_ready_at-2) c.place-c.ensures (omega arith) c.row_ready_at-3.ensures c.if-not-row_ready_at-3.true)
 
 pub row_ready_at-requires-4 : goal.row_ready_at-requires-4
 row_ready_at-requires-4 c =
@@ -74,7 +74,7 @@ row_ready_at-requires-4 c =
     }
 
 pub returns-then-not-row_ready_at-4 : goal.returns-then-not-row_ready_at-4
-returns-then-not-row_ready_at-4 c = made-not c.not_made-then-not-row_ready_at-4.ensures (judge_stop (three (goal.at.returns-then-not-row_ready_at-4 c).Else-not-row_ready_at-3) c.place-d.ensures (omega arith) c.row_ready_at-4.ensures c.if-not-row_ready_at-4.true)
+returns-then-not-row_ready_at-4 c = made-not (judge_stop (three (goal.at.returns-then-not-row_ready_at-4 c).Else-not-row_ready_at-3) c.place-d.ensures (omega arith) c.row_ready_at-4.ensures c.if-not-row_ready_at-4.true)
 
 pub row_ready_at-requires-5 : goal.row_ready_at-requires-5
 row_ready_at-requires-5 c =
@@ -85,7 +85,7 @@ row_ready_at-requires-5 c =
     }
 
 pub returns-then-not-row_ready_at-5 : goal.returns-then-not-row_ready_at-5
-returns-then-not-row_ready_at-5 c = made-not c.not_made-then-not-row_ready_at-5.ensures (judge_stop (four (goal.at.returns-then-not-row_ready_at-5 c).Else-not-row_ready_at-4) c.place-e.ensures (omega arith) c.row_ready_at-5.ensures c.if-not-row_ready_at-5.true)
+returns-then-not-row_ready_at-5 c = made-not (judge_stop (four (goal.at.returns-then-not-row_ready_at-5 c).Else-not-row_ready_at-4) c.place-e.ensures (omega arith) c.row_ready_at-5.ensures c.if-not-row_ready_at-5.true)
 
 pub update_five_at-requires : goal.update_five_at-requires
 update_five_at-requires c = record {

@@ -35,7 +35,7 @@ pub returns-then-rows-eq5 : goal.returns-then-rows-eq5
 returns-then-rows-eq5 c = rw c.if-rows-eq5.true c.update_five_if_ready.ensures
 
 pub returns-then-not-rows_ready : goal.returns-then-not-rows_ready
-returns-then-not-rows_ready c = made-not c.not_made.ensures (sym c.if-not-rows_ready.true ∙ c.rows_ready.ensures)
+returns-then-not-rows_ready c = made-not (sym c.if-not-rows_ready.true ∙ c.rows_ready.ensures)
 
 pub update_and_count-requires : goal.update_and_count-requires
 update_and_count-requires c = ready_of (c.requires.shaped, c.requires.cols_in_bounds) (ready (goal.at.update_and_count-requires c).Else-not-rows_ready)

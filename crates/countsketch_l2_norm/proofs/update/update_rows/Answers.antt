@@ -25,8 +25,8 @@ place-at-requires c =
       r_lt_max_rows = t.1;
     }
 
-pub update_row-v-requires : goal.update_row-v-requires
-update_row-v-requires c =
+pub update_row-requires : goal.update_row-requires
+update_row-requires c =
     let t = row_asks c.requires.ready c.place-at.ensures c.loop-r.invariant.counted.going c.loop-r-test.true in
     record {
       r_lt_max_rows = t.0;
@@ -39,18 +39,12 @@ offset_bounds-buf-r c = let h : c.loop-r.r < max_rows = omega (arith, c.requires
 pub bounds-buf-r : goal.bounds-buf-r
 bounds-buf-r c = let h : c.loop-r.r < max_rows = omega (arith, c.requires.ready.shaped.few, c.loop-r-test.true) in let k = c.loop-r.invariant.len in search rules
 
-pub overflow_add-r : goal.overflow_add-r
-overflow_add-r c = omega arith
-
-pub loop-r-smaller : goal.loop-r-smaller
-loop-r-smaller c = omega arith
-
 pub loop-r-preserved : goal.loop-r-preserved
 loop-r-preserved c =
     let a = c.args in
     let lp = c.loop-r in
     fill_on a.rows a.cols (hash_of c.args.high c.args.low) a.weight a.counters.now a.norms.now lp.buf lp.counters lp.norms lp.r _ _ _ c.requires.ready lp.invariant c.loop-r-test.true
-    (added_bits a.cols c.place-at.ensures (to_z-of_z {w = w64} (sfits_of c.update_row-v.type_inv)) c.update_row-v.ensures)
+    (added_bits a.cols c.place-at.ensures (to_z-of_z {w = w64} (sfits_of c.update_row.type_inv)) c.update_row.ensures)
 
 pub shape_of-counters : goal.shape_of-counters
 shape_of-counters c = c.loop-r.invariant.counted.going.same_cells

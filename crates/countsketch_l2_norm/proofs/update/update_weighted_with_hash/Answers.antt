@@ -38,12 +38,6 @@ add_cell-requires c =
     rw (c.place-at.ensures, delta_is (goal.at.add_cell-requires c).After-delta_at-delta)
     (ready-row a.rows a.cols (hash_of c.args.high c.args.low) a.weight a.counters.now a.norms.now c.loop-r.counters c.loop-r.norms c.loop-r.r c.requires c.loop-r.invariant c.loop-r-test.true)
 
-pub overflow_add-r : goal.overflow_add-r
-overflow_add-r c = omega arith
-
-pub loop-r-smaller : goal.loop-r-smaller
-loop-r-smaller c = omega arith
-
 pub loop-r-preserved : goal.loop-r-preserved
 loop-r-preserved c =
     let a = c.args in

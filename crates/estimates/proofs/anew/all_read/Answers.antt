@@ -1,27 +1,17 @@
 -- `estimates::anew::all_read` meets its contract.
-use mathlib.Core.Path.{sym, ◌∙◌}
-use native.Mathlib.Omega.{arith}
-use Rattle.words.proofs.Scans.{scan_start, scan_on, scan_stop, scan_end}
+use Rattle.std.proofs.Common.{ℕ, Bool, ◌∙◌, rules, arith}
+use Rattle.std.proofs.lemmas.Iterator.{YieldsList-from_range}
+use Rattle.std.proofs.lemmas.Iterator.Search.{all_from_yields_List}
+use Rattle.countsketch_l2_norm.specs.Estimate.{cells_in_range}
+use Rattle.heap_moves.specs.Flat.{item_of}
+use Rattle.layer.specs.Layer.{hash_by}
+use Rattle.words.proofs.Walks.{walked}
 use Rattle.estimates.proofs.Places.{scanned, read_step, read_none}
 use Rattle.estimates.proofs.anew.all_read.Goals as goal
 
-pub loop-i-init : goal.loop-i-init
-loop-i-init c = let a = c.args in scan_start (scanned a.dims a.cells.now a.entries.now) c.args.n 0
-
-pub returns-then-not-reads_at : goal.returns-then-not-reads_at
-returns-then-not-reads_at c =
-    let a = c.args in
-    scan_stop (scanned a.dims a.cells.now a.entries.now) a.n 0 c.loop-i.i _ c.loop-i.invariant (omega arith)
-    (λ k. read_step a.dims a.cells.now a.entries.now k c.loop-i.i) (sym c.reads_at.ensures ∙ c.if-not-reads_at.true)
-
-pub loop-i-preserved : goal.loop-i-preserved
-loop-i-preserved c =
-    let a = c.args in
-    scan_on (scanned a.dims a.cells.now a.entries.now) a.n 0 c.loop-i.i _ c.loop-i.invariant (omega arith)
-    (λ k. read_step a.dims a.cells.now a.entries.now k c.loop-i.i) (sym c.reads_at.ensures ∙ c.if-not-reads_at.false)
-
 pub returns : goal.returns
 returns c =
-    let a = c.args in
-    scan_end (scanned a.dims a.cells.now a.entries.now) a.n 0 c.loop-i.i c.loop-i.invariant (omega arith)
-    (read_none a.dims a.cells.now a.entries.now c.loop-i.i)
+    let y = c.args.layer in
+    let t : ℕ → Bool = λ i. cells_in_range y.dims.cols (hash_by (item_of y.entries.now i)) y.cells.now y.dims.rows 0 in
+    all_from_yields_List t _ _ c.all.result c.all.ensures.ran (YieldsList-from_range 0 y.len y.len (cc) (omega arith)) (λ i b q k. search rules)
+    ∙ walked (scanned y.dims y.cells.now y.entries.now) t (read_step y.dims y.cells.now y.entries.now) (read_none y.dims y.cells.now y.entries.now) y.len 0

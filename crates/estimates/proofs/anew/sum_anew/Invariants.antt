@@ -1,11 +1,7 @@
 -- `estimates::anew::sum_anew` meets its contract.
-use Prim.Native.Nat.{◌-◌}
 use Rattle.sums.proofs.Views.{Summing}
 use Rattle.estimates.specs.inner.Anew.{entry_at}
 use Rattle.estimates.proofs.anew.sum_anew.Given as goal
 
 abbrev pub invariant-loop-i : goal.invariant-loop-i
-invariant-loop-i l = Summing l.rule (entry_at l.dims l.cells l.entries) l.n l.acc l.i
-
-abbrev pub decreases-loop-i : goal.decreases-loop-i
-decreases-loop-i l = l.n - l.i
+invariant-loop-i l = Summing l.rule (entry_at l.layer) l.layer.len l.acc l.i

@@ -21,9 +21,9 @@ pub returns-then-not-l2_reads : goal.returns-then-not-l2_reads
 unfolding l2_call
 returns-then-not-l2_reads c = sym (rw (lent_ok (goal.at.returns-then-not-l2_reads c).Else-not-norms_lent, sym c.l2_reads.ensures ∙ c.if-not-l2_reads.true))
 
-pub l2_of-value-requires : goal.l2_of-value-requires
-l2_of-value-requires c = normed_of c.args.header c.args.norms.now (lent_ok (goal.at.l2_of-value-requires c).Else-not-norms_lent)
+pub l2_of-requires : goal.l2_of-requires
+l2_of-requires c = normed_of c.args.header c.args.norms.now (lent_ok (goal.at.l2_of-requires c).Else-not-norms_lent)
 
 pub returns : goal.returns
 unfolding l2_call
-returns c = rw c.l2_of-value.ensures (sym (rw (lent_ok (goal.at.returns c).Else-not-norms_lent, sym c.l2_reads.ensures ∙ c.if-not-l2_reads.false)))
+returns c = rw c.l2_of.ensures (sym (rw (lent_ok (goal.at.returns c).Else-not-norms_lent, sym c.l2_reads.ensures ∙ c.if-not-l2_reads.false)))

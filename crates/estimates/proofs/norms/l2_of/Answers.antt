@@ -1,5 +1,6 @@
 -- `estimates::norms::l2_of` meets its contract.
-use mathlib.Core.Path.{sym, ap, ◌∙◌}
+use Rattle.std.proofs.Common.{sym, ap, ◌∙◌}
+use mathlib.Core.Logic.{inl, inr}
 use lib.Ieee.{Float}
 use Rattle.estimates.specs.Norms.{l2_by, l2_of_state}
 use Rattle.estimates.specs.Calls.{norm_state}
@@ -13,25 +14,11 @@ use Rattle.estimates.proofs.norms.l2_of.Goals.{Start}
 by : (c : Start) → Mode → Float
 by c m = l2_by m (norm_state c.args.header c.args.norms.now)
 
-pub l2_at-requires : goal.l2_at-requires
-l2_at-requires c = record {
-  normed = c.requires;
-  l_lt_layers = c.requires.accepted.some;
-}
-
-pub l2_at-requires-in-Standard : goal.l2_at-requires-in-Standard
-l2_at-requires-in-Standard c = record {
-  normed = c.requires;
-  l_lt_layers = c.requires.accepted.some;
-}
-
 pub returns-in-Unset : goal.returns-in-Unset
 unfolding by l2_of_state
-returns-in-Unset c = c.l2_at.ensures ∙ l2_in c.args.header c.args.norms.now 0 c.requires.accepted.some ∙ ap (by (goal.at.returns-in-Unset c).Start) (sym c.in-Unset.is)
-
-pub returns-in-Standard : goal.returns-in-Standard
-unfolding by l2_of_state
-returns-in-Standard c = c.l2_at-in-Standard.ensures ∙ l2_in c.args.header c.args.norms.now 0 c.requires.accepted.some ∙ ap (by (goal.at.returns-in-Standard c).Start) (sym c.in-Standard.is)
+returns-in-Unset c =
+    let e = c.l2_at.ensures ∙ l2_in c.args.header c.args.norms.now 0 c.requires.accepted.some in
+    elim c.in-Unset.is [ inl q ↦ e ∙ ap (by (goal.at.returns-in-Unset c).Start) (sym q) | inr q ↦ e ∙ ap (by (goal.at.returns-in-Unset c).Start) (sym q) ]
 
 pub returns-in-Terminal : goal.returns-in-Terminal
 unfolding by l2_of_state

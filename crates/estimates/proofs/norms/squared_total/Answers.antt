@@ -1,7 +1,6 @@
 -- `estimates::norms::squared_total` meets its contract.
-use mathlib.Core.Path.{◌≡◌, refl, ap, ◌∙◌, ap₂}
-use native.Mathlib.Omega.{arith}
-use native.Mathlib.Numerals.{add-one}
+use Rattle.std.proofs.Common.{◌≡◌, refl, ap, ◌∙◌, add-one, arith}
+use mathlib.Core.Path.{ap₂}
 use lib.Ieee.{binary64, add}
 use Rattle.estimates.specs.Norms.{squared_below}
 use Rattle.estimates.specs.Calls.{norm_state}
@@ -10,13 +9,13 @@ use Rattle.estimates.proofs.norms.squared_total.Goals as goal
 
 pub loop-l-init : goal.loop-l-init
 unfolding squared_below
-loop-l-init c = (omega arith, refl)
+loop-l-init c = refl
 
 pub loop-l-preserved : goal.loop-l-preserved
 unfolding squared_below
-loop-l-preserved c = (omega arith, rw add-one (ap₂ (add binary64) c.loop-l.invariant.1 (c.squared_at-sum.ensures ∙ squared-in c.args.header c.args.norms.now c.loop-l.l c.loop-l-test.true)))
+loop-l-preserved c = rw add-one (ap₂ (add binary64) c.loop-l.invariant (c.squared_at-sum.ensures ∙ squared-in c.args.header c.args.norms.now c.loop-l.l c.loop-l-test.true))
 
 pub returns : goal.returns
 returns c =
     let z : c.loop-l.l ≡ c.args.header.shape.layers = omega arith in
-    c.loop-l.invariant.1 ∙ ap (squared_below (norm_state c.args.header c.args.norms.now)) z
+    c.loop-l.invariant ∙ ap (squared_below (norm_state c.args.header c.args.norms.now)) z

@@ -1,12 +1,8 @@
 -- `estimates::norms::squared_total` meets its contract.
-use Prim.Native.Nat.{◌-◌, ◌≤◌}
 use mathlib.Core.Path.{◌≡◌}
 use Rattle.estimates.specs.Norms.{squared_below}
 use Rattle.estimates.specs.Calls.{norm_state}
 use Rattle.estimates.proofs.norms.squared_total.Given as goal
 
 abbrev pub invariant-loop-l : goal.invariant-loop-l
-invariant-loop-l l = (l.l ≤ l.header.shape.layers) × (l.sum ≡ squared_below (norm_state l.header l.norms) l.l)
-
-abbrev pub decreases-loop-l : goal.decreases-loop-l
-decreases-loop-l l = l.header.shape.layers - l.l
+invariant-loop-l l = l.sum ≡ squared_below (norm_state l.fn.header l.norms) l.l

@@ -1,12 +1,11 @@
 -- `estimates::standard::standard_sum` meets its contract.
-use Prim.Native.Nat.{◌-◌, ◌≤◌}
+use Prim.Native.Nat.{◌-◌}
 use mathlib.Core.Path.{◌≡◌}
-use Rattle.estimates.specs.inner.Slices.{own_in}
+use Rattle.layout.specs.Slices.{view}
+use Rattle.layout.specs.Lending.{lent_read}
 use Rattle.sums.proofs.Steps.{summed}
+use Rattle.estimates.specs.Sums.{own_at}
 use Rattle.estimates.proofs.standard.standard_sum.Given as goal
 
 abbrev pub invariant-loop-l : goal.invariant-loop-l
-invariant-loop-l l = (l.l ≤ l.header.shape.layers) × (l.sum ≡ summed l.g l.every (own_in l.header l.counters l.entries) (l.header.shape.layers - l.l) l.l)
-
-abbrev pub decreases-loop-l : goal.decreases-loop-l
-decreases-loop-l l = l.l
+invariant-loop-l l = l.sum ≡ summed l.g l.every (own_at (view (lent_read l.state))) (l.layers - l.l) l.l

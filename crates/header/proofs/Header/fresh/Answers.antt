@@ -4,4 +4,4 @@ use Rattle.header.proofs.Header.fresh.Goals as goal
 
 pub returns : goal.returns
 unfolding fresh_header
-returns c = simp (c.fresh_flags-flags.ensures, c.zero.ensures)
+returns c = simp (c.fresh_flags.ensures, c.zero.ensures)

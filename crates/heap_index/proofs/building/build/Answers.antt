@@ -9,26 +9,10 @@ use Rattle.heap_index.proofs.Scanned.{enter-start, enter-next, enter_end}
 use Rattle.heap_index.proofs.building.build.Goals as goal
 
 pub loop-i-init : goal.loop-i-init
-loop-i-init c =
-    let z = c.zero_words in
-    (omega arith, enter-start _ _ _ _ (z.ensures ∙ ap (λ (m : ℕ). replicate m 0) (sym z.auto.xs)))
-
-pub enter-requires : goal.enter-requires
-enter-requires c =
-    let pre = c.requires in
-    record {
-      cover = record { words = pre.words; used = omega (arith, pre.used) };
-      i_in_bounds = omega (arith, pre.used);
-    }
+loop-i-init c = enter-start _ _ _ _ (c.fill.ensures.after (λ y h. h) ∙ ap (λ (m : ℕ). replicate m 0) (sym c.fill.ensures.len))
 
 pub loop-i-preserved : goal.loop-i-preserved
-loop-i-preserved c = (omega arith, enter-next _ _ _ _ _ _ _ c.loop-i.invariant.1 (omega arith) c.enter.ensures)
-
-pub shape_of-index : goal.shape_of-index
-shape_of-index c = c.loop-i.invariant.1.long ∙ c.zero_words.auto.xs
+loop-i-preserved c = enter-next _ _ _ _ _ _ _ c.loop-i.invariant (omega arith) c.enter.ensures
 
 pub returns : goal.returns
-returns c =
-    let a = c.args in
-    enter_end _ _ _ _ _ _ c.loop-i.invariant.1 (omega arith)
-    ∙ ap (λ (m : ℕ). build m a.n (cands_of a.entries.now a.counts.now)) c.zero_words.auto.xs
+returns c = enter_end _ _ _ _ _ _ c.loop-i.invariant (omega arith) ∙ ap (λ (m : ℕ). build m c.args.n (cands_of c.args.entries.now c.args.counts.now)) c.fill.auto.self

@@ -1,5 +1,4 @@
 -- `heap_index::building::build` meets its contract.
-use Prim.Native.Nat.{◌-◌, ◌≤◌}
 use lib.ListN.{length}
 use Rattle.heap_moves.specs.Flat.{cands_of}
 use Rattle.heap_index.specs.Index.{build}
@@ -7,7 +6,4 @@ use Rattle.heap_index.proofs.Scanned.{Entering}
 use Rattle.heap_index.proofs.building.build.Given as goal
 
 abbrev pub invariant-loop-i : goal.invariant-loop-i
-invariant-loop-i l = (l.i ≤ l.n) × Entering (build (length l.initial.index) l.n (cands_of l.entries l.counts)) (length l.initial.index) l.n l.index (cands_of l.entries l.counts) l.i
-
-abbrev pub decreases-loop-i : goal.decreases-loop-i
-decreases-loop-i l = l.n - l.i
+invariant-loop-i l = Entering (build (length l.initial.index) l.n (cands_of l.entries l.counts)) (length l.initial.index) l.n l.index (cands_of l.entries l.counts) l.i

@@ -6,29 +6,15 @@ use Rattle.heap_index.proofs.Scanned.{place-step, no_place}
 use Rattle.heap_index.proofs.checking.places_ok.Goals as goal
 
 pub loop-p-init : goal.loop-p-init
-loop-p-init c = (omega arith, scan_start _ _ _)
+loop-p-init c = scan_start _ _ _
 
-pub place_ok-t-requires : goal.place_ok-t-requires
-place_ok-t-requires c = record {
-  cover = c.requires;
-  p_in_bounds = omega arith;
-}
-
-pub returns-then-not-t : goal.returns-then-not-t
-returns-then-not-t c =
-    scan_stop _ _ _ _ _ c.loop-p.invariant.1 (omega arith) (λ k. place-step _ _ _ k c.loop-p.p) (sym c.place_ok-t.ensures ∙ c.if-not-t.true)
-
-pub overflow_add-p : goal.overflow_add-p
-overflow_add-p c = omega arith
-
-pub loop-p-smaller : goal.loop-p-smaller
-loop-p-smaller c = omega arith
+pub returns-then-not-place_ok : goal.returns-then-not-place_ok
+returns-then-not-place_ok c =
+    scan_stop _ _ _ _ _ c.loop-p.invariant (omega arith) (λ k. place-step _ _ _ k c.loop-p.p) (sym c.place_ok.ensures ∙ c.if-not-place_ok.true)
 
 pub loop-p-preserved : goal.loop-p-preserved
-loop-p-preserved c = (
-  omega arith,
-  scan_on _ _ _ _ _ c.loop-p.invariant.1 (omega arith) (λ k. place-step _ _ _ k c.loop-p.p) (sym c.place_ok-t.ensures ∙ c.if-not-t.false),
-)
+loop-p-preserved c =
+    scan_on _ _ _ _ _ c.loop-p.invariant (omega arith) (λ k. place-step _ _ _ k c.loop-p.p) (sym c.place_ok.ensures ∙ c.if-not-place_ok.false)
 
 pub returns : goal.returns
-returns c = scan_end _ _ _ _ c.loop-p.invariant.1 (omega arith) (no_place _ _ _ _)
+returns c = scan_end _ _ _ _ c.loop-p.invariant (omega arith) (no_place _ _ _ _)

@@ -25,32 +25,14 @@ key-is c = key-read _ _ _ (omega (arith, few c, c.requires.used, c.if-w-eq0.fals
 pub returns-then-m-eq0 : goal.returns-then-m-eq0
 returns-then-m-eq0 c = look_none _ _ _ _ c.if-m-eq0.true
 
-pub home_of-p-requires : goal.home_of-p-requires
-home_of-p-requires c = omega arith
-
 pub loop-d-init : goal.loop-d-init
-loop-d-init c = (omega arith, look-start _ _ _ _ _ c.home_of-p.ensures.0 c.home_of-p.ensures.1)
-
-pub offset_bounds-index-p : goal.offset_bounds-index-p
-offset_bounds-index-p c = omega (arith, c.loop-d.invariant.1.here)
-
-pub bounds-index-p : goal.bounds-index-p
-bounds-index-p c = omega (arith, c.loop-d.invariant.1.here)
-
-pub overflow_add-result : goal.overflow_add-result
-overflow_add-result c = omega arith
+loop-d-init c = look-start _ _ _ _ _ c.home_of-p.ensures.0 c.home_of-p.ensures.1
 
 pub returns-then-w-eq0 : goal.returns-then-w-eq0
-returns-then-w-eq0 c = look_vacant _ _ _ _ _ _ c.loop-d.invariant.1 (omega arith) c.if-w-eq0.true
-
-pub is_name-requires : goal.is_name-requires
-is_name-requires c = (c.requires.used, omega arith)
+returns-then-w-eq0 c = look_vacant _ _ _ _ _ _ c.loop-d.invariant (omega arith) c.if-w-eq0.true
 
 pub returns-then-not-is_name : goal.returns-then-not-is_name
-returns-then-not-is_name c = look_stray _ _ _ _ _ _ c.loop-d.invariant.1 (omega arith) c.if-w-eq0.false (sym (c.is_name.ensures _) ∙ c.if-not-is_name.true)
-
-pub overflow_sub-i : goal.overflow_sub-i
-overflow_sub-i c = omega arith
+returns-then-not-is_name c = look_stray _ _ _ _ _ _ c.loop-d.invariant (omega arith) c.if-w-eq0.false (sym (c.is_name.ensures _) ∙ c.if-not-is_name.true)
 
 pub overflow_mul-i : goal.overflow_mul-i
 overflow_mul-i c = omega (arith, few (goal.at.overflow_mul-i c).Else-not-is_name, c.requires.used, c.requires.words)
@@ -61,26 +43,13 @@ offset_bounds-entries-i c = omega (arith, few (goal.at.offset_bounds-entries-i c
 pub bounds-entries-i : goal.bounds-entries-i
 bounds-entries-i c = omega (arith, few (goal.at.bounds-entries-i c).Else-not-is_name, c.requires.used, c.requires.words, c.if-w-eq0.false)
 
-pub overflow_add-result-then-entries-i : goal.overflow_add-result-then-entries-i
-overflow_add-result-then-entries-i c = omega arith
-
 pub returns-then-entries-i : goal.returns-then-entries-i
-returns-then-entries-i c = look-found _ _ _ _ _ _ c.loop-d.invariant.1 (omega arith) c.if-w-eq0.false (said (goal.at.returns-then-entries-i c).Else-not-is_name) (key-is (goal.at.returns-then-entries-i c).Else-not-is_name ∙ c.if-entries-i.true)
-
-pub after-p-requires : goal.after-p-requires
-after-p-requires c = omega (arith, c.loop-d.invariant.1.here)
-
-pub overflow_add-d : goal.overflow_add-d
-overflow_add-d c = omega arith
-
-pub loop-d-smaller : goal.loop-d-smaller
-loop-d-smaller c = omega arith
+returns-then-entries-i c = look-found _ _ _ _ _ _ c.loop-d.invariant (omega arith) c.if-w-eq0.false (said (goal.at.returns-then-entries-i c).Else-not-is_name) (key-is (goal.at.returns-then-entries-i c).Else-not-is_name ∙ c.if-entries-i.true)
 
 pub loop-d-preserved : goal.loop-d-preserved
-loop-d-preserved c = (
-  omega arith,
-  look-next _ _ _ _ _ _ _ c.loop-d.invariant.1 (omega arith) c.if-w-eq0.false (said (goal.at.loop-d-preserved c).Else-not-is_name) (λ y. c.if-entries-i.false (sym (key-is (goal.at.loop-d-preserved c).Else-not-is_name) ∙ y)) c.after-p.ensures.0,
-)
+loop-d-preserved c =
+    let e = (goal.at.loop-d-preserved c).Else-not-is_name in
+    look-next _ _ _ _ _ _ _ c.loop-d.invariant (omega arith) c.if-w-eq0.false (said e) (λ y. c.if-entries-i.false (sym (key-is e) ∙ y)) c.after-p.ensures.0
 
 pub returns : goal.returns
-returns c = look_end _ _ _ _ _ _ c.loop-d.invariant.1 (omega arith)
+returns c = look_end _ _ _ _ _ _ c.loop-d.invariant (omega arith)

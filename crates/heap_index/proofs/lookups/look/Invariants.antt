@@ -1,12 +1,7 @@
 -- `heap_index::lookups::look` meets its contract.
-use Prim.Native.Nat.{◌-◌, ◌≤◌}
-use lib.ListN.{length}
 use Rattle.heap_moves.specs.Flat.{cands_of}
 use Rattle.heap_index.proofs.Walks.{LookInv}
 use Rattle.heap_index.proofs.lookups.look.Given as goal
 
 abbrev pub invariant-loop-d : goal.invariant-loop-d
-invariant-loop-d l = (l.d ≤ length l.index) × LookInv l.index l.n (cands_of l.entries l.counts) l.key l.p l.d
-
-abbrev pub decreases-loop-d : goal.decreases-loop-d
-decreases-loop-d l = length l.index - l.d
+invariant-loop-d l = LookInv l.index l.n (cands_of l.entries l.counts) l.key l.p l.d

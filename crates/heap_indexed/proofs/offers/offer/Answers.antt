@@ -1,6 +1,7 @@
 -- `heap_indexed::offers::offer` meets its contract.
 use Prim.Native.Nat.{ℕ, ◌-◌, ◌≤◌, ◌<◌}
-use mathlib.Core.Path.{refl, sym, ◌∙◌}
+use mathlib.Core.Path.{refl, sym, ap, ◌∙◌}
+use Rattle.std.proofs.Common.{Some}
 use lib.ListN.{length}
 use native.Mathlib.Omega.{arith}
 use mir.Facts.{to_z-of_z}
@@ -15,13 +16,13 @@ below h = omega (arith, h.0, h.1)
 
 -- where the lookup ended
 at_key : (c : In-Met) → c.in-Met.p < length c.args.index.now
-at_key c = found-place _ _ _ _ _ _ (sym c.look-l.ensures ∙ c.in-Met.is)
+at_key c = found-place _ _ _ _ _ _ (sym c.look.ensures ∙ c.in-Some.is ∙ ap Some c.in-Met.is)
 
 number : (c : In-Met) → (0 < word c.args.index.now c.in-Met.p) × (word c.args.index.now c.in-Met.p ≤ c.args.len)
-number c = found_number _ _ _ _ _ _ (sym c.look-l.ensures ∙ c.in-Met.is)
+number c = found_number _ _ _ _ _ _ (sym c.look.ensures ∙ c.in-Some.is ∙ ap Some c.in-Met.is)
 
 at-empty : (c : In-Vacant) → c.in-Vacant.p < length c.args.index.now
-at-empty c = vacant_place _ _ _ _ _ _ (sym c.look-l.ensures ∙ c.in-Vacant.is)
+at-empty c = vacant_place _ _ _ _ _ _ (sym c.look.ensures ∙ c.in-Some.is ∙ ap Some c.in-Vacant.is)
 
 pub offset_bounds-index-p : goal.offset_bounds-index-p
 offset_bounds-index-p c = omega (arith, at_key (goal.at.offset_bounds-index-p c).In-Met)
@@ -49,13 +50,13 @@ seat-made-requires c =
     }
 
 pub returns-then-len-size : goal.returns-then-len-size
-returns-then-len-size c = offer-seat _ _ _ _ _ _ _ (to_z-of_z c.ranges.v) _ _ _ (sym c.look-l.ensures ∙ c.in-Vacant.is) c.if-len-size.true _ c.seat-made.ensures
+returns-then-len-size c = offer-seat _ _ _ _ _ _ _ (to_z-of_z c.ranges.v) _ _ _ (sym c.look.ensures ∙ c.in-Some.is ∙ ap Some c.in-Vacant.is) c.if-len-size.true _ c.seat-made.ensures
 
 pub returns-in-Met : goal.returns-in-Met
-returns-in-Met c = offer_known _ _ _ _ _ _ _ (to_z-of_z c.ranges.v) _ _ _ _ (sym c.look-l.ensures ∙ c.in-Met.is) refl _ c.rescore-made.ensures
+returns-in-Met c = offer_known _ _ _ _ _ _ _ (to_z-of_z c.ranges.v) _ _ _ _ (sym c.look.ensures ∙ c.in-Some.is ∙ ap Some c.in-Met.is) refl _ c.rescore-made.ensures
 
 pub returns-else-len-size : goal.returns-else-len-size
-returns-else-len-size c = offer_full _ _ _ _ _ _ _ (to_z-of_z c.ranges.v) _ _ _ (sym c.look-l.ensures ∙ c.in-Vacant.is) c.if-len-size.false _ c.displace.ensures
+returns-else-len-size c = offer_full _ _ _ _ _ _ _ (to_z-of_z c.ranges.v) _ _ _ (sym c.look.ensures ∙ c.in-Some.is ∙ ap Some c.in-Vacant.is) c.if-len-size.false _ c.displace.ensures
 
-pub returns-in-Refused : goal.returns-in-Refused
-returns-in-Refused c = offer-refused _ _ _ _ _ _ _ (to_z-of_z c.ranges.v) _ (sym c.look-l.ensures ∙ c.in-Refused.is)
+pub returns-in_default : goal.returns-in_default
+returns-in_default c = offer-refused _ _ _ _ _ _ _ (to_z-of_z c.ranges.v) _ (sym c.look.ensures ∙ c.in_default.is)

@@ -50,30 +50,30 @@ returns-then-j-i t c = record {
   counts_unchanged = refl;
 }
 
-pub found_under-a-requires : goal.found_under-a-requires
-found_under-a-requires t c = record {
+pub found_under-requires : goal.found_under-requires
+found_under-requires t c = record {
   cover = c.requires.cover;
   i_in_bounds = omega (arith, c.requires.cover.used, c.requires.i_lt_n);
 }
 
-pub returns-then-m-a : goal.returns-then-m-a
-returns-then-m-a t c = record {
+pub returns-in_default : goal.returns-in_default
+returns-in_default t c = record {
   value = down_from _ _ _ _ c.requires.i_lt_n (sym (c.child_in.ensures _) ∙ c.if-not-child_in.false) (sym (c.child_in-2.ensures _) ∙ c.if-not-child_in-2.false)
-      _ (c.lowest-j.ensures.0 _) c.if-j-i.false _ c.found_under-a.ensures _ refl c.if-m-a.true;
+      _ (c.lowest-j.ensures.0 _) c.if-j-i.false _ c.in_default.ensures.place _ refl (omega arith);
   index_unchanged = refl;
   counts_unchanged = refl;
 }
 
-pub found_under-b-requires : goal.found_under-b-requires
-found_under-b-requires t c = record {
+pub found_under-requires-2 : goal.found_under-requires-2
+found_under-requires-2 t c = record {
   cover = c.requires.cover;
   i_in_bounds = omega (arith, c.requires.cover.used, c.lowest-j.ensures.1.1);
 }
 
-pub returns-then-m-b : goal.returns-then-m-b
-returns-then-m-b t c = record {
+pub returns-in_default-found_under : goal.returns-in_default-found_under
+returns-in_default-found_under t c = record {
   value = down_to _ _ _ _ c.requires.i_lt_n (sym (c.child_in.ensures _) ∙ c.if-not-child_in.false) (sym (c.child_in-2.ensures _) ∙ c.if-not-child_in-2.false)
-      _ (c.lowest-j.ensures.0 _) c.if-j-i.false _ c.found_under-a.ensures _ c.found_under-b.ensures c.if-m-a.false c.if-m-b.true;
+      _ (c.lowest-j.ensures.0 _) c.if-j-i.false _ c.in-Some.ensures.place _ c.in_default-found_under.ensures.place c.in-Some.ensures.within (omega arith);
   index_unchanged = refl;
   counts_unchanged = refl;
 }
@@ -82,7 +82,7 @@ pub swap_at-requires : goal.swap_at-requires
 swap_at-requires t c =
     record {
       two = record { words = c.requires.cover.words; left = omega (arith, c.requires.cover.used, c.requires.i_lt_n); right = omega (arith, c.requires.cover.used, c.lowest-j.ensures.1.1) };
-      a_in_bounds = (c.if-m-a.false, c.if-m-b.false);
+      a_in_bounds = (c.in-Some.ensures.within, c.in-Some-found_under.ensures.within);
     }
 
 pub try_sink-r-requires : goal.try_sink-r-requires
@@ -100,7 +100,7 @@ swap_at-requires-2 t c =
     let w = c.try_sink-r.auto.entries ∙ c.swap_at.auto.entries in
     let n = c.try_sink-r.auto.counts ∙ c.swap_at.auto.counts in record {
       two = record { words = w ∙ c.requires.cover.words ∙ ap (λ (x : ℕ). 4 * x) (sym n); left = omega (arith, n, c.requires.cover.used, c.lowest-j.ensures.1.1); right = omega (arith, n, c.requires.cover.used, c.requires.i_lt_n) };
-      a_in_bounds = (omega (arith, c.try_sink-r.auto.index, c.swap_at.auto.index, c.if-m-a.false), omega (arith, c.try_sink-r.auto.index, c.swap_at.auto.index, c.if-m-b.false));
+      a_in_bounds = (omega (arith, c.try_sink-r.auto.index, c.swap_at.auto.index, c.in-Some.ensures.within), omega (arith, c.try_sink-r.auto.index, c.swap_at.auto.index, c.in-Some-found_under.ensures.within));
     }
 
 pub shape_of-index : goal.shape_of-index
@@ -114,8 +114,8 @@ shape_of-counts t c = c.swap_at-2.auto.counts ∙ c.try_sink-r.auto.counts ∙ c
 
 pub returns : goal.returns
 returns t c =
-    let a = c.found_under-a in
-    let b = c.found_under-b in
+    let a = c.in-Some in
+    let b = c.in-Some-found_under in
     let s = c.swap_at in
     let r = c.try_sink-r in
     let u = c.swap_at-2 in
@@ -124,7 +124,7 @@ returns t c =
     let cs = cands_of c.args.entries.now c.args.counts.now in
     let long = length-cands c.args.entries.now c.args.counts.now in record {
       value = down_on _ _ _ _ c.requires.i_lt_n (sym (c.child_in.ensures _) ∙ c.if-not-child_in.false) (sym (c.child_in-2.ensures _) ∙ c.if-not-child_in-2.false)
-          _ (j.0 _) ne _ a.ensures _ b.ensures j.1.0 j.1.1 c.if-m-a.false c.if-m-b.false _ _ s.ensures.index_after s.ensures.counts_after _ r.ensures.value;
-      index_unchanged = back_index _ _ _ _ c.args.n cs _ _ _ _ (λ e. ne (sym e)) a.ensures b.ensures c.if-m-a.false c.if-m-b.false s.ensures.index_after r.ensures.index_unchanged u.ensures.index_after;
+          _ (j.0 _) ne _ a.ensures.place _ b.ensures.place j.1.0 j.1.1 c.in-Some.ensures.within c.in-Some-found_under.ensures.within _ _ s.ensures.index_after s.ensures.counts_after _ r.ensures.value;
+      index_unchanged = back_index _ _ _ _ c.args.n cs _ _ _ _ (λ e. ne (sym e)) a.ensures.place b.ensures.place c.in-Some.ensures.within c.in-Some-found_under.ensures.within s.ensures.index_after r.ensures.index_unchanged u.ensures.index_after;
       counts_unchanged = back-cands cs _ _ _ _ _ (λ e. ne (sym e)) (omega (arith, long, c.requires.cover.used, c.requires.i_lt_n)) (omega (arith, long, c.requires.cover.used, j.1.1)) s.ensures.counts_after r.ensures.counts_unchanged u.ensures.counts_after;
     }

@@ -1,32 +1,22 @@
 -- `indexed_state::building::build_tables` meets its contract.
-use mathlib.Core.Path.{◌∙◌}
 use native.Mathlib.Omega.{arith}
-use borrow.Author.Rules.{rules}
+use mathlib.Core.Path.{◌∙◌}
 use Rattle.indexed_state.proofs.Built.{built_start, built_on, built_end}
 use Rattle.indexed_state.proofs.building.build_tables.Goals as goal
 
 pub loop-l-init : goal.loop-l-init
-loop-l-init c = let a = c.args in (omega arith, built_start a.header a.entries.now a.index.now)
+loop-l-init c = let a = c.args in built_start a.header a.entries.now a.index.now
 
 pub build_table-requires : goal.build_table-requires
 build_table-requires c =
     let p = c.requires in
     record {
-      buildable = record { accepted = p.accepted; entries = p.entries; tables = c.loop-l.invariant.1.long ∙ p.tables; lens = p.lens };
+      buildable = record { accepted = p.accepted; entries = p.entries; tables = c.loop-l.invariant.long ∙ p.tables; lens = p.lens };
       l_lt_layers = c.loop-l-test.true;
     }
 
-pub overflow_add-l : goal.overflow_add-l
-overflow_add-l c = let q = c.requires.accepted.few in search rules
-
-pub loop-l-smaller : goal.loop-l-smaller
-loop-l-smaller c = omega arith
-
 pub loop-l-preserved : goal.loop-l-preserved
-loop-l-preserved c = (omega arith, built_on _ _ _ _ _ _ c.loop-l.invariant.1 c.requires.tables c.loop-l-test.true c.build_table.ensures)
-
-pub shape_of-index : goal.shape_of-index
-shape_of-index c = c.loop-l.invariant.1.long
+loop-l-preserved c = built_on _ _ _ _ _ _ c.loop-l.invariant c.requires.tables c.loop-l-test.true c.build_table.ensures
 
 pub returns : goal.returns
-returns c = built_end _ _ _ _ _ c.loop-l.invariant.1 (omega arith)
+returns c = built_end _ _ _ _ _ c.loop-l.invariant (omega arith)

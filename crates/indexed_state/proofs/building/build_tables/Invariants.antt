@@ -1,10 +1,6 @@
 -- `indexed_state::building::build_tables` meets its contract.
-use Prim.Native.Nat.{◌-◌, ◌≤◌}
 use Rattle.indexed_state.proofs.Built.{Built}
 use Rattle.indexed_state.proofs.building.build_tables.Given as goal
 
 abbrev pub invariant-loop-l : goal.invariant-loop-l
-invariant-loop-l l = (l.l ≤ l.header.shape.layers) × Built l.header l.entries l.initial.index l.index l.l
-
-abbrev pub decreases-loop-l : goal.decreases-loop-l
-decreases-loop-l l = l.header.shape.layers - l.l
+invariant-loop-l l = Built l.header l.entries l.initial.index l.index l.l

@@ -49,11 +49,6 @@ update_and_count-count-requires c =
       fit = rows-do-fit (goal.at.update_and_count-count-requires c).Start;
     }
 
-pub offer-requires : goal.offer-requires
-offer-requires c =
-    let p = c.requires in
-    record { words = p.words; counts = p.housed.seats; some = p.housed.some; used = p.housed.used }
-
 pub returns : goal.returns
 returns c = by_clause (let a = c.args in
     let u = c.update_and_count-count in

@@ -14,15 +14,8 @@ use Rattle.layer.proofs.candidates.offer_one.Goals.{After-count_with_hash-count}
 count-back : (c : After-count_with_hash-count) → to_z w64 (of_z w64 c.count_with_hash-count.result) ≡ c.count_with_hash-count.result
 count-back c = to_z-of_z {w = w64} (sfits_of c.count_with_hash-count.type_inv)
 
-pub count_with_hash-count-requires : goal.count_with_hash-count-requires
-count_with_hash-count-requires c =
-    let a = c.args in
-    let p = c.requires.counters_read in
-    record {
-      shaped = p.shaped;
-      cols_in_bounds = p.room;
-      rows_value = all-cells a.d.cols (hash_by a.w) a.counters.now a.d.rows 0 p.read;
-    }
+pub count_with_hash-count-requires-clause-rows_value : goal.count_with_hash-count-requires-clause-rows_value
+count_with_hash-count-requires-clause-rows_value c = let a = c.args in all-cells a.d.cols (hash_by a.w) a.counters.now a.d.rows 0 c.requires.counters_read.read
 
 pub returns : goal.returns
 returns c =

@@ -1,9 +1,8 @@
 -- `layer::deltas::apply_delta` meets its contract.
 use Prim.Native.Nat.{◌+◌, ◌*◌}
-use mathlib.Core.Path.{◌≡◌, sym, ap, ◌∙◌}
+use mathlib.Core.Path.{◌≡◌, sym, ◌∙◌}
 use mathlib.Core.Bool.{true, false, ◌&&◌}
-use lib.ListN.{length, set, take, length-set}
-use lib.IntN.{◌+ℤ◌}
+use lib.ListN.{take}
 use native.Mathlib.Omega.{arith}
 use borrow.Author.Rules.{sfits_of}
 use mir.Syntax.{w64}
@@ -11,14 +10,13 @@ use mir.Val.{to_z, of_z}
 use mir.Facts.{to_z-of_z}
 use Rattle.words.specs.Num.{all_in}
 use Rattle.words.proofs.Bools.{and_left, and_right}
-use Rattle.countsketch_l2_norm.specs.Sketch.{Sketch, cell_at, cell_read, cell_fits, add_cell}
+use Rattle.countsketch_l2_norm.specs.Sketch.{cell_read, cell_fits, add_cell}
 use Rattle.countsketch_l2_norm.specs.inner.Needs.{sketch_of}
 use Rattle.countsketch_l2_norm.specs.Estimate.{cells_in_range}
 use Rattle.layer.specs.Layer.{hash_by}
 use Rattle.layer.specs.Delta.{delta_fits}
-use Rattle.layer.proofs.Tests.{delta_reads_are, cells-set}
+use Rattle.layer.proofs.Tests.{delta_reads_are, delta-counted}
 use Rattle.layer.proofs.Steps.{delta_is}
-use Rattle.countsketch_l2_norm.proofs.Places.{place-lt}
 use Rattle.layer.proofs.deltas.apply_delta.Goals as goal
 use Rattle.layer.proofs.deltas.apply_delta.Goals.{After-apply_delta, After-count_with_hash-n, Start}
 
@@ -44,15 +42,10 @@ cell-fits : (c : Start) → let a = c.args in cell_fits (a.row * a.d.cols + a.co
 unfolding delta_fits
 cell-fits c = c.requires.fit
 
--- the sketch and the counters after the delta
+-- the sketch after the delta
 sketch-now : (c : After-apply_delta) → let a = c.args in
     sketch_of c.apply_delta.new.counters c.apply_delta.new.norms a.d.rows ≡ add_cell (a.row * a.d.cols + a.col) a.row a.count (sketch_of a.counters.now a.norms.now a.d.rows)
 sketch-now c = rw (to_z-of_z c.ranges.count) at c.apply_delta.ensures
-
-cells-now : (c : After-apply_delta) → let a = c.args in
-    c.apply_delta.new.counters ≡ set a.counters.now (a.row * a.d.cols + a.col) (cell_at a.counters.now (a.row * a.d.cols + a.col) +ℤ a.count)
-unfolding add_cell
-cells-now c = ap (λ (s : Sketch). s.cells) (sketch-now c)
 
 -- the count as it is handed on
 count-back : (c : After-count_with_hash-n) → to_z w64 (of_z w64 c.count_with_hash-n.result) ≡ c.count_with_hash-n.result
@@ -74,22 +67,13 @@ apply_delta-requires c =
       fit = cell-fits (goal.at.apply_delta-requires c).Start;
     })
 
-pub count_with_hash-n-requires : goal.count_with_hash-n-requires
-count_with_hash-n-requires c =
+pub count_with_hash-n-requires-clause-rows_value : goal.count_with_hash-n-requires-clause-rows_value
+count_with_hash-n-requires-clause-rows_value c =
     let a = c.args in
     let p = c.requires in
-    let at = a.row * a.d.cols + a.col in record {
-      shaped = p.housed.shaped;
-      cols_in_bounds = omega (arith, p.housed.cells, ap length (cells-now (goal.at.count_with_hash-n-requires c).After-apply_delta) ∙ length-set a.counters.now at (cell_at a.counters.now at +ℤ a.count));
-      rows_value = rw (cells-now (goal.at.count_with_hash-n-requires c).After-apply_delta)
-          (cells-set a.d.cols (hash_by a.item) a.counters.now at (cell_at a.counters.now at +ℤ a.count) a.d.rows 0
-          (place-lt a.d.rows a.d.cols a.row a.col (length a.counters.now) p.below p.inside (omega (arith, p.housed.cells))) (cell-fits (goal.at.count_with_hash-n-requires c).Start) (cells-read (goal.at.count_with_hash-n-requires c).Start));
-    }
-
-pub offer-requires : goal.offer-requires
-offer-requires c =
-    let p = c.requires in
-    record { words = p.words; counts = p.housed.seats; some = p.housed.some; used = p.housed.used }
+    let s = (goal.at.count_with_hash-n-requires-clause-rows_value c).Start in
+    delta-counted a.d a.row a.col a.count a.item a.counters.now _ a.norms.now _ (sketch-now (goal.at.count_with_hash-n-requires-clause-rows_value c).After-apply_delta)
+    p.below p.inside p.housed.cells (cell-fits s) (cells-read s)
 
 pub returns : goal.returns
 returns c = by_clause (let a = c.args in

@@ -9,9 +9,8 @@ use mir.Facts.{to_z-of_z}
 use Rattle.countsketch_l2_norm.specs.Sketch.{rows_read, rows_fit}
 use Rattle.countsketch_l2_norm.specs.inner.Needs.{sketch_of}
 use Rattle.layer.specs.Layer.{hash_by}
-use Rattle.layer_indexed.proofs.Grades.{add_tests}
+use Rattle.layer_indexed.proofs.Grading.{add_tests}
 use Rattle.layer_indexed.proofs.Steps.{add_is}
-use Rattle.layer_indexed.proofs.Seats.{room_of}
 use Rattle.layer_indexed.proofs.adding.add.Goals as goal
 use Rattle.layer_indexed.proofs.adding.add.Goals.{After-update_and_count-count, Start}
 
@@ -32,15 +31,12 @@ update_and_count-count-requires c =
     let h = p.seated.housed in
     record { shaped = h.shaped; room = omega (arith, h.cells); pairs = omega (arith, h.norms); light = p.light; read = (rows-are-ready (goal.at.update_and_count-count-requires c).Start).0; fit = (rows-are-ready (goal.at.update_and_count-count-requires c).Start).1 }
 
-pub offer-tried-requires : goal.offer-tried-requires
-offer-tried-requires c = room_of c.args.d c.requires.seated
-
 pub returns : goal.returns
 returns c =
     let a = c.args in
     let u = c.update_and_count-count in
-    let t = add_is a.d a.item a.weight a.counters.now a.norms.now a.entries.now a.counts.now a.len a.index.now _ _ _ _ _ c.offer-tried.result u.result u.ensures.rows_after u.ensures.value
-    (rw (count-back (goal.at.returns c).After-update_and_count-count) at c.offer-tried.ensures) in
+    let t = add_is a.d a.item a.weight a.counters.now a.norms.now a.entries.now a.counts.now a.len a.index.now _ _ _ _ _ c.offer.result u.result u.ensures.rows_after u.ensures.value
+    (rw (count-back (goal.at.returns c).After-update_and_count-count) at c.offer.ensures) in
     record {
       result_value = t.0;
       value = t.1.0;

@@ -1,9 +1,8 @@
 -- `layer_indexed::adding::add_grade` meets its contract.
-use mathlib.Core.Path.{◌≡◌, refl, sym, ◌∙◌}
+use mathlib.Core.Path.{◌≡◌, sym, ◌∙◌}
 use mathlib.Core.Bool.{Bool, true, false, cond, not}
 use native.Mathlib.Omega.{arith}
 use borrow.Author.Rules.{sfits_of}
-use borrow.Author.Tests.{not-true, not-false}
 use mir.Syntax.{w64}
 use mir.Facts.{to_z-of_z}
 use Rattle.heap.specs.inner.Slices.{table_of}
@@ -11,8 +10,8 @@ use Rattle.layer.specs.Layer.{layer_update}
 use Rattle.layer.specs.inner.Needs.{layer_of}
 use Rattle.layer_indexed.specs.Adding.{key_looked}
 use Rattle.layer_indexed.specs.inner.Needs.{add_grade}
-use Rattle.layer_indexed.proofs.Grades.{offer_looked, same-slices, unready-grade, ready-grade}
-use Rattle.layer_indexed.proofs.Seats.{room_of, small_of}
+use Rattle.layer_indexed.proofs.Grading.{offer_looked, same-slices, unready-grade, ready-grade}
+use Rattle.layer_indexed.proofs.Seats.{small_of}
 use Rattle.heap_moves.specs.Flat.{cand_of}
 use Rattle.heap_indexed.specs.Offers.{offer_in}
 use Rattle.layer_indexed.proofs.adding.add_grade.Goals as goal
@@ -29,8 +28,8 @@ taken_back c =
     (s.0, (s.1, o.ensures.index_unchanged))
 
 moves-are : (c : After-try_offer) → let a = c.args in
-    c.try_offer.result ≡ (offer_in a.d.size a.index.now (table_of a.entries.now a.counts.now a.len) (cand_of a.item c.count_if_ready-ahead.result.count)).after.fine
-moves-are c = rw (to_z-of_z {w = w64} (sfits_of c.count_if_ready-ahead.ensures.fits)) at c.try_offer.ensures.value
+    c.try_offer.result ≡ (offer_in a.d.size a.index.now (table_of a.entries.now a.counts.now a.len) (cand_of a.item c.in-Some.count)).after.fine
+moves-are c = rw (to_z-of_z {w = w64} (sfits_of c.in-Some.ensures.fits)) at c.try_offer.ensures.value
 
 -- the grade by what the lookup and the trial say
 graded : (c : After-try_offer) (looked moves : Bool) → let a = c.args in
@@ -38,9 +37,8 @@ graded : (c : After-try_offer) (looked moves : Bool) → let a = c.args in
     → cond (not looked) 1 (cond (not moves) 3 4) ≡ add_grade a.d (layer_update a.item a.weight) a.index.now (layer_of a.d a.counters.now a.norms.now a.entries.now a.counts.now a.len flag)
 graded c looked moves l m flag =
     let a = c.args in
-    let u = c.count_if_ready-ahead in
-    ready-grade a.d a.item a.weight a.counters.now a.norms.now a.entries.now a.counts.now a.len a.index.now flag u.result.count looked moves
-    (sym u.ensures.ready ∙ not-false _ c.if-not-ahead.false) (u.ensures.count (not-false _ c.if-not-ahead.false)) l (sym m ∙ moves-are c)
+    ready-grade a.d a.item a.weight a.counters.now a.norms.now a.entries.now a.counts.now a.len a.index.now flag c.in-Some.count looked moves
+    (sym c.in-Some.ensures.ready) c.in-Some.ensures.count l (sym m ∙ moves-are c)
 
 looked-is : (c : After-key_looked) → let a = c.args in
     (c.try_offer.new.entries ≡ a.entries.now) × ((c.try_offer.new.counts ≡ a.counts.now) × (c.try_offer.new.index ≡ a.index.now)) →
@@ -49,27 +47,15 @@ looked-is c t =
     let a = c.args in
     c.key_looked.ensures ∙ (λ i. key_looked (t.1.1 i) (table_of (t.0 i) (t.1.0 i) a.len) a.item.key)
 
-pub count_if_ready-ahead-requires : goal.count_if_ready-ahead-requires
-count_if_ready-ahead-requires c = let h = c.requires.seated.housed in record {
-  shaped = h.shaped;
-  cols_in_bounds = (omega (arith, h.cells), (omega (arith, h.norms), c.requires.weight_le_top));
-}
+pub returns-in_default-clause-value : goal.returns-in_default-clause-value
+returns-in_default-clause-value c =
+    let a = c.args in
+    λ flag.
+    c.unready_grade.ensures flag a.weight
+    ∙ unready-grade a.d a.item a.weight a.counters.now a.norms.now a.entries.now a.counts.now a.len a.index.now flag (sym c.in_default.ensures.ready)
 
-pub returns-then-not-ahead : goal.returns-then-not-ahead
-returns-then-not-ahead c =
-    let a = c.args in record {
-      value = λ flag.
-          c.unready_grade.ensures flag a.weight
-          ∙ unready-grade a.d a.item a.weight a.counters.now a.norms.now a.entries.now a.counts.now a.len a.index.now flag
-          (sym c.count_if_ready-ahead.ensures.ready ∙ not-true _ c.if-not-ahead.true);
-      entries_unchanged = (refl, (refl, refl));
-    }
-
-pub try_offer-requires : goal.try_offer-requires
-try_offer-requires c = record {
-  room = room_of c.args.d c.requires.seated;
-  small = small_of c.args.d c.requires.seated;
-}
+pub try_offer-requires-clause-small : goal.try_offer-requires-clause-small
+try_offer-requires-clause-small c = small_of c.args.d c.requires.seated
 
 pub returns-then-try_offer : goal.returns-then-try_offer
 returns-then-try_offer c =
@@ -77,12 +63,6 @@ returns-then-try_offer c =
       value = graded (goal.at.returns-then-try_offer c).After-try_offer true true (sym (offer_looked a.d.size a.index.now (table_of a.entries.now a.counts.now a.len) _ (sym (moves-are (goal.at.returns-then-try_offer c).After-try_offer) ∙ c.if-try_offer.true))) c.if-try_offer.true;
       entries_unchanged = taken_back (goal.at.returns-then-try_offer c).After-try_offer;
     }
-
-pub key_looked-requires : goal.key_looked-requires
-key_looked-requires c =
-    let p = c.requires.seated in
-    let k = c.try_offer.auto in
-    record { words = omega (arith, k.entries, k.counts, p.words, p.housed.seats); used = omega (arith, k.counts, p.housed.used, p.housed.seats) }
 
 pub returns-then-key_looked : goal.returns-then-key_looked
 returns-then-key_looked c = record {

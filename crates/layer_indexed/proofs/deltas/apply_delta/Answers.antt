@@ -1,25 +1,21 @@
 -- `layer_indexed::deltas::apply_delta` meets its contract.
 use Prim.Native.Nat.{◌+◌, ◌*◌}
-use mathlib.Core.Path.{◌≡◌, ap, ◌∙◌}
+use mathlib.Core.Path.{◌≡◌}
 use mathlib.Core.Bool.{true, false}
-use lib.ListN.{length, set, length-set}
-use lib.IntN.{◌+ℤ◌}
 use native.Mathlib.Omega.{arith}
 use borrow.Author.Rules.{sfits_of}
 use mir.Syntax.{w64}
 use mir.Val.{to_z, of_z}
 use mir.Facts.{to_z-of_z}
-use Rattle.countsketch_l2_norm.specs.Sketch.{Sketch, cell_at, cell_read, cell_fits, add_cell}
+use Rattle.countsketch_l2_norm.specs.Sketch.{cell_read, cell_fits, add_cell}
 use Rattle.countsketch_l2_norm.specs.inner.Needs.{sketch_of}
 use Rattle.countsketch_l2_norm.specs.Estimate.{cells_in_range}
-use Rattle.countsketch_l2_norm.proofs.Places.{place-lt}
 use Rattle.layer.specs.Layer.{hash_by}
 use Rattle.layer.specs.inner.Needs.{layer_of, delta}
-use Rattle.layer.proofs.Tests.{cells-set}
+use Rattle.layer.proofs.Tests.{delta-counted}
 use Rattle.layer_indexed.specs.Adding.{delta_reads_in}
-use Rattle.layer_indexed.proofs.Grades.{delta-tests, delta_may}
+use Rattle.layer_indexed.proofs.Grading.{delta-tests, delta_may}
 use Rattle.layer_indexed.proofs.Steps.{delta_is}
-use Rattle.layer_indexed.proofs.Seats.{room_of}
 use Rattle.layer_indexed.proofs.deltas.apply_delta.Goals as goal
 use Rattle.layer_indexed.proofs.deltas.apply_delta.Goals.{After-apply_delta, After-count_with_hash-n, Start}
 
@@ -37,15 +33,10 @@ tests c =
     let a = c.args in
     delta-tests a.d a.row a.col a.count a.item true a.counters.now a.norms.now a.entries.now a.counts.now a.len a.index.now false (may c).0
 
--- the sketch and the counters after the delta
+-- the sketch after the delta
 sketch-now : (c : After-apply_delta) → let a = c.args in
     sketch_of c.apply_delta.new.counters c.apply_delta.new.norms a.d.rows ≡ add_cell (a.row * a.d.cols + a.col) a.row a.count (sketch_of a.counters.now a.norms.now a.d.rows)
 sketch-now c = rw (to_z-of_z c.ranges.count) at c.apply_delta.ensures
-
-cells-now : (c : After-apply_delta) → let a = c.args in
-    c.apply_delta.new.counters ≡ set a.counters.now (a.row * a.d.cols + a.col) (cell_at a.counters.now (a.row * a.d.cols + a.col) +ℤ a.count)
-unfolding add_cell
-cells-now c = ap (λ (s : Sketch). s.cells) (sketch-now c)
 
 -- the count as it is handed on
 count-back : (c : After-count_with_hash-n) → to_z w64 (of_z w64 c.count_with_hash-n.result) ≡ c.count_with_hash-n.result
@@ -63,28 +54,20 @@ apply_delta-requires c =
       fit = (may (goal.at.apply_delta-requires c).Start).1;
     })
 
-pub count_with_hash-n-requires : goal.count_with_hash-n-requires
-count_with_hash-n-requires c =
+pub count_with_hash-n-requires-clause-rows_value : goal.count_with_hash-n-requires-clause-rows_value
+count_with_hash-n-requires-clause-rows_value c =
     let a = c.args in
     let p = c.requires in
-    let h = p.seated.housed in
-    let at = a.row * a.d.cols + a.col in record {
-      shaped = h.shaped;
-      cols_in_bounds = omega (arith, h.cells, ap length (cells-now (goal.at.count_with_hash-n-requires c).After-apply_delta) ∙ length-set a.counters.now at (cell_at a.counters.now at +ℤ a.count));
-      rows_value = rw (cells-now (goal.at.count_with_hash-n-requires c).After-apply_delta)
-          (cells-set a.d.cols (hash_by a.item) a.counters.now at (cell_at a.counters.now at +ℤ a.count) a.d.rows 0
-          (place-lt a.d.rows a.d.cols a.row a.col (length a.counters.now) p.below p.inside (omega (arith, h.cells))) (may (goal.at.count_with_hash-n-requires c).Start).1 (tests (goal.at.count_with_hash-n-requires c).Start).1);
-    }
-
-pub offer-tried-requires : goal.offer-tried-requires
-offer-tried-requires c = room_of c.args.d c.requires.seated
+    let s = (goal.at.count_with_hash-n-requires-clause-rows_value c).Start in
+    delta-counted a.d a.row a.col a.count a.item a.counters.now _ a.norms.now _ (sketch-now (goal.at.count_with_hash-n-requires-clause-rows_value c).After-apply_delta)
+    p.below p.inside p.seated.housed.cells (may s).1 (tests s).1
 
 pub returns : goal.returns
 returns c =
     let a = c.args in
-    let t = delta_is a.d a.row a.col a.count a.item a.counters.now a.norms.now a.entries.now a.counts.now a.len a.index.now _ _ _ _ _ c.offer-tried.result c.count_with_hash-n.result
+    let t = delta_is a.d a.row a.col a.count a.item a.counters.now a.norms.now a.entries.now a.counts.now a.len a.index.now _ _ _ _ _ c.offer.result c.count_with_hash-n.result
     (sketch-now (goal.at.returns c).After-apply_delta) c.count_with_hash-n.ensures
-    (rw (count-back (goal.at.returns c).After-count_with_hash-n) at c.offer-tried.ensures) in
+    (rw (count-back (goal.at.returns c).After-count_with_hash-n) at c.offer.ensures) in
     record {
       every_value = t.0;
       value = t.1.0;

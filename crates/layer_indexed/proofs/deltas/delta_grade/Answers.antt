@@ -15,8 +15,8 @@ use Rattle.layer.specs.Layer.{hash_by}
 use Rattle.layer.specs.inner.Needs.{layer_of, delta}
 use Rattle.layer_indexed.specs.Adding.{delta_reads_in}
 use Rattle.layer_indexed.specs.inner.Needs.{delta_grade}
-use Rattle.layer_indexed.proofs.Grades.{same-slices, delta-tests, delta-unread, delta_unfit, delta_by-moves}
-use Rattle.layer_indexed.proofs.Seats.{room_of, small_of}
+use Rattle.layer_indexed.proofs.Grading.{same-slices, delta-tests, delta-unread, delta_unfit, delta_by-moves}
+use Rattle.layer_indexed.proofs.Seats.{small_of}
 use Rattle.layer_indexed.proofs.deltas.delta_grade.Goals as goal
 use Rattle.layer_indexed.proofs.deltas.delta_grade.Goals.{After-cell_fits, After-count_behind-n, After-try_offer, Else-not-cell_fits, Else-not-delta_reads}
 
@@ -68,13 +68,8 @@ returns-then-not-delta_reads c =
       counters_unchanged = (refl, (refl, (refl, refl)));
     }
 
-pub cell_fits-requires : goal.cell_fits-requires
-cell_fits-requires c =
-    let h = c.requires.seated.housed in
-    record {
-      cell_placed = record { shaped = h.shaped; room = omega (arith, h.cells); below = c.requires.row_lt_rows.0; inside = c.requires.row_lt_rows.1 };
-      col_value = cell_in_lem (goal.at.cell_fits-requires c).Else-not-delta_reads;
-    }
+pub cell_fits-requires-clause-col_value : goal.cell_fits-requires-clause-col_value
+cell_fits-requires-clause-col_value c = cell_in_lem (goal.at.cell_fits-requires-clause-col_value c).Else-not-delta_reads
 
 pub returns-then-not-cell_fits : goal.returns-then-not-cell_fits
 returns-then-not-cell_fits c =
@@ -99,11 +94,8 @@ count_behind-n-requires c =
       fit = sym (sym c.if-not-cell_fits.false ∙ fits-is (goal.at.count_behind-n-requires c).After-cell_fits);
     })
 
-pub try_offer-requires : goal.try_offer-requires
-try_offer-requires c = record {
-  room = room_of c.args.d c.requires.seated;
-  small = small_of c.args.d c.requires.seated;
-}
+pub try_offer-requires-clause-small : goal.try_offer-requires-clause-small
+try_offer-requires-clause-small c = small_of c.args.d c.requires.seated
 
 pub returns-then-try_offer : goal.returns-then-try_offer
 returns-then-try_offer c = record {

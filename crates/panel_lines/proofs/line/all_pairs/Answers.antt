@@ -4,7 +4,6 @@ use mathlib.Core.Path.{◌≡◌, sym, ◌∙◌}
 use mathlib.Core.Bool.{◌&&◌}
 use mathlib.Core.List.{List}
 use native.Mathlib.Omega.{arith}
-use borrow.Author.Tests.{not-true, not-false}
 use Rattle.panel_lines.specs.Line.{pair_ok_at, all_pairs}
 use native.Mathlib.Nat.{sub-zero}
 use Rattle.panel_lines.proofs.line.all_pairs.Goals as goal
@@ -17,26 +16,14 @@ pairs-step s a k n h =
     rw (e, f)
 
 pub loop-k-init : goal.loop-k-init
-loop-k-init c = let z : c.args.at + 0 ≡ c.args.at = omega arith in (omega arith, rw (z, sub-zero))
-
-pub overflow_mul-k : goal.overflow_mul-k
-overflow_mul-k c = omega arith
-
-pub overflow_add-at : goal.overflow_add-at
-overflow_add-at c = omega arith
+loop-k-init c = let z : c.args.at + 0 ≡ c.args.at = omega arith in rw (z, sub-zero)
 
 pub returns-then-not-pair_ok : goal.returns-then-not-pair_ok
-returns-then-not-pair_ok c = sym (pairs-step c.args.s.now c.args.at c.loop-k.k c.args.n c.loop-k-test.true ∙ rw (sym c.pair_ok.ensures ∙ not-true _ c.if-not-pair_ok.true-raw)) ∙ c.loop-k.invariant.1
-
-pub overflow_add-k : goal.overflow_add-k
-overflow_add-k c = omega arith
-
-pub loop-k-smaller : goal.loop-k-smaller
-loop-k-smaller c = omega arith
+returns-then-not-pair_ok c = sym (pairs-step c.args.s.now c.args.at c.loop-k.k c.args.n c.loop-k-test.true ∙ rw (sym c.pair_ok.ensures ∙ c.if-not-pair_ok.true)) ∙ c.loop-k.invariant
 
 pub loop-k-preserved : goal.loop-k-preserved
-loop-k-preserved c = (omega arith, sym (pairs-step c.args.s.now c.args.at c.loop-k.k c.args.n c.loop-k-test.true ∙ rw (sym c.pair_ok.ensures ∙ not-false _ c.if-not-pair_ok.false-raw)) ∙ c.loop-k.invariant.1)
+loop-k-preserved c = sym (pairs-step c.args.s.now c.args.at c.loop-k.k c.args.n c.loop-k-test.true ∙ rw (sym c.pair_ok.ensures ∙ c.if-not-pair_ok.false)) ∙ c.loop-k.invariant
 
 pub returns : goal.returns
 unfolding all_pairs
-returns c = let z : c.args.n - c.loop-k.k ≡ 0 = omega arith in rw z at c.loop-k.invariant.1
+returns c = let z : c.args.n - c.loop-k.k ≡ 0 = omega arith in rw z at c.loop-k.invariant

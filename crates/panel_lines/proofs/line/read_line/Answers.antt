@@ -12,14 +12,14 @@ pub returns-then-has_word : goal.returns-then-has_word
 returns-then-has_word c =
     let s = c.args.s.now in
     let e = read-shape s c.if-s-gt-LONGEST_LINE.false (sym c.has_word.ensures ∙ c.if-has_word.true) in
-    let p = handed (read_of s) (read_shape s) c.args.words.now c.args.words.now _ e c.shape_line.ensures (rw (shape-words s)) in
+    let p = handed (read_of s) (read_shape s) c.args.words.now c.args.words.now _ e (c.unwrap_or.ensures ∙ c.shape_line.ensures) (rw (shape-words s)) in
     record { value = p.0; words_after = p.1 }
 
 pub returns-then-has_word-2 : goal.returns-then-has_word-2
 returns-then-has_word-2 c =
     let s = c.args.s.now in
     let e = read-add s c.if-s-gt-LONGEST_LINE.false (sym c.has_word.ensures ∙ c.if-has_word.false) (sym c.has_word-2.ensures ∙ c.if-has_word-2.true) in
-    let p = handed (read_of s) (read_add s) c.args.words.now _ _ e c.add_line.ensures.value c.add_line.ensures.words_after in
+    let p = handed (read_of s) (read_add s) c.args.words.now _ _ e (c.unwrap_or-then-has_word-2.ensures ∙ c.add_line.ensures.value) c.add_line.ensures.words_after in
     record { value = p.0; words_after = p.1 }
 
 pub returns-then-s-ne6 : goal.returns-then-s-ne6

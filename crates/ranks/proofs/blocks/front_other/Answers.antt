@@ -1,34 +1,12 @@
 -- `ranks::blocks::front_other` meets its contract.
-use mathlib.Core.Path.{refl, sym, ◌∙◌}
-use native.Mathlib.Omega.{arith}
+use Rattle.std.proofs.Common.{sym, ◌∙◌, arith}
 use Rattle.ranks.proofs.Gathers.{missed_eight}
 use Rattle.ranks.proofs.blocks.front_other.Goals as goal
 
-pub overflow_sub-whole : goal.overflow_sub-whole
-overflow_sub-whole c = omega arith
-
-pub loop-i-init : goal.loop-i-init
-loop-i-init c = ((omega arith, refl), λ j h. absurd (omega arith))
-
-pub eight_other-requires : goal.eight_other-requires
-eight_other-requires c = omega (arith, c.loop-i-test.true, c.loop-i.invariant.0.1, c.requires)
-
-pub returns-then-not-eight_other : goal.returns-then-not-eight_other
-returns-then-not-eight_other c = (c.loop-i.invariant.0.0, c.loop-i.invariant.1)
-
-pub overflow_add-i : goal.overflow_add-i
-overflow_add-i c = record { fits = omega (arith, c.loop-i-test.true, c.loop-i.invariant.0.1) }
-
-pub loop-i-smaller : goal.loop-i-smaller
-loop-i-smaller c = omega (arith, c.loop-i-test.true)
-
-pub loop-i-preserved : goal.loop-i-preserved
-loop-i-preserved c =
-    let v = c.loop-i.invariant in
-    let t = c.loop-i-test.true in (
-      (omega (arith, t, v.0.1), omega (arith, v.0.1)),
-      missed_eight c.args.keys.now c.args.key c.loop-i.i v.1 (sym c.eight_other.ensures ∙ c.if-not-eight_other.false),
-    )
+pub loop-eight-preserved : goal.loop-eight-preserved
+loop-eight-preserved c =
+    let m = missed_eight c.args.keys.now c.args.key _ c.loop-eight.invariant (sym c.eight_other.ensures ∙ c.if-not-eight_other.false) in
+    λ j h. m j (omega (arith, h))
 
 pub returns : goal.returns
-returns c = (c.loop-i.invariant.0.0, c.loop-i.invariant.1)
+returns c = (omega arith, λ j h. c.loop-eight.invariant j (omega (arith, h, c.loop-eight-test.false)))

@@ -2,14 +2,11 @@
 use mathlib.Core.Path.{◌∙◌}
 use borrow.Author.Rules.{sfits_of}
 use mir.Facts.{to_z-of_z}
-use Rattle.state_check.proofs.Seatings.{seat-used, seat_unused}
+use Rattle.state_check.proofs.Seatings.{seat_unused}
 use Rattle.state_check.proofs.candidates.seat_ok.Goals as goal
 
-pub returns-then-i-len : goal.returns-then-i-len
-returns-then-i-len c = let a = c.args in c.seated_ok.ensures a.entries.now ∙ seat-used a.entries.now a.counts.now a.len a.i c.if-i-len.true
-
-pub returns : goal.returns
-returns c =
+pub returns-else-i-len : goal.returns-else-i-len
+returns-else-i-len c =
     let a = c.args in
-    rw (to_z-of_z (sfits_of c.is_none-arg-1.given), c.item_at-item.ensures) at c.is_none.ensures
+    rw (to_z-of_z (sfits_of c.is_none-arg-1.given), c.item_at.ensures) at c.is_none.ensures
     ∙ seat_unused a.entries.now a.counts.now a.len a.i c.if-i-len.false c.requires.0

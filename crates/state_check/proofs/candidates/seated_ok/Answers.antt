@@ -2,7 +2,8 @@
 use mathlib.Core.Path.{◌≡◌, sym, ◌∙◌}
 use lib.ListN.{get_or}
 use lib.IntN.{pos}
-use borrow.Author.Rules.{sfits_of}
+use borrow.Author.Rules.{sfits_of, rules}
+use borrow.Author.Tests.{eq-eqb}
 use mir.Facts.{to_z-of_z}
 use Rattle.words.specs.Num.{in_range}
 use Rattle.state_check.proofs.Seatings.{seated-out, seated-root, seated-below}
@@ -13,13 +14,11 @@ use Rattle.state_check.proofs.candidates.seated_ok.Goals.{After-in_range}
 range-is : (c : After-in_range) → c.in_range.result ≡ in_range (get_or c.args.counts.now c.args.i (pos 0))
 range-is c = rw (to_z-of_z (sfits_of c.x-1.given)) at c.in_range.ensures
 
-pub returns-then-not-in_range : goal.returns-then-not-in_range
-returns-then-not-in_range c = λ es. let a = c.args in seated-out es a.counts.now a.i c.requires (sym (range-is (goal.at.returns-then-not-in_range c).After-in_range) ∙ c.if-not-in_range.true)
-
 pub returns-then-i-eq0 : goal.returns-then-i-eq0
-returns-then-i-eq0 c = λ es. let a = c.args in seated-root es a.counts.now a.i c.requires c.if-i-eq0.true (sym (range-is (goal.at.returns-then-i-eq0 c).After-in_range) ∙ c.if-not-in_range.false)
+returns-then-i-eq0 c = λ es. let a = c.args in eq-eqb a.i 0 c.if-i-eq0.true ∙ seated-root es a.counts.now a.i c.requires c.if-i-eq0.true (sym (range-is (goal.at.returns-then-i-eq0 c).After-in_range) ∙ c.if-in_range.true)
 
-pub returns : goal.returns
-returns c = λ es.
-    let a = c.args in
-    seated-below es a.counts.now a.i c.requires c.result-1.given c.x-1.given (sym (range-is (goal.at.returns c).After-in_range) ∙ c.if-not-in_range.false)
+pub returns-else-i-eq0 : goal.returns-else-i-eq0
+returns-else-i-eq0 c = λ es. let a = c.args in seated-below es a.counts.now a.i c.requires (search rules) c.x-1.given (sym (range-is (goal.at.returns-else-i-eq0 c).After-in_range) ∙ c.if-in_range.true)
+
+pub returns-else-in_range : goal.returns-else-in_range
+returns-else-in_range c = λ es. let a = c.args in c.if-in_range.false ∙ seated-out es a.counts.now a.i c.requires (sym (range-is (goal.at.returns-else-in_range c).After-in_range) ∙ c.if-in_range.false)

@@ -4,7 +4,6 @@ use mathlib.Core.Path.{◌≡◌, refl}
 use mathlib.Core.List.{◌++◌}
 use lib.ListN.{get_or, drop}
 use lib.IntN.{pos}
-use native.Mathlib.Omega.{arith}
 use borrow.Author.Rules.{sfits_of}
 use mir.Facts.{to_z-of_z}
 use Rattle.state_forms.specs.Sparse.{sparse_text}
@@ -20,24 +19,15 @@ step : (c : In-loop-c) → sparse_text cell_listing c.loop-c.c (drop c.loop-c.c 
 step c = sparse_step cell_listing (pos 0) c.args.cells.now c.loop-c.c c.loop-c-test.true
 
 pub loop-c-init : goal.loop-c-init
-loop-c-init c = (omega arith, going_start c.args.out.now c.args.at (sparse_text cell_listing 0 c.args.cells.now) (sparse_text cell_listing 0 c.args.cells.now) refl)
+loop-c-init c = going_start c.args.out.now c.args.at (sparse_text cell_listing 0 c.args.cells.now) (sparse_text cell_listing 0 c.args.cells.now) refl
 
 pub lay_some-p-requires : goal.lay_some-p-requires
 lay_some-p-requires c =
     rw (to_z-of_z (sfits_of c.lay_some-arg-in-loop-c-1.given))
-    (going_room (one_text cell_listing c.loop-c.c (get_or c.args.cells.now c.loop-c.c (pos 0))) (sparse_text cell_listing (c.loop-c.c + 1) (drop (c.loop-c.c + 1) c.args.cells.now)) c.loop-c.invariant.1 (step (goal.at.lay_some-p-requires c).In-loop-c) c.requires)
-
-pub overflow_add-c : goal.overflow_add-c
-overflow_add-c c = omega arith
-
-pub loop-c-smaller : goal.loop-c-smaller
-loop-c-smaller c = omega arith
+    (going_room (one_text cell_listing c.loop-c.c (get_or c.args.cells.now c.loop-c.c (pos 0))) (sparse_text cell_listing (c.loop-c.c + 1) (drop (c.loop-c.c + 1) c.args.cells.now)) c.loop-c.invariant (step (goal.at.lay_some-p-requires c).In-loop-c) c.requires)
 
 pub loop-c-preserved : goal.loop-c-preserved
-loop-c-preserved c = (omega arith, going_on c.loop-c.invariant.1 (step (goal.at.loop-c-preserved c).In-loop-c) (rw (to_z-of_z (sfits_of c.lay_some-arg-in-loop-c-1.given)) at c.lay_some-p.ensures))
-
-pub shape_of-out : goal.shape_of-out
-shape_of-out c = c.loop-c.invariant.1.long
+loop-c-preserved c = going_on c.loop-c.invariant (step (goal.at.loop-c-preserved c).In-loop-c) (rw (to_z-of_z (sfits_of c.lay_some-arg-in-loop-c-1.given)) at c.lay_some-p.ensures)
 
 pub returns : goal.returns
-returns c = going_end c.loop-c.invariant.1 (sparse_end cell_listing c.args.cells.now c.loop-c.c c.loop-c-test.false)
+returns c = going_end c.loop-c.invariant (sparse_end cell_listing c.args.cells.now c.loop-c.c c.loop-c-test.false)

@@ -1,5 +1,4 @@
 -- `state_forms::keys::lay_keys` meets its contract.
-use Prim.Native.Nat.{◌-◌, ◌≤◌}
 use lib.ListN.{take, drop}
 use Rattle.heap_moves.specs.Flat.{cands_of}
 use Rattle.state_forms.specs.Grammar.{keys_text}
@@ -7,7 +6,4 @@ use Rattle.state_forms.proofs.Layings.{LaidSoFar}
 use Rattle.state_forms.proofs.keys.lay_keys.Given as goal
 
 abbrev pub invariant-loop-i : goal.invariant-loop-i
-invariant-loop-i l = (l.i ≤ l.len) × LaidSoFar l.initial.out l.at (keys_text l.l (take l.len (cands_of l.entries l.counts))) l.out l.p (keys_text l.l (drop l.i (take l.len (cands_of l.entries l.counts))))
-
-abbrev pub decreases-loop-i : goal.decreases-loop-i
-decreases-loop-i l = l.len - l.i
+invariant-loop-i l = LaidSoFar l.initial.out l.at (keys_text l.l (take l.len (cands_of l.entries l.counts))) l.out l.p (keys_text l.l (drop l.i (take l.len (cands_of l.entries l.counts))))

@@ -1,7 +1,8 @@
 -- `state_forms::lay::lay_decimal` meets its contract.
-use mathlib.Core.Path.{◌≡◌, ap, ◌∙◌}
+use Prim.Native.Nat.{◌≤◌}
+use mathlib.Core.Path.{◌≡◌, sym, ap, ◌∙◌}
 use lib.ListN.{length, take, replicate}
-use lib.Seq.{length-sets}
+use lib.Seq.{length-sets, length-take-le}
 use native.Mathlib.Omega.{arith}
 use Rattle.text.specs.Decimals.{dec}
 use Rattle.text.proofs.DecTexts.{dec-length}
@@ -16,13 +17,19 @@ digits_are c = put-part (replicate 20 0) (dec c.args.n) c.put_decimal-k.new.out 
 pub put_decimal-k-requires : goal.put_decimal-k-requires
 put_decimal-k-requires c = omega (arith, dec-length c.args.n)
 
-pub lay_part-requires : goal.lay_part-requires
-lay_part-requires c =
+room : (c : After-put_decimal-k) → c.put_decimal-k.result ≤ length c.put_decimal-k.new.out
+room c =
     let n : length c.put_decimal-k.new.out ≡ 20 = ap length c.put_decimal-k.ensures.out_after ∙ simp length-sets in
-    record {
-      n_in_bounds = omega (arith, n, c.put_decimal-k.ensures.value, dec-length c.args.n);
-      text_room = rw (digits_are (goal.at.lay_part-requires c).After-put_decimal-k) c.requires;
-    }
+    omega (arith, n, c.put_decimal-k.ensures.value, dec-length c.args.n)
+
+pub slice_bounds-digits-end : goal.slice_bounds-digits-end
+slice_bounds-digits-end c = room (goal.at.slice_bounds-digits-end c).After-put_decimal-k
+
+pub slice_bounds-lay_word-end : goal.slice_bounds-lay_word-end
+slice_bounds-lay_word-end c = sym (length-take-le _ _ (room (goal.at.slice_bounds-lay_word-end c).After-put_decimal-k))
+
+pub lay_word-requires : goal.lay_word-requires
+lay_word-requires c = rw (digits_are (goal.at.lay_word-requires c).After-put_decimal-k) c.requires
 
 pub returns : goal.returns
-returns c = laid_is (digits_are (goal.at.returns c).After-put_decimal-k) c.lay_part.ensures
+returns c = laid_is (digits_are (goal.at.returns c).After-put_decimal-k) c.lay_word.ensures

@@ -1,7 +1,8 @@
 -- `state_forms::lay::lay_signed` meets its contract.
-use mathlib.Core.Path.{◌≡◌, ap, ◌∙◌}
+use Prim.Native.Nat.{◌≤◌}
+use mathlib.Core.Path.{◌≡◌, sym, ap, ◌∙◌}
 use lib.ListN.{length, take, replicate}
-use lib.Seq.{length-sets}
+use lib.Seq.{length-sets, length-take-le}
 use native.Mathlib.Omega.{arith}
 use mir.Syntax.{w64}
 use mir.Val.{to_z, of_z}
@@ -21,13 +22,19 @@ digits_are c =
 pub put_signed-k-requires : goal.put_signed-k-requires
 put_signed-k-requires c = omega (arith, signed-length (to_z w64 (of_z w64 c.args.x)))
 
-pub lay_part-requires : goal.lay_part-requires
-lay_part-requires c =
+room : (c : After-put_signed-k) → c.put_signed-k.result ≤ length c.put_signed-k.new.out
+room c =
     let n : length c.put_signed-k.new.out ≡ 21 = ap length c.put_signed-k.ensures.out_after ∙ simp length-sets in
-    record {
-      n_in_bounds = omega (arith, n, c.put_signed-k.ensures.value, signed-length (to_z w64 (of_z w64 c.args.x)));
-      text_room = rw (digits_are (goal.at.lay_part-requires c).After-put_signed-k) c.requires;
-    }
+    omega (arith, n, c.put_signed-k.ensures.value, signed-length (to_z w64 (of_z w64 c.args.x)))
+
+pub slice_bounds-digits-end : goal.slice_bounds-digits-end
+slice_bounds-digits-end c = room (goal.at.slice_bounds-digits-end c).After-put_signed-k
+
+pub slice_bounds-lay_word-end : goal.slice_bounds-lay_word-end
+slice_bounds-lay_word-end c = sym (length-take-le _ _ (room (goal.at.slice_bounds-lay_word-end c).After-put_signed-k))
+
+pub lay_word-requires : goal.lay_word-requires
+lay_word-requires c = rw (digits_are (goal.at.lay_word-requires c).After-put_signed-k) c.requires
 
 pub returns : goal.returns
-returns c = laid_is (digits_are (goal.at.returns c).After-put_signed-k) c.lay_part.ensures
+returns c = laid_is (digits_are (goal.at.returns c).After-put_signed-k) c.lay_word.ensures

@@ -1,7 +1,6 @@
 -- `state_lines::keys::read_keys` meets its contract.
-use Prim.Native.Nat.{suc, ◌-◌, ◌≤◌}
-use mathlib.Core.Path.{◌≡◌}
-use lib.ListN.{length, drop}
+use Prim.Native.Nat.{◌-◌}
+use lib.ListN.{drop}
 use Rattle.heap_moves.specs.Flat.{cands_of}
 use Rattle.state_forms.specs.Grammar.{keys_r}
 use Rattle.state_lines.proofs.Walks.{Walk}
@@ -9,8 +8,4 @@ use Rattle.state_lines.proofs.KeyWalk.{same}
 use Rattle.state_lines.proofs.keys.read_keys.Given as goal
 
 abbrev pub invariant-loop-i : goal.invariant-loop-i
-invariant-loop-i l = (l.i ≤ l.size) × ((length l.entries ≡ length l.initial.entries) × ((length l.counts ≡ length l.initial.counts)
-    × Walk same (keys_r l.l l.size (drop l.at l.s)) (cands_of l.initial.entries l.initial.counts) 0 (keys_r l.l (l.size - l.i) (drop l.p l.s)) (cands_of l.entries l.counts) l.i l.i))
-
-abbrev pub decreases-loop-i : goal.decreases-loop-i
-decreases-loop-i l = suc l.size - l.i
+invariant-loop-i l = Walk same (keys_r l.l l.size (drop l.at l.s)) (cands_of l.initial.entries l.initial.counts) 0 (keys_r l.l (l.size - l.i) (drop l.p l.s)) (cands_of l.entries l.counts) l.i l.i

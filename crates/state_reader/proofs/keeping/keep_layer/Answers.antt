@@ -14,11 +14,12 @@ use Rattle.layout.proofs.Handed.{Spanned, cell_piece, norm_piece, word_piece, se
 use Rattle.state_forms.specs.Formats.{got}
 use Rattle.state_forms.specs.Grammar.{Page, page_format}
 use Rattle.state_text.specs.Pages.{frame_of, dims_of, layer_from}
-use Rattle.state_reader.specs.inner.Paged.{paged, page_spot}
+use Rattle.state_lines.specs.inner.Places.{value_spot}
+use Rattle.state_reader.specs.inner.Paged.{paged}
 use Rattle.state_reader.proofs.PageSteps.{page_in, page_answer, page_never}
 use Rattle.state_reader.proofs.Keepings.{none-used}
 use Rattle.state_reader.proofs.keeping.keep_layer.Goals as goal
-use Rattle.state_reader.proofs.keeping.keep_layer.Goals.{After-counts-1, After-dims-d, After-fill_page-x, After-span_of-span, In-At, Start}
+use Rattle.state_reader.proofs.keeping.keep_layer.Goals.{After-counts-1, After-dims-d, After-fill_page-x, After-span_of-span, In-Some, Start}
 
 -- the state that is lent, and where its layer stands
 abbrev lent_of : Start → Lent
@@ -31,7 +32,7 @@ spanned c = record { standing = c.requires.standing; inside = c.requires.l_lt_la
 dims-are : (c : After-dims-d) → c.dims-d.result ≡ dims_of c.args.h.shape
 dims-are c = c.dims-d.ensures ∙ dims-alike c.args.h.shape c.requires.one_tiered c.args.l
 
-answer : (c : After-fill_page-x) → page_spot c.args.s.now c.fill_page-x.result ≡ paged ((page_format (frame_of (dims_of c.args.h.shape)) c.args.l).read (drop c.args.at c.args.s.now))
+answer : (c : After-fill_page-x) → value_spot c.args.s.now c.fill_page-x.result ≡ paged ((page_format (frame_of (dims_of c.args.h.shape)) c.args.l).read (drop c.args.at c.args.s.now))
 answer c = rw (dims-are (goal.at.After-fill_page-x c).After-dims-d) at c.fill_page-x.ensures.result_value
 
 -- what a lemma proves of the clauses together, under each one's name
@@ -39,22 +40,22 @@ by_clause : {A B : Type 0} → A × B → record { counts_value : A; standing_2 
 by_clause p = record { counts_value = p.0; standing_2 = p.1 }
 
 -- what the answer says
-said : (c : In-At) → (p : Page) (t : List ℕ) → ((page_format (frame_of (dims_of c.args.h.shape)) c.args.l).read (drop c.args.at c.args.s.now)) ≡ got p t → (c.in-At.flag ≡ p.flag) × ((c.in-At.len ≡ length p.keys) × (drop c.in-At.p c.args.s.now ≡ t))
-said c p t e = page_answer ((page_format (frame_of (dims_of c.args.h.shape)) c.args.l).read (drop c.args.at c.args.s.now)) c.in-At.flag c.in-At.len (drop c.in-At.p c.args.s.now) (sym (ap (page_spot c.args.s.now) c.in-At.is) ∙ answer (goal.at.In-At c).After-fill_page-x) p t e
+said : (c : In-Some) → (p : Page) (t : List ℕ) → ((page_format (frame_of (dims_of c.args.h.shape)) c.args.l).read (drop c.args.at c.args.s.now)) ≡ got p t → (c.in-Some.flag ≡ p.flag) × ((c.in-Some.len ≡ length p.keys) × (drop c.in-Some.p c.args.s.now ≡ t))
+said c p t e = page_answer ((page_format (frame_of (dims_of c.args.h.shape)) c.args.l).read (drop c.args.at c.args.s.now)) c.in-Some.flag c.in-Some.len (drop c.in-Some.p c.args.s.now) (sym (ap (value_spot c.args.s.now) c.in-Some.is) ∙ answer (goal.at.In-Some c).After-fill_page-x) p t e
 
 -- the parts that came back
 back : (c : After-counts-1) → Back (spanned (goal.at.After-counts-1 c).After-span_of-span) c.fill_page-x.new.cells c.fill_page-x.new.norms c.fill_page-x.new.entries c.fill_page-x.new.counts
 back c = record { cells = c.counters-1.given.0; norms = c.norms-1.given.0; words = c.entries-1.given.0; seats = c.counts-1.given.0 }
 
 -- the layer as it came back
-layer-now : (c : In-At) → (p : Page) (t : List ℕ) → ((page_format (frame_of (dims_of c.args.h.shape)) c.args.l).read (drop c.args.at c.args.s.now)) ≡ got p t → layer_of (dims_at c.args.h.shape c.args.l) c.fill_page-x.new.cells c.fill_page-x.new.norms c.fill_page-x.new.entries c.fill_page-x.new.counts c.in-At.len c.in-At.flag ≡ layer_from (dims_of c.args.h.shape) p
+layer-now : (c : In-Some) → (p : Page) (t : List ℕ) → ((page_format (frame_of (dims_of c.args.h.shape)) c.args.l).read (drop c.args.at c.args.s.now)) ≡ got p t → layer_of (dims_at c.args.h.shape c.args.l) c.fill_page-x.new.cells c.fill_page-x.new.norms c.fill_page-x.new.entries c.fill_page-x.new.counts c.in-Some.len c.in-Some.flag ≡ layer_from (dims_of c.args.h.shape) p
 layer-now c p t e =
     let a = said c p t e in
-    let d = dims-are (goal.at.In-At c).After-dims-d in
+    let d = dims-are (goal.at.In-Some c).After-dims-d in
     let g = c.fill_page-x.ensures.flag_after p t (ap (λ (z : Dims). (page_format (frame_of z) c.args.l).read (drop c.args.at c.args.s.now)) d ∙ e) in
     (λ i. layer_of ((sym c.dims-d.ensures) i) c.fill_page-x.new.cells c.fill_page-x.new.norms c.fill_page-x.new.entries c.fill_page-x.new.counts (a.1.0 i) (a.0 i)) ∙ g ∙ ap (λ (z : Dims). layer_from z p) d
 
-few : (c : In-At) → c.in-At.len ≤ (dims_at c.args.h.shape c.args.l).size
+few : (c : In-Some) → c.in-Some.len ≤ (dims_at c.args.h.shape c.args.l).size
 few c =
     let p = c.requires.legible in
     let a = said c p.value p.left p.reads in
@@ -123,7 +124,7 @@ fill_page-x-requires c = rw c.dims-d.ensures (record {
 })
 
 pub returns-in_default : goal.returns-in_default
-returns-in_default c = by_clause (let p = c.requires.legible in absurd (page_never ((page_format (frame_of (dims_of c.args.h.shape)) c.args.l).read (drop c.args.at c.args.s.now)) (sym (ap (page_spot c.args.s.now) c.in_default.is) ∙ answer (goal.at.returns-in_default c).After-fill_page-x) p.value p.left p.reads))
+returns-in_default c = by_clause (let p = c.requires.legible in absurd (page_never ((page_format (frame_of (dims_of c.args.h.shape)) c.args.l).read (drop c.args.at c.args.s.now)) (sym (ap (value_spot c.args.s.now) c.in_default.is) ∙ answer (goal.at.returns-in_default c).After-fill_page-x) p.value p.left p.reads))
 
 pub with_layer-requires : goal.with_layer-requires
 with_layer-requires c = omega (arith, c.requires.l_lt_layers, c.requires.standing.accepted.few)
@@ -131,8 +132,8 @@ with_layer-requires c = omega (arith, c.requires.l_lt_layers, c.requires.standin
 pub returns : goal.returns
 returns c = record {
   counts_value = λ p t e. (
-    rw c.with_layer.ensures (back-view (spanned (goal.at.returns c).After-span_of-span) c.fill_page-x.new.cells c.fill_page-x.new.norms c.fill_page-x.new.entries c.fill_page-x.new.counts c.in-At.len c.in-At.flag _ (back (goal.at.returns c).After-counts-1) (layer-now (goal.at.returns c).In-At p t e)),
-    (said (goal.at.returns c).In-At p t e).1.1,
+    rw c.with_layer.ensures (back-view (spanned (goal.at.returns c).After-span_of-span) c.fill_page-x.new.cells c.fill_page-x.new.norms c.fill_page-x.new.entries c.fill_page-x.new.counts c.in-Some.len c.in-Some.flag _ (back (goal.at.returns c).After-counts-1) (layer-now (goal.at.returns c).In-Some p t e)),
+    (said (goal.at.returns c).In-Some p t e).1.1,
   );
-  standing_2 = rw c.with_layer.ensures (back-standing (spanned (goal.at.returns c).After-span_of-span) c.fill_page-x.new.cells c.fill_page-x.new.norms c.fill_page-x.new.entries c.fill_page-x.new.counts c.in-At.len c.in-At.flag (back (goal.at.returns c).After-counts-1) (few (goal.at.returns c).In-At));
+  standing_2 = rw c.with_layer.ensures (back-standing (spanned (goal.at.returns c).After-span_of-span) c.fill_page-x.new.cells c.fill_page-x.new.norms c.fill_page-x.new.entries c.fill_page-x.new.counts c.in-Some.len c.in-Some.flag (back (goal.at.returns c).After-counts-1) (few (goal.at.returns c).In-Some));
 }

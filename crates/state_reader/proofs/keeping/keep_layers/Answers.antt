@@ -1,9 +1,7 @@
 -- `state_reader::keeping::keep_layers` meets its contract.
 use lib.ListN.{drop}
-use native.Mathlib.Omega.{arith}
 use Rattle.layout.specs.Slices.{Lent, lent}
 use Rattle.state_reader.proofs.Keepings.{Keeping, keeping_start, keeping_inside, keeping_tier, keeping_legible, keeping_on, keeping_end}
-use Rattle.layout.proofs.InTurn.{in_turn-long}
 use Rattle.state_reader.proofs.keeping.keep_layers.Goals as goal
 use Rattle.state_reader.proofs.keeping.keep_layers.Goals.{At-loop-l, Start}
 
@@ -30,27 +28,9 @@ keep_layer-k-requires c =
       legible = keeping_legible v c.loop-l-test.true;
     }
 
-pub overflow_add-l : goal.overflow_add-l
-overflow_add-l c = record { fits = omega (arith, c.requires.standing.accepted.few, c.loop-l-test.true) }
-
-pub loop-l-smaller : goal.loop-l-smaller
-loop-l-smaller c = omega (arith, c.loop-l-test.true)
-
 pub loop-l-preserved : goal.loop-l-preserved
 loop-l-preserved c =
     λ ps t e. keeping_on (c.loop-l.invariant ps t e) c.loop-l-test.true _ (drop c.keep_layer-k.result.at c.args.s.now) c.keep_layer-k.ensures.counts_value c.keep_layer-k.ensures.standing_2
-
-pub shape_of-counters : goal.shape_of-counters
-shape_of-counters c = (in_turn-long (going (goal.at.shape_of-counters c).At-loop-l).turn c.requires.standing).0
-
-pub shape_of-norms : goal.shape_of-norms
-shape_of-norms c = (in_turn-long (going (goal.at.shape_of-norms c).At-loop-l).turn c.requires.standing).1.0
-
-pub shape_of-entries : goal.shape_of-entries
-shape_of-entries c = (in_turn-long (going (goal.at.shape_of-entries c).At-loop-l).turn c.requires.standing).1.1.0
-
-pub shape_of-counts : goal.shape_of-counts
-shape_of-counts c = (in_turn-long (going (goal.at.shape_of-counts c).At-loop-l).turn c.requires.standing).1.1.1
 
 pub returns : goal.returns
 returns c = record {

@@ -1,50 +1,36 @@
 -- `state_text::write::lay_layers` meets its contract.
 use Prim.Native.Nat.{◌+◌, ◌-◌}
-use mathlib.Core.Path.{◌≡◌}
-use mathlib.Core.List.{◌++◌}
-use native.Mathlib.Omega.{arith}
-use Rattle.layout.specs.State.{State, layer_at}
-use Rattle.layout.specs.Slices.{lent, view}
+use Rattle.layout.specs.Slices.{view}
+use Rattle.layout.specs.Lending.{lent_read}
+use Rattle.layout.specs.inner.Lending.{layer_read}
 use Rattle.state_forms.specs.Grammar.{page_format, pages_text}
 use Rattle.state_forms.proofs.Layings.{going_start, going_on, going_room, going_end}
 use Rattle.state_text.specs.Pages.{dims_of, frame_of, page_of, pages_of}
-use Rattle.state_text.proofs.Writings.{pages_step, pages_none, pages_start}
-use Rattle.layout.specs.Slices as lents
+use Rattle.state_text.proofs.Writings.{layer_step, pages_none, pages_start}
 use Rattle.state_text.proofs.write.lay_layers.Goals as goal
-use Rattle.state_text.proofs.write.lay_layers.Goals.{In-loop-l, Start}
-
-abbrev state-of : Start → State
-state-of c = lents.view (lent c.args.header c.args.counters.now c.args.norms.now c.args.entries.now c.args.counts.now)
-
-step : (c : In-loop-l) → pages_text (frame_of (dims_of c.args.header.shape)) c.loop-l.l (pages_of (state-of c.before.before.before.before.before.before) (c.args.header.shape.layers - c.loop-l.l) c.loop-l.l)
-    ≡ (page_format (frame_of (dims_of c.args.header.shape)) c.loop-l.l).write (page_of (dims_of c.args.header.shape) (layer_at (state-of c.before.before.before.before.before.before) c.loop-l.l))
-    ++ pages_text (frame_of (dims_of c.args.header.shape)) (c.loop-l.l + 1) (pages_of (state-of c.before.before.before.before.before.before) (c.args.header.shape.layers - (c.loop-l.l + 1)) (c.loop-l.l + 1))
-unfolding lents.view
-step c = pages_step (frame_of (dims_of c.args.header.shape)) (state-of c.before.before.before.before.before.before) c.args.header.shape.layers c.loop-l.l c.loop-l-test.true
 
 pub loop-l-init : goal.loop-l-init
-loop-l-init c = let a = c.args in (omega arith, going_start a.out.now a.at _ _ (pages_start (frame_of (dims_of a.header.shape)) (state-of (goal.at.loop-l-init c).Start) a.header.shape.layers))
+loop-l-init c =
+    let a = c.args in
+    let sh = a.state.header.now.shape in
+    going_start a.out.now a.at _ _ (pages_start (frame_of (dims_of sh)) (view (lent_read a.state)) sh.layers)
 
 pub lay_layer-p-requires : goal.lay_layer-p-requires
-lay_layer-p-requires c = record {
-  one_tiered = c.requires.one_tiered;
-  standing = c.requires.standing;
-  l_lt_layers = c.loop-l-test.true;
-  text_room = going_room ((page_format (frame_of (dims_of c.args.header.shape)) c.loop-l.l).write (page_of (dims_of c.args.header.shape) (layer_at (state-of (goal.at.lay_layer-p-requires c).Start) c.loop-l.l)))
-      (pages_text (frame_of (dims_of c.args.header.shape)) (c.loop-l.l + 1) (pages_of (state-of (goal.at.lay_layer-p-requires c).Start) (c.args.header.shape.layers - (c.loop-l.l + 1)) (c.loop-l.l + 1))) c.loop-l.invariant.1 (step (goal.at.lay_layer-p-requires c).In-loop-l) c.requires.text_room;
-}
-
-pub overflow_add-l : goal.overflow_add-l
-overflow_add-l c = omega arith
-
-pub loop-l-smaller : goal.loop-l-smaller
-loop-l-smaller c = omega arith
+lay_layer-p-requires c =
+    let y = c.layer in
+    let l = c.loop-l.l in
+    let sh = c.args.state.header.now.shape in
+    let k = frame_of (dims_of sh) in
+    record {
+      housed = y.ensures.housed;
+      entries_len = y.ensures.entries_len;
+      text_room = going_room ((page_format (frame_of y.result.dims) l).write (page_of y.result.dims (layer_read y.result))) (pages_text k (l + 1) (pages_of (view (lent_read c.args.state)) (sh.layers - (l + 1)) (l + 1))) c.loop-l.invariant (layer_step (lent_read c.args.state) l y.result.dims (layer_read y.result) c.requires.one_tiered c.loop-l-test.true y.ensures.dims y.ensures.layer) c.requires.text_room;
+    }
 
 pub loop-l-preserved : goal.loop-l-preserved
-loop-l-preserved c = (omega arith, going_on c.loop-l.invariant.1 (step (goal.at.loop-l-preserved c).In-loop-l) c.lay_layer-p.ensures)
-
-pub shape_of-out : goal.shape_of-out
-shape_of-out c = c.loop-l.invariant.1.long
+loop-l-preserved c =
+    let y = c.layer in
+    going_on c.loop-l.invariant (layer_step (lent_read c.args.state) c.loop-l.l y.result.dims (layer_read y.result) c.requires.one_tiered c.loop-l-test.true y.ensures.dims y.ensures.layer) c.lay_layer-p.ensures
 
 pub returns : goal.returns
-returns c = going_end c.loop-l.invariant.1 (pages_none (frame_of (dims_of c.args.header.shape)) (state-of (goal.at.returns c).Start) c.args.header.shape.layers c.loop-l.l c.loop-l-test.false)
+returns c = let sh = c.args.state.header.now.shape in going_end c.loop-l.invariant (pages_none (frame_of (dims_of sh)) (view (lent_read c.args.state)) sh.layers c.loop-l.l c.loop-l-test.false)

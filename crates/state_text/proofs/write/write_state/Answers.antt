@@ -45,14 +45,14 @@ lay_state-n-requires c = record {
 pub returns-then-out-n : goal.returns-then-out-n
 returns-then-out-n c = short (lent_of (goal.at.returns-then-out-n c).Start) c.args.out.now c.lay_state-n.result (both (passes (goal.at.returns-then-out-n c).Else-not-check_state) (alike (goal.at.returns-then-out-n c).Else-not-is_one_tier)) c.lay_state-n.ensures.place c.if-out-n.true
 
-pub lay_state-bytes-requires : goal.lay_state-bytes-requires
-lay_state-bytes-requires c = record {
-  one_tiered = tier (goal.at.lay_state-bytes-requires c).Else-not-is_one_tier;
-  standing = stands (goal.at.lay_state-bytes-requires c).Else-not-check_state;
-  text_room = text-room (lent_of (goal.at.lay_state-bytes-requires c).Start) (stands (goal.at.lay_state-bytes-requires c).Else-not-check_state);
+pub lay_state-requires : goal.lay_state-requires
+lay_state-requires c = record {
+  one_tiered = tier (goal.at.lay_state-requires c).Else-not-is_one_tier;
+  standing = stands (goal.at.lay_state-requires c).Else-not-check_state;
+  text_room = text-room (lent_of (goal.at.lay_state-requires c).Start) (stands (goal.at.lay_state-requires c).Else-not-check_state);
 }
 
 pub returns : goal.returns
 returns c =
-    done (lent_of (goal.at.returns c).Start) c.args.out.now c.lay_state-n.result c.lay_state-bytes.result c.lay_state-bytes.new.out (both (passes (goal.at.returns c).Else-not-check_state) (alike (goal.at.returns c).Else-not-is_one_tier))
-    c.lay_state-n.ensures.place c.if-out-n.false c.lay_state-bytes.ensures
+    done (lent_of (goal.at.returns c).Start) c.args.out.now c.lay_state-n.result c.lay_state.result c.lay_state.new.out (both (passes (goal.at.returns c).Else-not-check_state) (alike (goal.at.returns c).Else-not-is_one_tier))
+    c.lay_state-n.ensures.place c.if-out-n.false c.lay_state.ensures

@@ -38,7 +38,7 @@ loop-v-preserved c =
     let more = c.loop-v-test.true in
     let place = c.loop-v.invariant.1.1.1.0 in
     let less : c.loop-v.i - 1 + 1 ≡ c.args.at + length (dec (v / 10)) = omega (arith, place, dec_grows v more (word (goal.at.loop-v-preserved c).At-loop-v), dec_any (v / 10) (omega (arith, word (goal.at.loop-v-preserved c).At-loop-v))) in
-    let put = dec-put c.loop-v.out c.args.at c.loop-v.i _ v more (word (goal.at.loop-v-preserved c).At-loop-v) place c.low_byte.ensures in
+    let put = dec-put c.loop-v.out c.args.at c.loop-v.i _ v more (word (goal.at.loop-v-preserved c).At-loop-v) place refl in
     (simp length-set c.loop-v.invariant.0, (omega (arith, c.loop-v.invariant.1.0), (omega (arith, c.loop-v.invariant.1.1.0), (less, put ∙ c.loop-v.invariant.1.1.1.1))))
 
 pub bounds-out-i-2 : goal.bounds-out-i-2
@@ -48,4 +48,4 @@ pub shape_of-out : goal.shape_of-out
 shape_of-out c = simp length-set c.loop-v.invariant.0
 
 pub returns : goal.returns
-returns c = record { value = omega (arith, c.digits_of.ensures); out_after = dec_done c.loop-v.out c.args.at c.loop-v.i _ c.loop-v.v (omega (arith, c.loop-v-test.false)) c.loop-v.invariant.1.1.1.0 c.low_byte-2.ensures ∙ c.loop-v.invariant.1.1.1.1 }
+returns c = record { value = omega (arith, c.digits_of.ensures); out_after = dec_done c.loop-v.out c.args.at c.loop-v.i _ c.loop-v.v (omega (arith, c.loop-v-test.false)) c.loop-v.invariant.1.1.1.0 refl ∙ c.loop-v.invariant.1.1.1.1 }

@@ -2,7 +2,9 @@
 use Prim.Native.Nat.{ℕ, suc, ◌+◌, ◌-◌, ◌*◌, ◌%◌, ◌^◌, ◌≤◌, ◌<◌}
 use mathlib.Core.Path.{◌≡◌, sym, ◌∙◌}
 use mathlib.Core.List.{List}
-use lib.ListN.{length, get_or, drop}
+use lib.ListN.{length, get_or, drop, take}
+use lib.Seq.{get_or-drop}
+use Rattle.std.proofs.lemmas.List.{get_or-take}
 use native.Mathlib.Omega.{arith}
 use native.Mathlib.Numerals.{add-one}
 use Rattle.text.specs.Hex.{nibble_of, hex_from}
@@ -19,37 +21,17 @@ value-step s a k v h l =
 pow-le : (a b : ℕ) → a ≤ b → 16 ^ a ≤ 16 ^ b
 pow-le a b h = let p : 0 < 16 = omega arith in pow-le-pow_right p h
 
-pub loop-k-init : goal.loop-k-init
-loop-k-init c = let z : c.args.at + 0 ≡ c.args.at = omega arith in (omega arith, (omega arith, rw z))
-
-pub overflow_mul-v : goal.overflow_mul-v
-overflow_mul-v c = omega arith
-
-pub overflow_add-at : goal.overflow_add-at
-overflow_add-at c = omega arith
-
-pub bounds-s-at : goal.bounds-s-at
-bounds-s-at c = omega arith
-
-pub overflow_add-v : goal.overflow_add-v
-overflow_add-v c = omega (arith, c.nibble.ensures.1)
-
-pub overflow_add-k : goal.overflow_add-k
-overflow_add-k c = omega arith
-
-pub loop-k-smaller : goal.loop-k-smaller
-loop-k-smaller c = omega arith
-
-pub loop-k-preserved : goal.loop-k-preserved
-loop-k-preserved c =
-    let k = c.loop-k.k in
-    let t : k < 16 = c.loop-k-test.true in
-    let small : c.loop-k.v < 1152921504606846976 = lt_of_lt_of_le c.loop-k.invariant.1.0 (pow-le k 15 (omega arith)) in
-    let m : c.loop-k.v % 1152921504606846976 ≡ c.loop-k.v = omega arith in
+pub loop-b-preserved : goal.loop-b-preserved
+loop-b-preserved c =
+    let k = c.loop-b.b-index in
+    let t : k < 16 = omega arith in
+    let small : c.loop-b.v < 1152921504606846976 = lt_of_lt_of_le c.loop-b.invariant.small (pow-le k 15 (omega arith)) in
+    let m : c.loop-b.v % 1152921504606846976 ≡ c.loop-b.v = omega arith in
     let p : 16 ^ (k + 1) ≡ 16 * 16 ^ k = rw add-one (pow-succ' 16 k) in
     let n = c.nibble.ensures in
-    (omega arith, (omega arith, rw (m, n.0) (sym (value-step c.args.s.now c.args.at k c.loop-k.v t c.requires) ∙ c.loop-k.invariant.1.1)))
+    let d : get_or (take (c.args.at + 16 - c.args.at) (drop c.args.at c.args.s.now)) k 0 ≡ get_or c.args.s.now (c.args.at + k) 0 = get_or-take (c.args.at + 16 - c.args.at) _ k 0 (omega arith) ∙ get_or-drop c.args.at c.args.s.now k 0 in
+    record { small = omega arith; so_far = rw (m, n.0, d) (sym (value-step c.args.s.now c.args.at k c.loop-b.v t c.requires) ∙ c.loop-b.invariant.so_far) }
 
 pub returns : goal.returns
 unfolding hex_from
-returns c = let e : c.loop-k.k ≡ 16 = omega arith in rw e at c.loop-k.invariant.1.1
+returns c = let e : c.loop-b.b-index ≡ 16 = omega arith in rw e at c.loop-b.invariant.so_far

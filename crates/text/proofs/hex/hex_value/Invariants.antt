@@ -1,12 +1,10 @@
 -- `text::hex::hex_value` meets its contract.
-use Prim.Native.Nat.{◌+◌, ◌-◌, ◌^◌, ◌≤◌, ◌<◌}
-use mathlib.Core.Path.{◌≡◌}
-use lib.ListN.{drop}
+use Rattle.std.proofs.Common.{◌≡◌, ◌<◌, ◌+◌, ◌-◌, ◌^◌, drop}
 use Rattle.text.specs.Hex.{hex_from, hex_at}
 use Rattle.text.proofs.hex.hex_value.Given as goal
 
-abbrev pub invariant-loop-k : goal.invariant-loop-k
-invariant-loop-k l = (l.k ≤ 16) × ((l.v < 16 ^ l.k) × (hex_from l.v (16 - l.k) (drop (l.at + l.k) l.s) ≡ hex_at l.s l.at))
-
-abbrev pub decreases-loop-k : goal.decreases-loop-k
-decreases-loop-k l = 16 - l.k
+abbrev pub invariant-loop-b : goal.invariant-loop-b
+invariant-loop-b l = record {
+  small : l.v < 16 ^ l.b-index;
+  so_far : hex_from l.v (16 - l.b-index) (drop (l.at + l.b-index) l.s) ≡ hex_at l.s l.at;
+}

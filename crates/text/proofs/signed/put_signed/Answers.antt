@@ -24,20 +24,20 @@ plus : (x : ℤ) (n : ℕ) → SFits w64 x → n ≡ nat_abs (to_z w64 (of_z w64
 plus x n f e t = rw (rw (to_z-of_z {w = w64} f) at e) (not-below x (rw (to_z-of_z {w = w64} f) at t))
 
 pub bounds-out-at : goal.bounds-out-at
-bounds-out-at c = omega (arith, ap length (minus _ _ c.ranges.x c.magnitude-n.ensures c.if-x-lt0.true), c.requires)
+bounds-out-at c = omega (arith, ap length (minus _ _ c.ranges.x c.unsigned_abs-n.ensures.value c.if-x-lt0.true), c.requires)
 
 pub put_decimal-requires : goal.put_decimal-requires
-put_decimal-requires c = omega (arith, length-set {A = ℕ}, ap length (minus _ _ c.ranges.x c.magnitude-n.ensures c.if-x-lt0.true), c.requires)
+put_decimal-requires c = omega (arith, length-set {A = ℕ}, ap length (minus _ _ c.ranges.x c.unsigned_abs-n.ensures.value c.if-x-lt0.true), c.requires)
 
 pub returns-then-x-lt0 : goal.returns-then-x-lt0
 returns-then-x-lt0 c =
-    let e = minus _ _ c.ranges.x c.magnitude-n.ensures c.if-x-lt0.true in
+    let e = minus _ _ c.ranges.x c.unsigned_abs-n.ensures.value c.if-x-lt0.true in
     record { value = omega (arith, c.put_decimal.ensures.value, ap length e); out_after = c.put_decimal.ensures.out_after ∙ rw (e, add-one) }
 
 pub put_decimal-requires-2 : goal.put_decimal-requires-2
-put_decimal-requires-2 c = omega (arith, ap length (plus _ _ c.ranges.x c.magnitude-n.ensures c.if-x-lt0.false), c.requires)
+put_decimal-requires-2 c = omega (arith, ap length (plus _ _ c.ranges.x c.unsigned_abs-n.ensures.value c.if-x-lt0.false), c.requires)
 
 pub returns : goal.returns
 returns c =
-    let e = plus _ _ c.ranges.x c.magnitude-n.ensures c.if-x-lt0.false in
+    let e = plus _ _ c.ranges.x c.unsigned_abs-n.ensures.value c.if-x-lt0.false in
     record { value = rw e c.put_decimal-2.ensures.value; out_after = c.put_decimal-2.ensures.out_after ∙ rw e }

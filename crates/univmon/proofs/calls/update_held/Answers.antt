@@ -1,43 +1,54 @@
 -- `univmon::calls::update_held` meets its contract.
-use mathlib.Core.Path.{◌≡◌, sym, ap, ◌∙◌}
+use mathlib.Core.Path.{◌≡◌, refl, sym, ap, ◌∙◌}
+use Rattle.std.proofs.Common.{Ok}
 use lib.ListN.{length}
 use Rattle.header.specs.Shape.{max_layers}
 use borrow.Author.Rules.{rules}
 use mir.Facts.{to_z-of_z}
-use Rattle.header.specs.Header.{head_of, begin_header, begin_tests, scalars_of}
+use Rattle.header.specs.Header.{head_of, begin_tests, scalars_of}
 use Rattle.layout.specs.Slices.{lent, view, Lent}
 use Rattle.layout.specs.Outcomes.{left, left_by}
 use Rattle.univmon.specs.Calls.{update_list_call, lent_update_list_call}
 use Rattle.univmon.specs.inner.Needs.{sent_after}
-use Rattle.header.specs.declared.Answered.{Answered}
+use Rattle.header.specs.Answers.{Answered, answered_by}
+use Rattle.std.proofs.lemmas.Result.{err_from_is_err_and}
+use Rattle.refusal.specs.Refusals.{number_of, refused}
+use Rattle.refusal.proofs.Numbers.{number-ne0}
 use Rattle.words.specs.Tests.{number}
 use Rattle.header.proofs.Steps.{header_begun, header_number, begin-light}
 use Rattle.univmon.specs.Updates.{mode_of, update_answers}
 use Rattle.layout.specs.Answers.{list_left}
 use Rattle.univmon.proofs.Updating.{call_refused, call_done, placed_call}
 use Rattle.univmon.proofs.calls.update_held.Goals as goal
-use Rattle.univmon.proofs.calls.update_held.Goals.{After-begin_update-begun, After-flags-2-1, After-update-refusal, Start}
+use Rattle.univmon.proofs.calls.update_held.Goals.{After-flags-2-1, After-begins, After-update, Start}
 
 -- the state that is lent
 abbrev lent_of : Start → Lent
 lent_of c = lent c.args.header c.args.counters.now c.args.norms.now c.args.entries.now c.args.counts.now
 
--- what the header's own step answered
-begins : (c : After-begin_update-begun) → c.begin_update-begun.result ≡ begin_header c.args.header c.args.weight (mode_of c.args.kind)
-begins c = rw (to_z-of_z c.ranges.weight, c.mode_of.ensures) at c.begin_update-begun.ensures
-
-number_is : (c : After-begin_update-begun) → c.begin_update-begun.result.refusal ≡ number (begin_tests (scalars_of c.args.header) c.args.weight (mode_of c.args.kind))
-number_is c = let a = c.args in ap (λ (b : Answered). b.refusal) (begins c) ∙ header_number a.header a.weight (mode_of a.kind)
+-- the number that the header's own step is refused with
+number_is : (c : After-begins) → refused c.begins.result ≡ number (begin_tests (scalars_of c.args.header) c.args.weight (mode_of c.args.kind))
+number_is c =
+    let a = c.args in
+    c.begins.ensures
+    ∙ ap (λ (b : Answered). b.refusal) (rw (to_z-of_z c.ranges.weight, c.mode_of.ensures) at c.begin_update-begun.ensures)
+    ∙ header_number a.header a.weight (mode_of a.kind)
 
 -- what all but the beginning left
-left_is : (c : After-update-refusal) → let a = c.args in let l = c.update-refusal.new in
-    left c.update-refusal.result (lent (head_of (scalars_of a.header) l.lens l.flags) l.counters l.norms l.entries l.counts)
-    ≡ sent_after a.kind (number (begin_tests (scalars_of a.header) a.weight (mode_of a.kind))) a.«record».now a.weight (length a.list.now) ((lent c.args.header c.args.counters.now c.args.norms.now c.args.entries.now c.args.counts.now))
-left_is c = rw (to_z-of_z c.ranges.weight, c.scalars.ensures, (let h-number_is : c.begin_update-begun.result.refusal ≡ number (begin_tests (scalars_of c.args.header) c.args.weight (mode_of c.args.kind)) = let a = c.args in ap (λ (b : Answered). b.refusal) ((let h-begins : c.begin_update-begun.result ≡ begin_header c.args.header c.args.weight (mode_of c.args.kind) = rw (to_z-of_z c.ranges.weight, c.mode_of.ensures) at c.begin_update-begun.ensures in h-begins)) ∙ header_number a.header a.weight (mode_of a.kind) in h-number_is)) at c.update-refusal.ensures.counts_value
+left_is : (c : After-update) → let a = c.args in let l = c.update.new in
+    left (refused c.update.result) (lent (head_of (scalars_of a.header) l.lens l.flags) l.counters l.norms l.entries l.counts)
+    ≡ sent_after a.kind (number (begin_tests (scalars_of a.header) a.weight (mode_of a.kind))) a.«record».now a.weight (length a.list.now) (lent c.args.header c.args.counters.now c.args.norms.now c.args.entries.now c.args.counts.now)
+left_is c =
+    let a = c.args in
+    let e : refused c.begins.result ≡ number (begin_tests (scalars_of a.header) a.weight (mode_of a.kind)) =
+    c.begins.ensures
+    ∙ ap (λ (b : Answered). b.refusal) (rw (to_z-of_z c.ranges.weight, c.mode_of.ensures) at c.begin_update-begun.ensures)
+    ∙ header_number a.header a.weight (mode_of a.kind) in
+    rw (to_z-of_z c.ranges.weight, c.scalars.ensures, e) at c.update.ensures.counts_value
 
 -- the list is that of the whole call
-told : (c : After-update-refusal) → let a = c.args in c.update-refusal.new.list ≡ list_left c.update-refusal.result (update_answers a.kind (view ((lent c.args.header c.args.counters.now c.args.norms.now c.args.entries.now c.args.counts.now))) a.«record».now a.weight) a.list.now
-told c = rw (to_z-of_z c.ranges.weight, c.scalars.ensures) at c.update-refusal.ensures.list_after
+told : (c : After-update) → let a = c.args in c.update.new.list ≡ list_left (refused c.update.result) (update_answers a.kind (view (lent c.args.header c.args.counters.now c.args.norms.now c.args.entries.now c.args.counts.now)) a.«record».now a.weight) a.list.now
+told c = rw (to_z-of_z c.ranges.weight, c.scalars.ensures) at c.update.ensures.list_after
 
 -- the header has 19 lengths and flags
 same-call : (c : After-flags-2-1) → let a = c.args in left_by ((lent c.args.header c.args.counters.now c.args.norms.now c.args.entries.now c.args.counts.now)) (lent_update_list_call a.kind ((lent c.args.header c.args.counters.now c.args.norms.now c.args.entries.now c.args.counts.now)) a.«record».now a.weight (length a.list.now))
@@ -50,23 +61,41 @@ slice_bounds-update-end c = let h = c.well_formed.1.0 in search (rules, h.1.1.1.
 pub slice_bounds-update-end-2 : goal.slice_bounds-update-end-2
 slice_bounds-update-end-2 c = let h = c.well_formed.1.0 in search (rules, h.1.1.1.1.1.0.1.0.1)
 
-pub update-refusal-requires : goal.update-refusal-requires
-update-refusal-requires c = λ z. let a = c.args in rw (to_z-of_z c.ranges.weight) (begin-light (scalars_of a.header) a.weight (mode_of a.kind) (sym (number_is (goal.at.update-refusal-requires c).After-begin_update-begun) ∙ z))
+pub update-requires : goal.update-requires
+update-requires c = λ z. let a = c.args in rw (to_z-of_z c.ranges.weight) (begin-light (scalars_of a.header) a.weight (mode_of a.kind) (sym (number_is (goal.at.update-requires c).After-begins) ∙ z))
 
-pub returns-then-refusal-ne0 : goal.returns-then-refusal-ne0
-returns-then-refusal-ne0 c =
+pub returns-in_err-update : goal.returns-in_err-update
+returns-in_err-update c =
     let a = c.args in
-    let q = call_refused a.kind (lent_of (goal.at.returns-then-refusal-ne0 c).Start) a.«record».now a.weight (length a.list.now) c.update-refusal.result _ (left_is (goal.at.returns-then-refusal-ne0 c).After-update-refusal) c.if-refusal-ne0.true in
-    record {
-      counts_value = rw c.with_layers.ensures (ap (left c.update-refusal.result) q.0 ∙ q.1 ∙ same-call (goal.at.returns-then-refusal-ne0 c).After-flags-2-1);
-      list_after = told (goal.at.returns-then-refusal-ne0 c).After-update-refusal;
-    }
+    let p = err_from_is_err_and c.from_residual.result c.from_residual.ensures.1 in
+    let e = c.in_err-update.field-0.0 in
+    let z : refused c.update.result ≡ number_of e = ap refused c.in_err-update.was in
+    let q = call_refused a.kind (lent_of (goal.at.returns-in_err-update c).Start) a.«record».now a.weight (length a.list.now) (refused c.update.result) _ (left_is (goal.at.returns-in_err-update c).After-update) (λ k. number-ne0 e (sym z ∙ k)) in
+    rw (p.1, p.2) (record {
+      counts_value =
+          ap (λ (t : Lent). left (number_of e) (lent a.header t.counters t.norms t.entries t.counts)) q.0
+          ∙ rw z at q.1
+          ∙ same-call (goal.at.returns-in_err-update c).After-flags-2-1;
+      list_after = rw z at (told (goal.at.returns-in_err-update c).After-update);
+    })
+
+-- an update that is made has begun
+pub returns-in_err-begun : goal.returns-in_err-begun
+returns-in_err-begun c =
+    let a = c.args in
+    let q = call_done a.kind (lent_of (goal.at.returns-in_err-begun c).Start) a.«record».now a.weight (length a.list.now) (refused c.update.result) _ (left_is (goal.at.returns-in_err-begun c).After-update) (ap refused c.in_ok-update.was) in
+    let n : number_of c.in_err-begun.field-0.0 ≡ 0 =
+    ap (λ (b : Answered). b.refusal) (rw (to_z-of_z c.ranges.weight, c.mode_of.ensures) at c.in_err-begun.ensures)
+    ∙ header_number a.header a.weight (mode_of a.kind)
+    ∙ q.0 in
+    absurd (number-ne0 c.in_err-begun.field-0.0 n)
 
 pub returns : goal.returns
 returns c =
     let a = c.args in
-    let q = call_done a.kind (lent_of (goal.at.returns c).Start) a.«record».now a.weight (length a.list.now) c.update-refusal.result _ (left_is (goal.at.returns c).After-update-refusal) c.if-refusal-ne0.false in
-    let z : c.begin_update-begun.result.refusal ≡ 0 = number_is (goal.at.returns c).After-begin_update-begun ∙ q.0 in record {
-      counts_value = rw (c.with_layers-2.ensures, header_begun a.header a.weight (mode_of a.kind) c.begin_update-begun.result (begins (goal.at.returns c).After-begin_update-begun) z) (q.1 ∙ same-call (goal.at.returns c).After-flags-2-1);
-      list_after = rw c.if-refusal-ne0.false at (told (goal.at.returns c).After-update-refusal);
+    let done : refused c.update.result ≡ 0 = ap refused c.in_ok-update.was in
+    let q = call_done a.kind (lent_of (goal.at.returns c).Start) a.«record».now a.weight (length a.list.now) (refused c.update.result) _ (left_is (goal.at.returns c).After-update) done in
+    let b = rw (to_z-of_z c.ranges.weight, c.mode_of.ensures) at c.in_ok-begun.ensures in record {
+      counts_value = rw (c.with_layers.ensures, header_begun a.header a.weight (mode_of a.kind) (answered_by a.header (Ok c.in_ok-begun.field-0)) b refl) (q.1 ∙ same-call (goal.at.returns c).After-flags-2-1);
+      list_after = rw done at (told (goal.at.returns c).After-update);
     }

@@ -13,7 +13,7 @@ lengths_match-requires c = accepted_of c.args.shape c.requires
 
 pub returns-then-not-lengths_match : goal.returns-then-not-lengths_match
 unfolding new_call
-returns-then-not-lengths_match c = simp (eq-eqb (shape_refusal c.args.shape) 0 c.requires, sym c.lengths_match.ensures ∙ c.if-not-lengths_match.true, c.zero.ensures)
+returns-then-not-lengths_match c = simp (eq-eqb (shape_refusal c.args.shape) 0 c.requires, sym c.lengths_match.ensures ∙ c.if-not-lengths_match.true)
 
 pub fresh-requires : goal.fresh-requires
 fresh-requires c = omega (arith, (accepted_of c.args.shape c.requires).few)

@@ -20,32 +20,23 @@ lent_of c = lent (head_of c.args.h c.args.lens.now c.args.flags.now) c.args.coun
 abbrev tested : ℕ → Start → ℕ → ℕ → Bool
 tested w c k i = let a = c.args in all_layers (reads_at a.h.shape a.«record».now w) k i (view (lent_of c))
 
-pub overflow_add-end : goal.overflow_add-end
-overflow_add-end c = let p = c.requires in record { fits = omega (arith, p.inside, p.standing.accepted.few) }
-
 pub loop-l-init : goal.loop-l-init
 loop-l-init c = λ w. let a = c.args in scan_start (tested w (goal.at.loop-l-init c).Start) a.many a.first
 
 pub reads_at-requires : goal.reads_at-requires
-reads_at-requires c = let a = c.args in judge-one (lent_of (goal.at.reads_at-requires c).Start) a.«record».now 0 a.many a.first c.loop-l.l c.requires (omega (arith, c.loop-l-test.true))
+reads_at-requires c = let a = c.args in judge-one (lent_of (goal.at.reads_at-requires c).Start) a.«record».now 0 a.many a.first c.loop-l.l c.requires (omega arith)
 
 pub returns-then-not-reads_at : goal.returns-then-not-reads_at
 returns-then-not-reads_at c = λ w.
     let a = c.args in
-    scan_stop (tested w (goal.at.returns-then-not-reads_at c).Start) a.many a.first c.loop-l.l _ (c.loop-l.invariant w) (omega (arith, c.loop-l-test.true)) (λ k. layers-step _ (view (lent_of (goal.at.returns-then-not-reads_at c).Start)) k c.loop-l.l) (sym (c.reads_at.ensures w) ∙ c.if-not-reads_at.true)
-
-pub overflow_add-l : goal.overflow_add-l
-overflow_add-l c = let p = c.requires in record { fits = omega (arith, p.inside, p.standing.accepted.few, c.loop-l-test.true) }
-
-pub loop-l-smaller : goal.loop-l-smaller
-loop-l-smaller c = omega (arith, c.loop-l-test.true)
+    scan_stop (tested w (goal.at.returns-then-not-reads_at c).Start) a.many a.first c.loop-l.l _ (c.loop-l.invariant w) (omega arith) (λ k. layers-step _ (view (lent_of (goal.at.returns-then-not-reads_at c).Start)) k c.loop-l.l) (sym (c.reads_at.ensures w) ∙ c.if-not-reads_at.true)
 
 pub loop-l-preserved : goal.loop-l-preserved
 loop-l-preserved c = λ w.
     let a = c.args in
-    scan_on (tested w (goal.at.loop-l-preserved c).Start) a.many a.first c.loop-l.l _ (c.loop-l.invariant w) (omega (arith, c.loop-l-test.true)) (λ k. layers-step _ (view (lent_of (goal.at.loop-l-preserved c).Start)) k c.loop-l.l) (sym (c.reads_at.ensures w) ∙ c.if-not-reads_at.false)
+    scan_on (tested w (goal.at.loop-l-preserved c).Start) a.many a.first c.loop-l.l _ (c.loop-l.invariant w) (omega arith) (λ k. layers-step _ (view (lent_of (goal.at.loop-l-preserved c).Start)) k c.loop-l.l) (sym (c.reads_at.ensures w) ∙ c.if-not-reads_at.false)
 
 pub returns : goal.returns
 returns c = λ w.
     let a = c.args in
-    scan_end (tested w (goal.at.returns c).Start) a.many a.first c.loop-l.l (c.loop-l.invariant w) (omega (arith, c.loop-l-test.false)) (layers-none _ (view (lent_of (goal.at.returns c).Start)) c.loop-l.l)
+    scan_end (tested w (goal.at.returns c).Start) a.many a.first c.loop-l.l (c.loop-l.invariant w) (omega arith) (layers-none _ (view (lent_of (goal.at.returns c).Start)) c.loop-l.l)

@@ -20,32 +20,23 @@ lent_of c = lent (head_of c.args.h c.args.lens.now c.args.flags.now) c.args.coun
 abbrev tested : Start → ℕ → ℕ → Bool
 tested c k i = let a = c.args in all_layers (ready_at a.h.shape a.«record».now a.weight) k i (view (lent_of c))
 
-pub overflow_add-end : goal.overflow_add-end
-overflow_add-end c = let p = c.requires in record { fits = omega (arith, p.inside, p.standing.accepted.few) }
-
 pub loop-l-init : goal.loop-l-init
 loop-l-init c = let a = c.args in scan_start (tested (goal.at.loop-l-init c).Start) a.many a.first
 
 pub ready_at-requires : goal.ready_at-requires
-ready_at-requires c = let a = c.args in judge-one (lent_of (goal.at.ready_at-requires c).Start) a.«record».now a.weight a.many a.first c.loop-l.l c.requires (omega (arith, c.loop-l-test.true))
+ready_at-requires c = let a = c.args in judge-one (lent_of (goal.at.ready_at-requires c).Start) a.«record».now a.weight a.many a.first c.loop-l.l c.requires (omega arith)
 
 pub returns-then-not-ready_at : goal.returns-then-not-ready_at
 returns-then-not-ready_at c =
     let a = c.args in
-    scan_stop (tested (goal.at.returns-then-not-ready_at c).Start) a.many a.first c.loop-l.l _ c.loop-l.invariant (omega (arith, c.loop-l-test.true)) (λ k. layers-step _ (view (lent_of (goal.at.returns-then-not-ready_at c).Start)) k c.loop-l.l) (sym c.ready_at.ensures ∙ c.if-not-ready_at.true)
-
-pub overflow_add-l : goal.overflow_add-l
-overflow_add-l c = let p = c.requires in record { fits = omega (arith, p.inside, p.standing.accepted.few, c.loop-l-test.true) }
-
-pub loop-l-smaller : goal.loop-l-smaller
-loop-l-smaller c = omega (arith, c.loop-l-test.true)
+    scan_stop (tested (goal.at.returns-then-not-ready_at c).Start) a.many a.first c.loop-l.l _ c.loop-l.invariant (omega arith) (λ k. layers-step _ (view (lent_of (goal.at.returns-then-not-ready_at c).Start)) k c.loop-l.l) (sym c.ready_at.ensures ∙ c.if-not-ready_at.true)
 
 pub loop-l-preserved : goal.loop-l-preserved
 loop-l-preserved c =
     let a = c.args in
-    scan_on (tested (goal.at.loop-l-preserved c).Start) a.many a.first c.loop-l.l _ c.loop-l.invariant (omega (arith, c.loop-l-test.true)) (λ k. layers-step _ (view (lent_of (goal.at.loop-l-preserved c).Start)) k c.loop-l.l) (sym c.ready_at.ensures ∙ c.if-not-ready_at.false)
+    scan_on (tested (goal.at.loop-l-preserved c).Start) a.many a.first c.loop-l.l _ c.loop-l.invariant (omega arith) (λ k. layers-step _ (view (lent_of (goal.at.loop-l-preserved c).Start)) k c.loop-l.l) (sym c.ready_at.ensures ∙ c.if-not-ready_at.false)
 
 pub returns : goal.returns
 returns c =
     let a = c.args in
-    scan_end (tested (goal.at.returns c).Start) a.many a.first c.loop-l.l c.loop-l.invariant (omega (arith, c.loop-l-test.false)) (layers-none _ (view (lent_of (goal.at.returns c).Start)) c.loop-l.l)
+    scan_end (tested (goal.at.returns c).Start) a.many a.first c.loop-l.l c.loop-l.invariant (omega arith) (layers-none _ (view (lent_of (goal.at.returns c).Start)) c.loop-l.l)

@@ -2,57 +2,73 @@
 use mathlib.Core.Path.{◌≡◌, sym, ap, ◌∙◌}
 use lib.ListN.{length}
 use mir.Facts.{to_z-of_z}
-use Rattle.header.specs.Header.{head_of, begin_of, begin_tests}
+use Rattle.header.specs.Header.{head_of, begin_tests}
 use Rattle.layout.specs.Slices.{lent, view, Lent}
 use Rattle.layout.specs.Outcomes.{left}
 use Rattle.univmon.specs.inner.Needs.{sent_after}
-use Rattle.header.specs.declared.AnsweredLent.{AnsweredLent}
+use Rattle.header.specs.Answers.{AnsweredLent, answered_lent_by}
+use Rattle.std.proofs.lemmas.Result.{err_from_is_err_and}
+use Rattle.refusal.specs.Refusals.{number_of, refused}
+use Rattle.refusal.proofs.Numbers.{number-ne0}
 use Rattle.words.specs.Tests.{number}
 use Rattle.header.proofs.Steps.{begun_is, begin-number, begin-light}
 use Rattle.univmon.specs.Updates.{mode_of, update_answers}
 use Rattle.layout.specs.Answers.{list_left}
 use Rattle.univmon.proofs.Updating.{call_refused, call_done}
 use Rattle.univmon.proofs.lent.update_lent.Goals as goal
-use Rattle.univmon.proofs.lent.update_lent.Goals.{After-begin_update-begun, After-update-refusal, Start}
+use Rattle.univmon.proofs.lent.update_lent.Goals.{After-begins, After-update, Start}
 
 -- the state that is lent
 abbrev lent_of : Start → Lent
 lent_of c = lent (head_of c.args.scalars c.args.lens.now c.args.flags.now) c.args.counters.now c.args.norms.now c.args.entries.now c.args.counts.now
 
--- what the tests of weight and mode answered
-begins : (c : After-begin_update-begun) → c.begin_update-begun.result ≡ begin_of c.args.scalars c.args.weight (mode_of c.args.kind)
-begins c = rw (to_z-of_z c.ranges.weight, c.mode_of.ensures) at c.begin_update-begun.ensures
-
-number_is : (c : After-begin_update-begun) → c.begin_update-begun.result.refusal ≡ number (begin_tests c.args.scalars c.args.weight (mode_of c.args.kind))
-number_is c = let a = c.args in ap (λ (b : AnsweredLent). b.refusal) (begins c) ∙ begin-number a.scalars a.weight (mode_of a.kind)
+-- the number that weight and mode are refused with
+number_is : (c : After-begins) → refused c.begins.result ≡ number (begin_tests c.args.scalars c.args.weight (mode_of c.args.kind))
+number_is c =
+    let a = c.args in
+    c.begins.ensures
+    ∙ ap (λ (b : AnsweredLent). b.refusal) (rw (to_z-of_z c.ranges.weight, c.mode_of.ensures) at c.begin_update-begun.ensures)
+    ∙ begin-number a.scalars a.weight (mode_of a.kind)
 
 -- what all but the beginning left
-left_is : (c : After-update-refusal) → let a = c.args in let l = c.update-refusal.new in
-    left c.update-refusal.result (lent (head_of a.scalars l.lens l.flags) l.counters l.norms l.entries l.counts)
-    ≡ sent_after a.kind (number (begin_tests a.scalars a.weight (mode_of a.kind))) a.«record».now a.weight (length a.list.now) ((lent (head_of c.args.scalars c.args.lens.now c.args.flags.now) c.args.counters.now c.args.norms.now c.args.entries.now c.args.counts.now))
-left_is c = rw (to_z-of_z c.ranges.weight, (let h-number_is : c.begin_update-begun.result.refusal ≡ number (begin_tests c.args.scalars c.args.weight (mode_of c.args.kind)) = let a = c.args in ap (λ (b : AnsweredLent). b.refusal) ((let h-begins : c.begin_update-begun.result ≡ begin_of c.args.scalars c.args.weight (mode_of c.args.kind) = rw (to_z-of_z c.ranges.weight, c.mode_of.ensures) at c.begin_update-begun.ensures in h-begins)) ∙ begin-number a.scalars a.weight (mode_of a.kind) in h-number_is)) at c.update-refusal.ensures.counts_value
+left_is : (c : After-update) → let a = c.args in let l = c.update.new in
+    left (refused c.update.result) (lent (head_of a.scalars l.lens l.flags) l.counters l.norms l.entries l.counts)
+    ≡ sent_after a.kind (number (begin_tests a.scalars a.weight (mode_of a.kind))) a.«record».now a.weight (length a.list.now) (lent (head_of c.args.scalars c.args.lens.now c.args.flags.now) c.args.counters.now c.args.norms.now c.args.entries.now c.args.counts.now)
+left_is c =
+    let a = c.args in
+    let e : refused c.begins.result ≡ number (begin_tests a.scalars a.weight (mode_of a.kind)) =
+    c.begins.ensures
+    ∙ ap (λ (b : AnsweredLent). b.refusal) (rw (to_z-of_z c.ranges.weight, c.mode_of.ensures) at c.begin_update-begun.ensures)
+    ∙ begin-number a.scalars a.weight (mode_of a.kind) in
+    rw (to_z-of_z c.ranges.weight, e) at c.update.ensures.counts_value
 
 -- the list is that of the whole call
-told : (c : After-update-refusal) → let a = c.args in c.update-refusal.new.list ≡ list_left c.update-refusal.result (update_answers a.kind (view ((lent (head_of c.args.scalars c.args.lens.now c.args.flags.now) c.args.counters.now c.args.norms.now c.args.entries.now c.args.counts.now))) a.«record».now a.weight) a.list.now
-told c = rw (to_z-of_z c.ranges.weight) at c.update-refusal.ensures.list_after
+told : (c : After-update) → let a = c.args in c.update.new.list ≡ list_left (refused c.update.result) (update_answers a.kind (view (lent (head_of c.args.scalars c.args.lens.now c.args.flags.now) c.args.counters.now c.args.norms.now c.args.entries.now c.args.counts.now)) a.«record».now a.weight) a.list.now
+told c = rw (to_z-of_z c.ranges.weight) at c.update.ensures.list_after
 
-pub update-refusal-requires : goal.update-refusal-requires
-update-refusal-requires c = λ z. let a = c.args in rw (to_z-of_z c.ranges.weight) (begin-light a.scalars a.weight (mode_of a.kind) (sym (number_is (goal.at.update-refusal-requires c).After-begin_update-begun) ∙ z))
+pub update-requires : goal.update-requires
+update-requires c = λ z. let a = c.args in rw (to_z-of_z c.ranges.weight) (begin-light a.scalars a.weight (mode_of a.kind) (sym (number_is (goal.at.update-requires c).After-begins) ∙ z))
 
-pub returns-then-refusal-ne0 : goal.returns-then-refusal-ne0
-returns-then-refusal-ne0 c =
+pub returns-in_err-update : goal.returns-in_err-update
+returns-in_err-update c =
     let a = c.args in
-    let q = call_refused a.kind (lent_of (goal.at.returns-then-refusal-ne0 c).Start) a.«record».now a.weight (length a.list.now) c.update-refusal.result _ (left_is (goal.at.returns-then-refusal-ne0 c).After-update-refusal) c.if-refusal-ne0.true in
-    record {
-      counts_value = ap (left c.update-refusal.result) q.0 ∙ q.1;
-      list_after = told (goal.at.returns-then-refusal-ne0 c).After-update-refusal;
-    }
+    let p = err_from_is_err_and c.from_residual.result c.from_residual.ensures.1 in
+    let e = c.in_err-update.field-0.0 in
+    let z : refused c.update.result ≡ number_of e = ap refused c.in_err-update.was in
+    let q = call_refused a.kind (lent_of (goal.at.returns-in_err-update c).Start) a.«record».now a.weight (length a.list.now) (refused c.update.result) _ (left_is (goal.at.returns-in_err-update c).After-update) (λ k. number-ne0 e (sym z ∙ k)) in
+    rw (p.1, p.2) (record {
+      counts_value = ap (left (number_of e)) q.0 ∙ rw z at q.1;
+      list_after = rw z at (told (goal.at.returns-in_err-update c).After-update);
+    })
 
+-- an update that is made has begun
 pub returns : goal.returns
 returns c =
     let a = c.args in
-    let q = call_done a.kind (lent_of (goal.at.returns c).Start) a.«record».now a.weight (length a.list.now) c.update-refusal.result _ (left_is (goal.at.returns c).After-update-refusal) c.if-refusal-ne0.false in
-    let z : c.begin_update-begun.result.refusal ≡ 0 = number_is (goal.at.returns c).After-begin_update-begun ∙ q.0 in record {
-      counts_value = rw (z, begun_is a.scalars a.weight (mode_of a.kind) c.begin_update-begun.result (begins (goal.at.returns c).After-begin_update-begun) z) q.1;
-      list_after = rw (c.if-refusal-ne0.false, sym z) at (told (goal.at.returns c).After-update-refusal);
+    let done : refused c.update.result ≡ 0 = ap refused c.in_ok-update.was in
+    let q = call_done a.kind (lent_of (goal.at.returns c).Start) a.«record».now a.weight (length a.list.now) (refused c.update.result) _ (left_is (goal.at.returns c).After-update) done in
+    let b = rw (to_z-of_z c.ranges.weight, c.mode_of.ensures) at c.begin_update-begun.ensures in
+    let z : refused c.begin_update-begun.result ≡ 0 = ap (λ (n : AnsweredLent). n.refusal) b ∙ begin-number a.scalars a.weight (mode_of a.kind) ∙ q.0 in record {
+      counts_value = rw (z, begun_is a.scalars a.weight (mode_of a.kind) (answered_lent_by a.scalars c.begin_update-begun.result) b z) q.1;
+      list_after = rw (done, sym z) at (told (goal.at.returns c).After-update);
     }

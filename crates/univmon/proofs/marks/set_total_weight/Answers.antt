@@ -30,8 +30,6 @@ returns c =
       in-range (goal.at.returns c).Else-not-in_range,
       sym c.clashes.ensures ∙ c.if-clashes.false,
       le-ltb _ _ c.if-weight-gt-MAX_WEIGHT.false,
-      c.with_mode.ensures,
-      c.with_totals.ensures,
       c.with_weight.ensures,
-      c.join-settled.ensures,
+      c.join.ensures,
     )

@@ -1,64 +1,26 @@
 -- `univmon::update::send_first` meets its contract.
 use Prim.Native.Nat.{◌<◌}
-use mathlib.Core.Path.{◌≡◌, refl, sym, ◌∙◌}
 use mathlib.Core.Bool.{true, false}
 use lib.ListN.{get_or}
 use native.Mathlib.Omega.{arith}
 use borrow.Author.Rules.{rules}
-use borrow.Author.Tests.{not-true, not-false}
 use Rattle.header.specs.Header.{head_of}
-use Rattle.layout.specs.Slices.{lent, view, Lent}
-use Rattle.univmon.specs.inner.Needs.{ready_at}
-use Rattle.words.proofs.Bools.{never}
-use Rattle.layout.specs.State.{layer_at}
-use Rattle.layout.proofs.Handed.{Spanned, cell_piece, norm_piece, word_piece, seat_piece, housed, word-length, handed_back, Back}
+use Rattle.layout.specs.Slices.{lent}
+use Rattle.layout.proofs.Handed.{Spanned, cell_piece, norm_piece, word_piece, seat_piece, housed, word-length, Back}
 use Rattle.univmon.proofs.Sends.{sent-one, ready_handed, noted}
 use Rattle.univmon.proofs.update.send_first.Goals as goal
-use Rattle.univmon.proofs.update.send_first.Goals.{After-add_if_ready-tried, After-counts-1, After-span_of-s, Else-not-tried, Start, Then-not-tried}
+use Rattle.univmon.proofs.update.send_first.Goals.{After-add_if_ready, After-span_of-s}
 
--- the state that is lent, and where its layer stands
-abbrev lent_of : Start → Lent
-lent_of c = lent (head_of c.args.h c.args.lens.now c.args.flags.now) c.args.counters.now c.args.norms.now c.args.entries.now c.args.counts.now
-
-inside : (c : Start) → c.args.l < c.args.h.shape.layers
-inside c = omega (arith, c.requires.judge_ready.inside)
-
+-- where the layer of the lent state stands
 spanned : (c : After-span_of-s) → Spanned ((lent (head_of c.args.h c.args.lens.now c.args.flags.now) c.args.counters.now c.args.norms.now c.args.entries.now c.args.counts.now)) c.args.l c.span_of-s.result
 spanned c = record { standing = c.requires.judge_ready.standing; inside = (let h-inside : c.args.l < c.args.h.shape.layers = omega (arith, c.requires.judge_ready.inside) in h-inside); is = c.span_of-s.ensures }
 
--- whether the update was made is whether the layer was ready
-made-is : (c : After-add_if_ready-tried) → let a = c.args in c.add_if_ready-tried.result.made ≡ ready_at a.h.shape a.«record».now a.weight a.l (layer_at (view ((lent (head_of c.args.h c.args.lens.now c.args.flags.now) c.args.counters.now c.args.norms.now c.args.entries.now c.args.counts.now))) a.l)
-made-is c =
-    let a = c.args in
-    ready_handed a.«record».now a.weight ((let h-spanned : Spanned ((lent (head_of c.args.h c.args.lens.now c.args.flags.now) c.args.counters.now c.args.norms.now c.args.entries.now c.args.counts.now)) c.args.l c.span_of-s.result = record { standing = c.requires.judge_ready.standing; inside = (let h-inside : c.args.l < c.args.h.shape.layers = omega (arith, c.requires.judge_ready.inside) in h-inside); is = c.span_of-s.ensures } in h-spanned)) _ (rw (c.dims-d.ensures, c.item_in-item.ensures) at (c.add_if_ready-tried.ensures.made_value (get_or a.flags.now a.l false)))
-
-not_made : (c : Then-not-tried) → c.add_if_ready-tried.result.made ≡ false
-not_made c = not-true _ c.if-not-tried.true
-
-is_made : (c : Else-not-tried) → c.add_if_ready-tried.result.made ≡ true
-is_made c = not-false _ c.if-not-tried.false
-
 -- the parts that came back
-back : (c : After-counts-1) (q : Spanned ((lent (head_of c.args.h c.args.lens.now c.args.flags.now) c.args.counters.now c.args.norms.now c.args.entries.now c.args.counts.now)) c.args.l c.span_of-s.result) → let l = c.add_if_ready-tried.new in Back q l.counters l.norms l.entries l.counts
-back c q = record { cells = c.counters-1.given.0; norms = c.norms-1.given.0; words = c.entries-1.given.0; seats = c.counts-1.given.0 }
+back : (c : After-add_if_ready) (q : Spanned ((lent (head_of c.args.h c.args.lens.now c.args.flags.now) c.args.counters.now c.args.norms.now c.args.entries.now c.args.counts.now)) c.args.l c.span_of-s.result) → let l = c.add_if_ready.new in Back q l.counters l.norms l.entries l.counts
+back c q = let l = c.add_if_ready.auto in record { cells = l.counters; norms = l.norms; words = l.entries; seats = l.counts }
 
-pub span_of-s-requires : goal.span_of-s-requires
-span_of-s-requires c = record {
-  accepted = c.requires.judge_ready.standing.accepted;
-  l_lt_layers = inside (goal.at.span_of-s-requires c).Start;
-}
-
-pub item_in-item-requires : goal.item_in-item-requires
-item_in-item-requires c = let p = c.requires.judge_ready in (omega (arith, p.inside, p.standing.accepted.few), omega (arith, p.inside, p.recorded))
-
-pub offset_bounds-lens-l : goal.offset_bounds-lens-l
-offset_bounds-lens-l c = let p = c.requires.judge_ready in let q = p.standing.accepted.few in let i = inside (goal.at.offset_bounds-lens-l c).Start in let hl = p.headed.lens in search rules
-
-pub bounds-lens-l : goal.bounds-lens-l
-bounds-lens-l c = let p = c.requires.judge_ready in let q = p.standing.accepted.few in let i = inside (goal.at.bounds-lens-l c).Start in let hl = p.headed.lens in search rules
-
-pub offset_bounds-counters-ca : goal.offset_bounds-counters-ca
-offset_bounds-counters-ca c = let b = cell_piece (spanned (goal.at.offset_bounds-counters-ca c).After-span_of-s) in search rules
+pub offset_bounds-counters-s : goal.offset_bounds-counters-s
+offset_bounds-counters-s c = let b = cell_piece (spanned (goal.at.offset_bounds-counters-s c).After-span_of-s) in search rules
 
 pub slice_bounds-add_if_ready-count : goal.slice_bounds-add_if_ready-count
 slice_bounds-add_if_ready-count c = let b = cell_piece (spanned (goal.at.slice_bounds-add_if_ready-count c).After-span_of-s) in search rules
@@ -69,8 +31,8 @@ slice_bounds-add_if_ready-start c = let b = cell_piece (spanned (goal.at.slice_b
 pub slice_bounds-add_if_ready-end : goal.slice_bounds-add_if_ready-end
 slice_bounds-add_if_ready-end c = let b = cell_piece (spanned (goal.at.slice_bounds-add_if_ready-end c).After-span_of-s) in search rules
 
-pub offset_bounds-norms-na : goal.offset_bounds-norms-na
-offset_bounds-norms-na c = let b = norm_piece (spanned (goal.at.offset_bounds-norms-na c).After-span_of-s) in search rules
+pub offset_bounds-norms-s : goal.offset_bounds-norms-s
+offset_bounds-norms-s c = let b = norm_piece (spanned (goal.at.offset_bounds-norms-s c).After-span_of-s) in search rules
 
 pub slice_bounds-add_if_ready-count-2 : goal.slice_bounds-add_if_ready-count-2
 slice_bounds-add_if_ready-count-2 c = let b = norm_piece (spanned (goal.at.slice_bounds-add_if_ready-count-2 c).After-span_of-s) in search rules
@@ -81,8 +43,8 @@ slice_bounds-add_if_ready-start-2 c = let b = norm_piece (spanned (goal.at.slice
 pub slice_bounds-add_if_ready-end-2 : goal.slice_bounds-add_if_ready-end-2
 slice_bounds-add_if_ready-end-2 c = let b = norm_piece (spanned (goal.at.slice_bounds-add_if_ready-end-2 c).After-span_of-s) in search rules
 
-pub offset_bounds-entries-ea : goal.offset_bounds-entries-ea
-offset_bounds-entries-ea c = let b = word_piece (spanned (goal.at.offset_bounds-entries-ea c).After-span_of-s) in search rules
+pub offset_bounds-entries-s : goal.offset_bounds-entries-s
+offset_bounds-entries-s c = let b = word_piece (spanned (goal.at.offset_bounds-entries-s c).After-span_of-s) in search rules
 
 pub slice_bounds-add_if_ready-count-3 : goal.slice_bounds-add_if_ready-count-3
 slice_bounds-add_if_ready-count-3 c = let b = word_piece (spanned (goal.at.slice_bounds-add_if_ready-count-3 c).After-span_of-s) in search rules
@@ -93,8 +55,8 @@ slice_bounds-add_if_ready-start-3 c = let b = word_piece (spanned (goal.at.slice
 pub slice_bounds-add_if_ready-end-3 : goal.slice_bounds-add_if_ready-end-3
 slice_bounds-add_if_ready-end-3 c = let b = word_piece (spanned (goal.at.slice_bounds-add_if_ready-end-3 c).After-span_of-s) in search rules
 
-pub offset_bounds-counts-ta : goal.offset_bounds-counts-ta
-offset_bounds-counts-ta c = let b = seat_piece (spanned (goal.at.offset_bounds-counts-ta c).After-span_of-s) in search rules
+pub offset_bounds-counts-s : goal.offset_bounds-counts-s
+offset_bounds-counts-s c = let b = seat_piece (spanned (goal.at.offset_bounds-counts-s c).After-span_of-s) in search rules
 
 pub slice_bounds-add_if_ready-count-4 : goal.slice_bounds-add_if_ready-count-4
 slice_bounds-add_if_ready-count-4 c = let b = seat_piece (spanned (goal.at.slice_bounds-add_if_ready-count-4 c).After-span_of-s) in search rules
@@ -105,44 +67,30 @@ slice_bounds-add_if_ready-start-4 c = let b = seat_piece (spanned (goal.at.slice
 pub slice_bounds-add_if_ready-end-4 : goal.slice_bounds-add_if_ready-end-4
 slice_bounds-add_if_ready-end-4 c = let b = seat_piece (spanned (goal.at.slice_bounds-add_if_ready-end-4 c).After-span_of-s) in search rules
 
-pub add_if_ready-tried-requires : goal.add_if_ready-tried-requires
-add_if_ready-tried-requires c = rw c.dims-d.ensures (record {
-  housed = housed (spanned (goal.at.add_if_ready-tried-requires c).After-span_of-s);
-  entries_len = (word-length (spanned (goal.at.add_if_ready-tried-requires c).After-span_of-s), c.requires.judge_ready.light);
+pub add_if_ready-requires : goal.add_if_ready-requires
+add_if_ready-requires c = rw c.dims-d.ensures (record {
+  housed = housed (spanned (goal.at.add_if_ready-requires c).After-span_of-s);
+  entries_len = (word-length (spanned (goal.at.add_if_ready-requires c).After-span_of-s), c.requires.judge_ready.light);
 })
 
-pub returns-then-not-tried : goal.returns-then-not-tried
-returns-then-not-tried c =
-    let k = c.add_if_ready-tried.ensures.untouched (not_made (goal.at.returns-then-not-tried c).Then-not-tried) in record {
-      value = sym (not_made (goal.at.returns-then-not-tried c).Then-not-tried) ∙ made-is (goal.at.returns-then-not-tried c).After-add_if_ready-tried;
-      sent_one = λ t. absurd (never t);
-      counts_value = λ t. (handed_back (lent_of (goal.at.returns-then-not-tried c).Start) c.span_of-s.result _ _ _ _ k.0 k.1.0 k.1.1.0 k.1.1.1, refl);
-    }
-
-pub zero_places-requires : goal.zero_places-requires
-zero_places-requires c = (omega (arith, c.requires.judge_ready.standing.accepted.few), c.requires.layers_in_bounds)
-
-pub note-requires : goal.note-requires
-note-requires c =
-    let p = c.requires.judge_ready in
-    let i = inside (goal.at.note-requires c).Start in
-    let f = p.standing.accepted.few in record {
-      l_in_bounds = (omega (arith, i, f, p.headed.lens), (omega (arith, i, f, p.headed.flags), omega (arith, i, c.requires.layers_in_bounds, c.zero_places.auto.list)));
-      len_le_most_cands = omega (arith, p.standing.lens c.args.l i, p.standing.accepted.small);
-    }
-
-pub shape_of-list : goal.shape_of-list
-shape_of-list c = c.note.auto.list ∙ c.zero_places.auto.list
-
-pub returns : goal.returns
-returns c =
+pub returns-in_default-clause-value : goal.returns-in_default-clause-value
+returns-in_default-clause-value c =
     let a = c.args in
-    let f = get_or a.flags.now a.l false in record {
-      value = sym (is_made (goal.at.returns c).Else-not-tried) ∙ made-is (goal.at.returns c).After-add_if_ready-tried;
-      sent_one = λ t. sent-one a.«record».now a.weight (spanned (goal.at.returns c).After-span_of-s) _ _ _ _ c.add_if_ready-tried.result.answer _ _ _ (back (goal.at.returns c).After-counts-1 (spanned (goal.at.returns c).After-span_of-s))
-          (rw (c.dims-d.ensures, c.item_in-item.ensures) at (c.add_if_ready-tried.ensures.answer_value (is_made (goal.at.returns c).Else-not-tried) f))
-          (rw (c.dims-d.ensures, c.item_in-item.ensures) at (c.add_if_ready-tried.ensures.answer_value_2 (is_made (goal.at.returns c).Else-not-tried) f))
-          (noted a.h a.lens.now a.flags.now a.l _ _ _ _ c.note.ensures.lens_after c.note.ensures.flags_after)
-          (rw c.zero_places.ensures at c.note.ensures.list_after);
-      counts_value = λ t. absurd (never (sym t));
-    }
+    ready_handed a.«record».now a.weight (spanned (goal.at.returns-in_default-clause-value c).After-span_of-s) false
+    (rw (c.dims-d.ensures, c.item_in-item.ensures) at (c.in_default.ensures.made_value (get_or a.flags.now a.l false)))
+
+pub returns-clause-value : goal.returns-clause-value
+returns-clause-value c =
+    let a = c.args in
+    ready_handed a.«record».now a.weight (spanned (goal.at.returns-clause-value c).After-span_of-s) true
+    (rw (c.dims-d.ensures, c.item_in-item.ensures) at (c.in-Some.ensures.made_value (get_or a.flags.now a.l false)))
+
+pub returns-clause-sent_one : goal.returns-clause-sent_one
+returns-clause-sent_one c = λ t.
+    let a = c.args in
+    let f = get_or a.flags.now a.l false in
+    sent-one a.«record».now a.weight (spanned (goal.at.returns-clause-sent_one c).After-span_of-s) _ _ _ _ c.in-Some.answer _ _ _ (back (goal.at.returns-clause-sent_one c).After-add_if_ready (spanned (goal.at.returns-clause-sent_one c).After-span_of-s))
+    (rw (c.dims-d.ensures, c.item_in-item.ensures) at (c.in-Some.ensures.answer_value f))
+    (rw (c.dims-d.ensures, c.item_in-item.ensures) at (c.in-Some.ensures.answer_value_2 f))
+    (noted a.h a.lens.now a.flags.now a.l _ _ _ _ c.note.ensures.lens_after c.note.ensures.flags_after)
+    (rw c.zero_places.ensures at c.note.ensures.list_after)

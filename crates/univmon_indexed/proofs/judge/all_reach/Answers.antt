@@ -2,11 +2,10 @@
 use Prim.Native.Nat.{ℕ}
 use mathlib.Core.Path.{◌≡◌, refl, sym, ap, ◌∙◌}
 use mathlib.Core.Bool.{Bool}
-use lib.ListN.{length}
 use lib.Dec.{leb}
 use native.Mathlib.Omega.{arith}
-use borrow.Author.Tests.{le-leb, lt-leb}
 use Rattle.header.specs.Header.{head_of}
+use Rattle.layer_indexed.specs.inner.Needs.{grade_number}
 use Rattle.layout.specs.Slices.{Lent, lent, view}
 use Rattle.layout.specs.State.{layer_at, all_layers}
 use Rattle.words.proofs.Scans.{scan_start, scan_on, scan_stop, scan_end}
@@ -21,15 +20,12 @@ abbrev lent_of : Start → Lent
 lent_of c = lent (head_of c.args.h c.args.lens.now c.args.flags.now) c.args.counters.now c.args.norms.now c.args.entries.now c.args.counts.now
 
 abbrev tested : Start → ℕ → ℕ → Bool
-tested c k i = let a = c.args in all_layers (reaches_at a.grade a.h.shape a.«record».now a.weight a.index.now) k i (view (lent_of c))
+tested c k i = let a = c.args in all_layers (reaches_at (grade_number a.grade) a.h.shape a.«record».now a.weight a.index.now) k i (view (lent_of c))
 
 -- the grade is that of the state that was lent
 graded : (c : After-grade_at-here) → let a = c.args in
-    c.grade_at-here.result ≡ grade_in a.h.shape a.«record».now a.weight a.index.now c.loop-l.l (layer_at (view (lent_of (goal.at.After-grade_at-here c).Start)) c.loop-l.l)
+    grade_number c.grade_at-here.result ≡ grade_in a.h.shape a.«record».now a.weight a.index.now c.loop-l.l (layer_at (view (lent_of (goal.at.After-grade_at-here c).Start)) c.loop-l.l)
 graded c = let k = c.loop-l.invariant.1 in rw (k.0, k.1.0, k.1.1) at c.grade_at-here.ensures.value
-
-pub overflow_add-end : goal.overflow_add-end
-overflow_add-end c = let p = c.requires.judge in record { fits = omega (arith, p.inside, p.standing.accepted.few) }
 
 pub loop-l-init : goal.loop-l-init
 loop-l-init c = let a = c.args in (scan_start (tested (goal.at.loop-l-init c).Start) a.many a.first, (refl, (refl, refl)))
@@ -38,55 +34,31 @@ pub grade_at-here-requires : goal.grade_at-here-requires
 grade_at-here-requires c =
     let a = c.args in
     let k = c.loop-l.invariant.1 in
-    rw (k.0, k.1.0, k.1.1) (judge-one_in (lent_of (goal.at.grade_at-here-requires c).Start) a.index.now a.«record».now a.weight a.many a.first c.loop-l.l c.requires (omega (arith, c.loop-l-test.true)))
+    rw (k.0, k.1.0, k.1.1) (judge-one_in (lent_of (goal.at.grade_at-here-requires c).Start) a.index.now a.«record».now a.weight a.many a.first c.loop-l.l c.requires (omega arith))
 
-pub shape_of-entries-then-here-grade : goal.shape_of-entries-then-here-grade
-shape_of-entries-then-here-grade c = c.grade_at-here.auto.entries ∙ ap length c.loop-l.invariant.1.0
-
-pub shape_of-counts-then-here-grade : goal.shape_of-counts-then-here-grade
-shape_of-counts-then-here-grade c = c.grade_at-here.auto.counts ∙ ap length c.loop-l.invariant.1.1.0
-
-pub shape_of-index-then-here-grade : goal.shape_of-index-then-here-grade
-shape_of-index-then-here-grade c = c.grade_at-here.auto.index ∙ ap length c.loop-l.invariant.1.1.1
-
-pub returns-then-here-grade : goal.returns-then-here-grade
-returns-then-here-grade c =
+pub returns-then-not-reaches : goal.returns-then-not-reaches
+returns-then-not-reaches c =
     let a = c.args in
     let k = c.loop-l.invariant.1 in
     let e = c.grade_at-here.ensures.entries_unchanged in record {
-      value = scan_stop (tested (goal.at.returns-then-here-grade c).Start) a.many a.first c.loop-l.l _ c.loop-l.invariant.0 (omega (arith, c.loop-l-test.true)) (λ k. layers-step _ (view (lent_of (goal.at.returns-then-here-grade c).Start)) k c.loop-l.l)
-          (ap (leb a.grade) (sym (graded (goal.at.returns-then-here-grade c).After-grade_at-here)) ∙ lt-leb _ _ c.if-here-grade.true);
+      value = scan_stop (tested (goal.at.returns-then-not-reaches c).Start) a.many a.first c.loop-l.l _ c.loop-l.invariant.0 (omega arith) (λ k. layers-step _ (view (lent_of (goal.at.returns-then-not-reaches c).Start)) k c.loop-l.l)
+          (ap (leb (grade_number a.grade)) (sym (graded (goal.at.returns-then-not-reaches c).After-grade_at-here)) ∙ sym c.reaches.ensures ∙ c.if-not-reaches.true);
       entries_unchanged = (e.0 ∙ k.0, (e.1.0 ∙ k.1.0, e.1.1 ∙ k.1.1));
     }
-
-pub overflow_add-l : goal.overflow_add-l
-overflow_add-l c = let p = c.requires.judge in record { fits = omega (arith, p.inside, p.standing.accepted.few, c.loop-l-test.true) }
-
-pub loop-l-smaller : goal.loop-l-smaller
-loop-l-smaller c = omega (arith, c.loop-l-test.true)
 
 pub loop-l-preserved : goal.loop-l-preserved
 loop-l-preserved c =
     let a = c.args in
     let k = c.loop-l.invariant.1 in
     let e = c.grade_at-here.ensures.entries_unchanged in (
-      scan_on (tested (goal.at.loop-l-preserved c).Start) a.many a.first c.loop-l.l _ c.loop-l.invariant.0 (omega (arith, c.loop-l-test.true)) (λ k. layers-step _ (view (lent_of (goal.at.loop-l-preserved c).Start)) k c.loop-l.l)
-          (ap (leb a.grade) (sym (graded (goal.at.loop-l-preserved c).After-grade_at-here)) ∙ le-leb _ _ c.if-here-grade.false),
+      scan_on (tested (goal.at.loop-l-preserved c).Start) a.many a.first c.loop-l.l _ c.loop-l.invariant.0 (omega arith) (λ k. layers-step _ (view (lent_of (goal.at.loop-l-preserved c).Start)) k c.loop-l.l)
+          (ap (leb (grade_number a.grade)) (sym (graded (goal.at.loop-l-preserved c).After-grade_at-here)) ∙ sym c.reaches.ensures ∙ c.if-not-reaches.false),
       (e.0 ∙ k.0, (e.1.0 ∙ k.1.0, e.1.1 ∙ k.1.1)),
     )
-
-pub shape_of-entries : goal.shape_of-entries
-shape_of-entries c = ap length c.loop-l.invariant.1.0
-
-pub shape_of-counts : goal.shape_of-counts
-shape_of-counts c = ap length c.loop-l.invariant.1.1.0
-
-pub shape_of-index : goal.shape_of-index
-shape_of-index c = ap length c.loop-l.invariant.1.1.1
 
 pub returns : goal.returns
 returns c =
     let a = c.args in record {
-      value = scan_end (tested (goal.at.returns c).Start) a.many a.first c.loop-l.l c.loop-l.invariant.0 (omega (arith, c.loop-l-test.false)) (layers-none _ (view (lent_of (goal.at.returns c).Start)) c.loop-l.l);
+      value = scan_end (tested (goal.at.returns c).Start) a.many a.first c.loop-l.l c.loop-l.invariant.0 (omega arith) (layers-none _ (view (lent_of (goal.at.returns c).Start)) c.loop-l.l);
       entries_unchanged = c.loop-l.invariant.1;
     }

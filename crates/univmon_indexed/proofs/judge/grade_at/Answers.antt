@@ -35,27 +35,6 @@ spanned c = record { standing = (ready (goal.at.After-span_of-s c).Start).standi
 tabled : (c : After-table_span-t) → Tabled (lent_of (goal.at.After-table_span-t c).Start) c.args.index.now c.args.l c.table_span-t.result
 tabled c = record { standing = record { standing = (ready (goal.at.After-table_span-t c).Start).standing; tables = tables-long (goal.at.After-table_span-t c).Start }; inside = inside (goal.at.After-table_span-t c).Start; is = c.table_span-t.ensures }
 
-pub span_of-s-requires : goal.span_of-s-requires
-span_of-s-requires c = record {
-  accepted = (ready (goal.at.span_of-s-requires c).Start).standing.accepted;
-  l_lt_layers = inside (goal.at.span_of-s-requires c).Start;
-}
-
-pub table_span-t-requires : goal.table_span-t-requires
-table_span-t-requires c = record {
-  accepted = (ready (goal.at.table_span-t-requires c).Start).standing.accepted;
-  l_lt_layers = inside (goal.at.table_span-t-requires c).Start;
-}
-
-pub item_in-item-requires : goal.item_in-item-requires
-item_in-item-requires c = let p = ready (goal.at.item_in-item-requires c).Start in let i = inside (goal.at.item_in-item-requires c).Start in (omega (arith, i, p.standing.accepted.few), omega (arith, i, p.recorded))
-
-pub offset_bounds-lens-l : goal.offset_bounds-lens-l
-offset_bounds-lens-l c = let p = ready (goal.at.offset_bounds-lens-l c).Start in let q = p.standing.accepted.few in let i = inside (goal.at.offset_bounds-lens-l c).Start in let hl = p.headed.lens in search rules
-
-pub bounds-lens-l : goal.bounds-lens-l
-bounds-lens-l c = let p = ready (goal.at.bounds-lens-l c).Start in let q = p.standing.accepted.few in let i = inside (goal.at.bounds-lens-l c).Start in let hl = p.headed.lens in search rules
-
 pub cells_at-requires : goal.cells_at-requires
 cells_at-requires c = let z = (ready (goal.at.cells_at-requires c).Start).standing in record {
   accepted = z.accepted;
@@ -70,8 +49,8 @@ norms_at-requires c = let z = (ready (goal.at.norms_at-requires c).Start).standi
   norms_len = z.sizes.norms;
 }
 
-pub offset_bounds-entries-ea : goal.offset_bounds-entries-ea
-offset_bounds-entries-ea c = let b = word_piece (spanned (goal.at.offset_bounds-entries-ea c).After-span_of-s) in search rules
+pub offset_bounds-entries-s : goal.offset_bounds-entries-s
+offset_bounds-entries-s c = let b = word_piece (spanned (goal.at.offset_bounds-entries-s c).After-span_of-s) in search rules
 
 pub slice_bounds-add_grade-count : goal.slice_bounds-add_grade-count
 slice_bounds-add_grade-count c = let b = word_piece (spanned (goal.at.slice_bounds-add_grade-count c).After-span_of-s) in search rules
@@ -82,8 +61,8 @@ slice_bounds-add_grade-start c = let b = word_piece (spanned (goal.at.slice_boun
 pub slice_bounds-add_grade-end : goal.slice_bounds-add_grade-end
 slice_bounds-add_grade-end c = let b = word_piece (spanned (goal.at.slice_bounds-add_grade-end c).After-span_of-s) in search rules
 
-pub offset_bounds-counts-ta : goal.offset_bounds-counts-ta
-offset_bounds-counts-ta c = let b = seat_piece (spanned (goal.at.offset_bounds-counts-ta c).After-span_of-s) in search rules
+pub offset_bounds-counts-s : goal.offset_bounds-counts-s
+offset_bounds-counts-s c = let b = seat_piece (spanned (goal.at.offset_bounds-counts-s c).After-span_of-s) in search rules
 
 pub slice_bounds-add_grade-count-2 : goal.slice_bounds-add_grade-count-2
 slice_bounds-add_grade-count-2 c = let b = seat_piece (spanned (goal.at.slice_bounds-add_grade-count-2 c).After-span_of-s) in search rules
@@ -94,8 +73,8 @@ slice_bounds-add_grade-start-2 c = let b = seat_piece (spanned (goal.at.slice_bo
 pub slice_bounds-add_grade-end-2 : goal.slice_bounds-add_grade-end-2
 slice_bounds-add_grade-end-2 c = let b = seat_piece (spanned (goal.at.slice_bounds-add_grade-end-2 c).After-span_of-s) in search rules
 
-pub offset_bounds-index-ia : goal.offset_bounds-index-ia
-offset_bounds-index-ia c = let b = table_piece (tabled (goal.at.offset_bounds-index-ia c).After-table_span-t) in search rules
+pub offset_bounds-index-t : goal.offset_bounds-index-t
+offset_bounds-index-t c = let b = table_piece (tabled (goal.at.offset_bounds-index-t c).After-table_span-t) in search rules
 
 pub slice_bounds-add_grade-count-3 : goal.slice_bounds-add_grade-count-3
 slice_bounds-add_grade-count-3 c = let b = table_piece (tabled (goal.at.slice_bounds-add_grade-count-3 c).After-table_span-t) in search rules
@@ -124,7 +103,7 @@ returns c =
       value = grade_handed a.«record».now a.weight (spanned (goal.at.returns c).After-span_of-s) a.index.now (tables-long (goal.at.returns c).Start) _
           (rw (c.dims-d.ensures, c.item_in-item.ensures, c.cells_at.ensures ∙ sym (cell_piece (spanned (goal.at.returns c).After-span_of-s)).is, c.norms_at.ensures ∙ sym (norm_piece (spanned (goal.at.returns c).After-span_of-s)).is, table_is (tabled (goal.at.returns c).After-table_span-t)) at (c.add_grade.ensures.value (get_or a.flags.now a.l false)));
       entries_unchanged = (
-        put_back s.words (s.words_end - s.words) a.entries.now _ k.0,
-        (put_back s.seats (s.seats_end - s.seats) a.counts.now _ k.1.0, put_back t.start (t.end - t.start) a.index.now _ k.1.1),
+        put_back s.words.start (s.words.end - s.words.start) a.entries.now _ k.0,
+        (put_back s.seats.start (s.seats.end - s.seats.start) a.counts.now _ k.1.0, put_back t.start (t.end - t.start) a.index.now _ k.1.1),
       );
     }

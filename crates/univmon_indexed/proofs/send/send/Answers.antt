@@ -1,9 +1,8 @@
 -- `univmon_indexed::send::send` meets its contract.
-use mathlib.Core.Path.{sym, ◌∙◌}
+use mathlib.Core.Path.{◌∙◌}
 use native.Mathlib.Omega.{arith}
 use Rattle.header.specs.Header.{head_of, Headed}
 use Rattle.layout.specs.Slices.{Lent, lent}
-use Rattle.layout.proofs.InTurn.{in_turn-long}
 use Rattle.univmon_indexed.proofs.Sending.{sending_start, sending_ready, sending_room, sending_on, sending_end}
 use Rattle.univmon_indexed.proofs.send.send.Goals as goal
 use Rattle.univmon_indexed.proofs.send.send.Goals.{After-counts-1, At-loop-l, Start}
@@ -19,56 +18,23 @@ lent-here c = lent (head_of c.args.h c.loop-l.lens c.loop-l.flags) c.loop-l.coun
 headed-on : (c : After-counts-1) → Headed (head_of c.args.h c.send_one.new.lens c.send_one.new.flags)
 headed-on c = let v = c.loop-l.invariant.headed in record { lens = c.send_one.auto.lens ∙ v.lens; flags = c.send_one.auto.flags ∙ v.flags }
 
-pub overflow_add-end : goal.overflow_add-end
-overflow_add-end c = let p = c.requires.sends_ready_in.judge.judge in record { fits = omega (arith, p.inside, p.standing.accepted.few) }
-
 pub loop-l-init : goal.loop-l-init
 loop-l-init c = let a = c.args in sending_start (lent_of (goal.at.loop-l-init c).Start) a.index.now a.«record».now a.weight a.many a.first c.requires.sends_ready_in a.list.now
 
 pub send_one-requires : goal.send_one-requires
 send_one-requires c =
     let a = c.args in record {
-      send_ready_in = sending_ready (lent_of (goal.at.send_one-requires c).Start) a.index.now a.«record».now a.weight a.many a.first c.requires.sends_ready_in a.list.now (lent-here (goal.at.send_one-requires c).At-loop-l) c.loop-l.index c.loop-l.list c.loop-l.l c.loop-l.invariant (omega (arith, c.loop-l-test.true));
-      l_in_bounds = sending_room (lent_of (goal.at.send_one-requires c).Start) a.index.now a.«record».now a.weight a.many a.first c.requires.sends_ready_in a.list.now (lent-here (goal.at.send_one-requires c).At-loop-l) c.loop-l.index c.loop-l.list c.loop-l.l c.loop-l.invariant (omega (arith, c.loop-l-test.true)) c.requires.layers_in_bounds;
+      send_ready_in = sending_ready (lent_of (goal.at.send_one-requires c).Start) a.index.now a.«record».now a.weight a.many a.first c.requires.sends_ready_in a.list.now (lent-here (goal.at.send_one-requires c).At-loop-l) c.loop-l.index c.loop-l.list c.loop-l.l c.loop-l.invariant (omega arith);
+      l_in_bounds = sending_room (lent_of (goal.at.send_one-requires c).Start) a.index.now a.«record».now a.weight a.many a.first c.requires.sends_ready_in a.list.now (lent-here (goal.at.send_one-requires c).At-loop-l) c.loop-l.index c.loop-l.list c.loop-l.l c.loop-l.invariant (omega arith) c.requires.layers_in_bounds;
     }
-
-pub overflow_add-l : goal.overflow_add-l
-overflow_add-l c = let p = c.requires.sends_ready_in.judge.judge in record { fits = omega (arith, p.inside, p.standing.accepted.few, c.loop-l-test.true) }
-
-pub loop-l-smaller : goal.loop-l-smaller
-loop-l-smaller c = omega (arith, c.loop-l-test.true)
 
 pub loop-l-preserved : goal.loop-l-preserved
 loop-l-preserved c =
     let a = c.args in
-    sending_on (lent_of (goal.at.loop-l-preserved c).Start) a.index.now a.«record».now a.weight a.many a.first c.requires.sends_ready_in a.list.now (lent-here (goal.at.loop-l-preserved c).At-loop-l) c.loop-l.index c.loop-l.list c.loop-l.l c.loop-l.invariant (omega (arith, c.loop-l-test.true)) _ _ _ c.requires.layers_in_bounds
+    sending_on (lent_of (goal.at.loop-l-preserved c).Start) a.index.now a.«record».now a.weight a.many a.first c.requires.sends_ready_in a.list.now (lent-here (goal.at.loop-l-preserved c).At-loop-l) c.loop-l.index c.loop-l.list c.loop-l.l c.loop-l.invariant (omega arith) _ _ _ c.requires.layers_in_bounds
     c.send_one.ensures (headed-on (goal.at.loop-l-preserved c).After-counts-1)
-
-pub shape_of-lens : goal.shape_of-lens
-shape_of-lens c = c.loop-l.invariant.headed.lens ∙ sym c.requires.sends_ready_in.judge.judge.headed.lens
-
-pub shape_of-flags : goal.shape_of-flags
-shape_of-flags c = c.loop-l.invariant.headed.flags ∙ sym c.requires.sends_ready_in.judge.judge.headed.flags
-
-pub shape_of-counters : goal.shape_of-counters
-shape_of-counters c = (in_turn-long c.loop-l.invariant.turn c.requires.sends_ready_in.judge.judge.standing).0
-
-pub shape_of-norms : goal.shape_of-norms
-shape_of-norms c = (in_turn-long c.loop-l.invariant.turn c.requires.sends_ready_in.judge.judge.standing).1.0
-
-pub shape_of-entries : goal.shape_of-entries
-shape_of-entries c = (in_turn-long c.loop-l.invariant.turn c.requires.sends_ready_in.judge.judge.standing).1.1.0
-
-pub shape_of-counts : goal.shape_of-counts
-shape_of-counts c = (in_turn-long c.loop-l.invariant.turn c.requires.sends_ready_in.judge.judge.standing).1.1.1
-
-pub shape_of-index : goal.shape_of-index
-shape_of-index c = c.loop-l.invariant.tables.long
-
-pub shape_of-list : goal.shape_of-list
-shape_of-list c = c.loop-l.invariant.told.long
 
 pub returns : goal.returns
 returns c =
     let a = c.args in
-    sending_end (lent_of (goal.at.returns c).Start) a.index.now a.«record».now a.weight a.many a.first c.requires.sends_ready_in a.list.now (lent-here (goal.at.returns c).At-loop-l) c.loop-l.index c.loop-l.list c.loop-l.l c.loop-l.invariant (omega (arith, c.loop-l-test.false))
+    sending_end (lent_of (goal.at.returns c).Start) a.index.now a.«record».now a.weight a.many a.first c.requires.sends_ready_in a.list.now (lent-here (goal.at.returns c).At-loop-l) c.loop-l.index c.loop-l.list c.loop-l.l c.loop-l.invariant (omega arith)

@@ -1,47 +1,30 @@
 -- `univmon_merge::judge::all_fit` meets its contract.
-use Prim.Native.Nat.{ℕ}
-use mathlib.Core.Path.{sym, ◌∙◌}
-use mathlib.Core.Bool.{Bool}
-use native.Mathlib.Omega.{arith}
-use Rattle.layout.specs.Slices.{lent, view, Lent}
-use Rattle.words.proofs.Scans.{scan_start, scan_on, scan_stop, scan_end}
-use Rattle.layout.specs.State.{all_layers}
-use Rattle.univmon_merge.specs.inner.Pairs.{fits_with}
+use Rattle.std.proofs.Common.{ℕ, ◌<◌, ◌∙◌, rules, arith}
+use Rattle.std.proofs.lemmas.Iterator.{serves_from_Range, YieldsList-from_range}
+use Rattle.std.proofs.lemmas.Iterator.Search.{all_from_yields_List}
+use Rattle.layout.specs.Slices.{view, Lent}
+use Rattle.layout.specs.Lending.{lent_read}
+use Rattle.layout.specs.State.{all_layers, layer_at}
 use Rattle.layout.proofs.States.{layers-step, layers-none}
+use Rattle.univmon_merge.specs.inner.Pairs.{PairRead, fits_with}
 use Rattle.univmon_merge.proofs.Pairings.{read_one}
+use Rattle.words.proofs.Walks.{walked}
 use Rattle.univmon_merge.proofs.judge.all_fit.Goals as goal
 use Rattle.univmon_merge.proofs.judge.all_fit.Goals.{Start}
 
--- the two states that are lent, and the test of k of their layers from i on
+-- the two states that are lent
 abbrev lent_of : Start → Lent
-lent_of c = lent c.args.h c.args.counters.now c.args.norms.now c.args.entries.now c.args.counts.now
+lent_of c = lent_read c.args.state
 
 abbrev other-of : Start → Lent
-other-of c = lent c.args.other c.args.other_counters.now c.args.other_norms.now c.args.other_entries.now c.args.other_counts.now
+other-of c = lent_read c.args.other
 
-abbrev tested : Start → ℕ → ℕ → Bool
-tested c k i = all_layers (fits_with (view (other-of c))) k i (view (lent_of c))
-
-pub loop-l-init : goal.loop-l-init
-loop-l-init c = scan_start (tested (goal.at.loop-l-init c).Start) c.args.many 0
-
-pub fits_at-requires : goal.fits_at-requires
-fits_at-requires c = read_one (lent_of (goal.at.fits_at-requires c).Start) (other-of (goal.at.fits_at-requires c).Start) c.args.many c.loop-l.l c.requires (omega (arith, c.loop-l-test.true))
-
-pub returns-then-not-fits_at : goal.returns-then-not-fits_at
-returns-then-not-fits_at c =
-    scan_stop (tested (goal.at.returns-then-not-fits_at c).Start) c.args.many 0 c.loop-l.l _ c.loop-l.invariant (omega (arith, c.loop-l-test.true)) (λ k. layers-step _ (view (lent_of (goal.at.returns-then-not-fits_at c).Start)) k c.loop-l.l) (sym c.fits_at.ensures ∙ c.if-not-fits_at.true)
-
-pub overflow_add-l : goal.overflow_add-l
-overflow_add-l c = let p = c.requires.paired in record { fits = omega (arith, p.inside, p.standing.accepted.few, c.loop-l-test.true) }
-
-pub loop-l-smaller : goal.loop-l-smaller
-loop-l-smaller c = omega (arith, c.loop-l-test.true)
-
-pub loop-l-preserved : goal.loop-l-preserved
-loop-l-preserved c =
-    scan_on (tested (goal.at.loop-l-preserved c).Start) c.args.many 0 c.loop-l.l _ c.loop-l.invariant (omega (arith, c.loop-l-test.true)) (λ k. layers-step _ (view (lent_of (goal.at.loop-l-preserved c).Start)) k c.loop-l.l) (sym c.fits_at.ensures ∙ c.if-not-fits_at.false)
+pub all-requires-clause-callable : goal.all-requires-clause-callable
+all-requires-clause-callable c = let one : (l : ℕ) → l < c.args.many → PairRead (lent_of (goal.at.all-requires-clause-callable c).Start) (other-of (goal.at.all-requires-clause-callable c).Start) l = λ l h. read_one (lent_of (goal.at.all-requires-clause-callable c).Start) (other-of (goal.at.all-requires-clause-callable c).Start) c.args.many l c.requires h in serves_from_Range (λ l q k. search rules) (λ l a b. let o = one l b in search rules)
 
 pub returns : goal.returns
 returns c =
-    scan_end (tested (goal.at.returns c).Start) c.args.many 0 c.loop-l.l c.loop-l.invariant (omega (arith, c.loop-l-test.false)) (layers-none _ (view (lent_of (goal.at.returns c).Start)) c.loop-l.l)
+    let s = view (lent_of (goal.at.returns c).Start) in
+    let p = fits_with (view (other-of (goal.at.returns c).Start)) in
+    all_from_yields_List (λ l. p l (layer_at s l)) _ _ c.all.result c.all.ensures.ran (YieldsList-from_range 0 c.args.many c.args.many (cc) (omega arith)) (λ l b q k. search rules)
+    ∙ walked (λ k l. all_layers p k l s) (λ l. p l (layer_at s l)) (λ k l. layers-step p s k l) (λ l. layers-none p s l) c.args.many 0

@@ -1,7 +1,7 @@
 -- `univmon_merge::layers::merge_layers` meets its contract.
 use native.Mathlib.Omega.{arith}
 use Rattle.layout.specs.Slices.{lent, Lent}
-use Rattle.layout.proofs.InTurn.{in_turn-long}
+use Rattle.layout.specs.Lending.{lent_read}
 use Rattle.layout.proofs.Telling.{told-start, told_end}
 use Rattle.univmon_merge.proofs.Pairings.{merging_start, merging_ready, merging_on, merging_room, merging_told, merging_end}
 use Rattle.univmon_merge.proofs.layers.merge_layers.Goals as goal
@@ -12,7 +12,7 @@ abbrev lent_of : Start → Lent
 lent_of c = lent c.args.h c.args.counters.now c.args.norms.now c.args.entries.now c.args.counts.now
 
 abbrev other-of : Start → Lent
-other-of c = lent c.args.other c.args.other_counters.now c.args.other_norms.now c.args.other_entries.now c.args.other_counts.now
+other-of c = lent_read c.args.other
 
 abbrev lent-here : At-loop-l → Lent
 lent-here c = lent c.loop-l.header c.loop-l.counters c.loop-l.norms c.loop-l.entries c.loop-l.counts
@@ -27,33 +27,12 @@ merge_one-header-requires c =
       layers_in_bounds = merging_room (lent_of (goal.at.merge_one-header-requires c).Start) (lent-here (goal.at.merge_one-header-requires c).At-loop-l) _ v.0.shape v.1.long c.requires.layers_in_bounds;
     }
 
-pub overflow_add-l : goal.overflow_add-l
-overflow_add-l c = let p = c.requires.merges_ready.ready.paired in record { fits = omega (arith, p.inside, p.standing.accepted.few, c.loop-l-test.true) }
-
-pub loop-l-smaller : goal.loop-l-smaller
-loop-l-smaller c = omega (arith, c.loop-l-test.true)
-
 pub loop-l-preserved : goal.loop-l-preserved
 loop-l-preserved c =
     let v = c.loop-l.invariant in (
       merging_on (lent_of (goal.at.loop-l-preserved c).Start) (other-of (goal.at.loop-l-preserved c).Start) c.args.many c.requires.merges_ready (lent-here (goal.at.loop-l-preserved c).At-loop-l) c.loop-l.l v.0 c.loop-l-test.true _ c.merge_one-header.ensures.counts_value c.merge_one-header.ensures.standing,
       merging_told (lent_of (goal.at.loop-l-preserved c).Start) (other-of (goal.at.loop-l-preserved c).Start) c.args.many c.requires.merges_ready (lent-here (goal.at.loop-l-preserved c).At-loop-l) c.loop-l.l v.0 c.loop-l-test.true _ _ v.1 c.requires.layers_in_bounds _ c.merge_one-header.ensures.list_after,
     )
-
-pub shape_of-counters : goal.shape_of-counters
-shape_of-counters c = (in_turn-long c.loop-l.invariant.0 c.requires.merges_ready.ready.paired.standing).0
-
-pub shape_of-norms : goal.shape_of-norms
-shape_of-norms c = (in_turn-long c.loop-l.invariant.0 c.requires.merges_ready.ready.paired.standing).1.0
-
-pub shape_of-entries : goal.shape_of-entries
-shape_of-entries c = (in_turn-long c.loop-l.invariant.0 c.requires.merges_ready.ready.paired.standing).1.1.0
-
-pub shape_of-counts : goal.shape_of-counts
-shape_of-counts c = (in_turn-long c.loop-l.invariant.0 c.requires.merges_ready.ready.paired.standing).1.1.1
-
-pub shape_of-list : goal.shape_of-list
-shape_of-list c = c.loop-l.invariant.1.long
 
 pub returns : goal.returns
 returns c =

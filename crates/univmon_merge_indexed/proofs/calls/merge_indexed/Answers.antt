@@ -15,8 +15,11 @@ use Rattle.layout_index.proofs.Fitting.{indexed_stands, index_kept}
 use Rattle.univmon_merge.specs.Merges.{merge_tests, merged}
 use Rattle.univmon_merge.proofs.MergeCalls.{totals_fit, merges_of, merged_is, told_is, list-room}
 use Rattle.univmon_merge_indexed.proofs.Judging.{unfit_refused, merge-refused_in, merge_done_in, index_is_made}
+use Rattle.std.proofs.lemmas.Result.{err_from_is_err_and}
+use Rattle.refusal.specs.Refusals.{number_of}
+use Rattle.refusal.proofs.Numbers.{number-ne0}
 use Rattle.univmon_merge_indexed.proofs.calls.merge_indexed.Goals as goal
-use Rattle.univmon_merge_indexed.proofs.calls.merge_indexed.Goals.{After-begin-begun, After-merge_layers, Else-refusal-ne0, Else-unfit-ne0, Start}
+use Rattle.univmon_merge_indexed.proofs.calls.merge_indexed.Goals.{After-begin-begun, After-merge_layers, In_ok-check_merge, In_ok-check_indexed, Start}
 
 -- the two states that are lent
 abbrev lent_of : Start → Lent
@@ -30,12 +33,12 @@ abbrev many : Start → ℕ
 many c = length c.args.list.now
 
 -- header, lengths and index refuse nothing
-fit : (c : Else-unfit-ne0) → number (indexed_tests (lent_of (goal.at.Else-unfit-ne0 c).Start) c.args.index.now) ≡ 0
-fit c = sym c.indexed_refusal-unfit.ensures ∙ c.if-unfit-ne0.false
+fit : (c : In_ok-check_indexed) → number (indexed_tests (lent_of (goal.at.In_ok-check_indexed c).Start) c.args.index.now) ≡ 0
+fit c = sym c.in_ok-check_indexed.ensures
 
 -- nothing is refused
-none : (c : Else-refusal-ne0) → let h = c.args.header.shape in number (merge_tests (lent_of (goal.at.Else-refusal-ne0 c).Start) (other-of (goal.at.Else-refusal-ne0 c).Start) ++ list_tests (4 * h.heap_size * h.layers) (many (goal.at.Else-refusal-ne0 c).Start)) ≡ 0
-none c = sym c.merge_refusal-refusal.ensures ∙ c.if-refusal-ne0.false
+none : (c : In_ok-check_merge) → let h = c.args.header.shape in number (merge_tests (lent_of (goal.at.In_ok-check_merge c).Start) (other-of (goal.at.In_ok-check_merge c).Start) ++ list_tests (4 * h.heap_size * h.layers) (many (goal.at.In_ok-check_merge c).Start)) ≡ 0
+none c = sym c.in_ok-check_merge.ensures
 
 -- the header with the sum of the totals and its mode
 header-set : (c : After-begin-begun) → c.begin-begun.result ≡ begun c.args.header c.args.other.totals c.args.other.mode
@@ -46,38 +49,40 @@ view-now : (c : After-merge_layers) → let l = c.merge_layers.new in
     view (lent c.merge_layers.result l.counters l.norms l.entries l.counts) ≡ merged (view (lent_of (goal.at.After-merge_layers c).Start)) (view (other-of (goal.at.After-merge_layers c).Start))
 view-now c = rw (header-set (goal.at.After-merge_layers c).After-begin-begun) at c.merge_layers.ensures.counts_value ∙ merged_is (lent_of (goal.at.After-merge_layers c).Start) (other-of (goal.at.After-merge_layers c).Start)
 
-pub returns-then-unfit-ne0 : goal.returns-then-unfit-ne0
-returns-then-unfit-ne0 c =
-    let n = c.indexed_refusal-unfit in record {
-      counts_value = unfit_refused (lent_of (goal.at.returns-then-unfit-ne0 c).Start) (other-of (goal.at.returns-then-unfit-ne0 c).Start) c.args.index.now (many (goal.at.returns-then-unfit-ne0 c).Start) n.result n.ensures c.if-unfit-ne0.true;
-      index_after = index_kept n.result _ _ c.if-unfit-ne0.true;
-      list_after = list-kept n.result _ _ c.if-unfit-ne0.true;
-    }
+pub returns-in_err-check_indexed : goal.returns-in_err-check_indexed
+returns-in_err-check_indexed c =
+    let p = err_from_is_err_and c.from_residual.result c.from_residual.ensures.1 in
+    rw (p.1, p.2) (let n = number_of c.in_err-check_indexed.field-0.0 in record {
+      counts_value = unfit_refused (lent_of (goal.at.returns-in_err-check_indexed c).Start) (other-of (goal.at.returns-in_err-check_indexed c).Start) c.args.index.now (many (goal.at.returns-in_err-check_indexed c).Start) n c.in_err-check_indexed.ensures (number-ne0 c.in_err-check_indexed.field-0.0);
+      index_after = index_kept n _ _ (number-ne0 c.in_err-check_indexed.field-0.0);
+      list_after = list-kept n _ _ (number-ne0 c.in_err-check_indexed.field-0.0);
+    })
 
-pub returns-then-refusal-ne0 : goal.returns-then-refusal-ne0
-returns-then-refusal-ne0 c =
-    let n = c.merge_refusal-refusal in record {
-      counts_value = merge-refused_in (lent_of (goal.at.returns-then-refusal-ne0 c).Start) (other-of (goal.at.returns-then-refusal-ne0 c).Start) c.args.index.now (fit (goal.at.returns-then-refusal-ne0 c).Else-unfit-ne0) (many (goal.at.returns-then-refusal-ne0 c).Start) n.result n.ensures c.if-refusal-ne0.true;
-      index_after = index_kept n.result _ _ c.if-refusal-ne0.true;
-      list_after = list-kept n.result _ _ c.if-refusal-ne0.true;
-    }
+pub returns-in_err-check_merge : goal.returns-in_err-check_merge
+returns-in_err-check_merge c =
+    let p = err_from_is_err_and c.from_residual-in_err-check_merge.result c.from_residual-in_err-check_merge.ensures.1 in
+    rw (p.1, p.2) (let n = number_of c.in_err-check_merge.field-0.0 in record {
+      counts_value = merge-refused_in (lent_of (goal.at.returns-in_err-check_merge c).Start) (other-of (goal.at.returns-in_err-check_merge c).Start) c.args.index.now (fit (goal.at.returns-in_err-check_merge c).In_ok-check_indexed) (many (goal.at.returns-in_err-check_merge c).Start) n c.in_err-check_merge.ensures (number-ne0 c.in_err-check_merge.field-0.0);
+      index_after = index_kept n _ _ (number-ne0 c.in_err-check_merge.field-0.0);
+      list_after = list-kept n _ _ (number-ne0 c.in_err-check_merge.field-0.0);
+    })
 
 pub begin-begun-requires : goal.begin-begun-requires
-begin-begun-requires c = totals_fit (lent_of (goal.at.begin-begun-requires c).Start) (other-of (goal.at.begin-begun-requires c).Start) (many (goal.at.begin-begun-requires c).Start) (none (goal.at.begin-begun-requires c).Else-refusal-ne0)
+begin-begun-requires c = totals_fit (lent_of (goal.at.begin-begun-requires c).Start) (other-of (goal.at.begin-begun-requires c).Start) (many (goal.at.begin-begun-requires c).Start) (none (goal.at.begin-begun-requires c).In_ok-check_merge)
 
 pub merge_layers-requires : goal.merge_layers-requires
 merge_layers-requires c =
     rw (header-set (goal.at.merge_layers-requires c).After-begin-begun) (record {
-      merges_ready = merges_of (lent_of (goal.at.merge_layers-requires c).Start) (other-of (goal.at.merge_layers-requires c).Start) (many (goal.at.merge_layers-requires c).Start) (none (goal.at.merge_layers-requires c).Else-refusal-ne0) c.args.other.totals c.args.other.mode;
-      layers_in_bounds = list-room (lent_of (goal.at.merge_layers-requires c).Start) (other-of (goal.at.merge_layers-requires c).Start) (many (goal.at.merge_layers-requires c).Start) (none (goal.at.merge_layers-requires c).Else-refusal-ne0);
-      index_len = (indexed_stands (lent_of (goal.at.merge_layers-requires c).Start) c.args.index.now (fit (goal.at.merge_layers-requires c).Else-unfit-ne0)).tables;
+      merges_ready = merges_of (lent_of (goal.at.merge_layers-requires c).Start) (other-of (goal.at.merge_layers-requires c).Start) (many (goal.at.merge_layers-requires c).Start) (none (goal.at.merge_layers-requires c).In_ok-check_merge) c.args.other.totals c.args.other.mode;
+      layers_in_bounds = list-room (lent_of (goal.at.merge_layers-requires c).Start) (other-of (goal.at.merge_layers-requires c).Start) (many (goal.at.merge_layers-requires c).Start) (none (goal.at.merge_layers-requires c).In_ok-check_merge);
+      index_len = (indexed_stands (lent_of (goal.at.merge_layers-requires c).Start) c.args.index.now (fit (goal.at.merge_layers-requires c).In_ok-check_indexed)).tables;
     })
 
 pub returns : goal.returns
 returns c =
     record {
       counts_value = ap (left 0) (lent_is _ (merged (view (lent_of (goal.at.returns c).Start)) (view (other-of (goal.at.returns c).Start))) c.merge_layers.ensures.standing (λ k. (c.slice_known-5-1.given k).fits) (view-now (goal.at.returns c).After-merge_layers))
-          ∙ merge_done_in (lent_of (goal.at.returns c).Start) (other-of (goal.at.returns c).Start) c.args.index.now (fit (goal.at.returns c).Else-unfit-ne0) (many (goal.at.returns c).Start) (none (goal.at.returns c).Else-refusal-ne0);
+          ∙ merge_done_in (lent_of (goal.at.returns c).Start) (other-of (goal.at.returns c).Start) c.args.index.now (fit (goal.at.returns c).In_ok-check_indexed) (many (goal.at.returns c).Start) (none (goal.at.returns c).In_ok-check_merge);
       index_after = index_is_made (lent_of (goal.at.returns c).Start) (other-of (goal.at.returns c).Start) c.args.index.now _ (rw (header-set (goal.at.returns c).After-begin-begun) at c.merge_layers.ensures.index_after);
-      list_after = told_is (lent_of (goal.at.returns c).Start) (other-of (goal.at.returns c).Start) c.args.list.now _ (list-room (lent_of (goal.at.returns c).Start) (other-of (goal.at.returns c).Start) (many (goal.at.returns c).Start) (none (goal.at.returns c).Else-refusal-ne0)) (rw (header-set (goal.at.returns c).After-begin-begun) at c.merge_layers.ensures.list_after);
+      list_after = told_is (lent_of (goal.at.returns c).Start) (other-of (goal.at.returns c).Start) c.args.list.now _ (list-room (lent_of (goal.at.returns c).Start) (other-of (goal.at.returns c).Start) (many (goal.at.returns c).Start) (none (goal.at.returns c).In_ok-check_merge)) (rw (header-set (goal.at.returns c).After-begin-begun) at c.merge_layers.ensures.list_after);
     }

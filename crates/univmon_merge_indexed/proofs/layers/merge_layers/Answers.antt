@@ -1,7 +1,7 @@
 -- `univmon_merge_indexed::layers::merge_layers` meets its contract.
 use native.Mathlib.Omega.{arith}
 use Rattle.layout.specs.Slices.{lent, Lent}
-use Rattle.layout.proofs.InTurn.{in_turn-long}
+use Rattle.layout.specs.Lending.{lent_read}
 use Rattle.layout.proofs.Telling.{told-start, told_end}
 use Rattle.layout_index.proofs.Turns.{tables_start, tables_end}
 use Rattle.univmon_merge_indexed.proofs.Replacing.{merging_long, merging_table}
@@ -14,7 +14,7 @@ abbrev lent_of : Start → Lent
 lent_of c = lent c.args.h c.args.counters.now c.args.norms.now c.args.entries.now c.args.counts.now
 
 abbrev other-of : Start → Lent
-other-of c = lent c.args.other c.args.other_counters.now c.args.other_norms.now c.args.other_entries.now c.args.other_counts.now
+other-of c = lent_read c.args.other
 
 abbrev lent-here : At-loop-l → Lent
 lent-here c = lent c.loop-l.header c.loop-l.counters c.loop-l.norms c.loop-l.entries c.loop-l.counts
@@ -30,12 +30,6 @@ merge_one-header-requires c =
       index_len = merging_long (lent_of (goal.at.merge_one-header-requires c).Start) (other-of (goal.at.merge_one-header-requires c).Start) c.args.many _ (lent-here (goal.at.merge_one-header-requires c).At-loop-l) _ _ v.0.shape v.1.1 c.requires.index_len;
     }
 
-pub overflow_add-l : goal.overflow_add-l
-overflow_add-l c = let p = c.requires.merges_ready.ready.paired in record { fits = omega (arith, p.inside, p.standing.accepted.few, c.loop-l-test.true) }
-
-pub loop-l-smaller : goal.loop-l-smaller
-loop-l-smaller c = omega (arith, c.loop-l-test.true)
-
 pub loop-l-preserved : goal.loop-l-preserved
 loop-l-preserved c =
     let v = c.loop-l.invariant in (
@@ -45,24 +39,6 @@ loop-l-preserved c =
         merging_table (lent_of (goal.at.loop-l-preserved c).Start) (other-of (goal.at.loop-l-preserved c).Start) c.args.many c.requires.merges_ready (lent-here (goal.at.loop-l-preserved c).At-loop-l) c.loop-l.l v.0 c.loop-l-test.true _ _ v.1.1 c.requires.index_len _ c.merge_one-header.ensures.index_after,
       ),
     )
-
-pub shape_of-counters : goal.shape_of-counters
-shape_of-counters c = (in_turn-long c.loop-l.invariant.0 c.requires.merges_ready.ready.paired.standing).0
-
-pub shape_of-norms : goal.shape_of-norms
-shape_of-norms c = (in_turn-long c.loop-l.invariant.0 c.requires.merges_ready.ready.paired.standing).1.0
-
-pub shape_of-entries : goal.shape_of-entries
-shape_of-entries c = (in_turn-long c.loop-l.invariant.0 c.requires.merges_ready.ready.paired.standing).1.1.0
-
-pub shape_of-counts : goal.shape_of-counts
-shape_of-counts c = (in_turn-long c.loop-l.invariant.0 c.requires.merges_ready.ready.paired.standing).1.1.1
-
-pub shape_of-index : goal.shape_of-index
-shape_of-index c = c.loop-l.invariant.1.1.long
-
-pub shape_of-list : goal.shape_of-list
-shape_of-list c = c.loop-l.invariant.1.0.long
 
 pub returns : goal.returns
 returns c =

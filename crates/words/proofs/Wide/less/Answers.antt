@@ -1,12 +1,12 @@
 -- `words::Wide::less` meets its contract.
-use Rattle.words.proofs.TwoWords.{less-low, less-some, less_borrow}
+use Rattle.std.proofs.Common.{arith}
+use Rattle.words.specs.Wide.{two_words}
 use Rattle.words.proofs.Wide.less.Goals as goal
 
-pub returns-then-x-self : goal.returns-then-x-self
-returns-then-x-self c = let a = c.args in less-low a.self.lo a.self.hi a.x c.if-x-self.true
-
-pub overflow_sub-result-3 : goal.overflow_sub-result-3
-overflow_sub-result-3 c = less-some c.args.self.lo c.args.self.hi c.args.x c.if-x-self.false c.requires
+pub overflow_sub-result : goal.overflow_sub-result
+unfolding two_words
+overflow_sub-result c = grind arith
 
 pub returns : goal.returns
-returns c = less_borrow c.args.self.lo c.args.self.hi c.args.x c.if-x-self.false c.ranges.x.fits c.requires
+unfolding two_words
+returns c = grind arith

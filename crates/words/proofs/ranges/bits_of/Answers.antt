@@ -1,35 +1,9 @@
 -- `words::ranges::bits_of` meets its contract.
-use Rattle.std.proofs.Common.{◌≡◌, ◌^◌, ◌<◌, pos, negsuc, ◌-ℤ◌, arith, to_z-of_z, w64, to_z, of_z}
-use lib.Signed.{mag}
-use Rattle.words.proofs.Signed.{back, flip, not_negative}
-use Rattle.words.proofs.Raises.{bits-low, bits-high}
+use Rattle.std.proofs.Common.{arith}
+use Rattle.std.proofs.lemmas.Int.{ints}
+use Rattle.words.specs.inner.Raised.{bits_of}
 use Rattle.words.proofs.ranges.bits_of.Goals as goal
-use Rattle.words.proofs.ranges.bits_of.Goals.{Then-x-lt0}
-
-flipped : (c : Then-x-lt0) → negsuc 0 -ℤ to_z w64 (of_z w64 c.args.x) ≡ pos (mag c.args.x)
-flipped c =
-    let e = to_z-of_z c.ranges.x in
-    rw e (flip c.args.x (rw e at c.if-x-lt0.true))
-
-small : (c : Then-x-lt0) → mag c.args.x < 2 ^ 63
-small c = c.ranges.x.sfits
-
-pub overflow_sub-result : goal.overflow_sub-result
-overflow_sub-result c = rw (flipped (goal.at.overflow_sub-result c).Then-x-lt0) (record { sfits = small (goal.at.overflow_sub-result c).Then-x-lt0 })
-
-pub overflow_cast-result : goal.overflow_cast-result
-overflow_cast-result c = rw (flipped (goal.at.overflow_cast-result c).Then-x-lt0, back (pos (mag c.args.x)) (small (goal.at.overflow_cast-result c).Then-x-lt0)) (tt, record { fits = omega (arith, small (goal.at.overflow_cast-result c).Then-x-lt0) })
-
-pub overflow_sub-result-then-x-lt0 : goal.overflow_sub-result-then-x-lt0
-overflow_sub-result-then-x-lt0 c = rw (flipped (goal.at.overflow_sub-result-then-x-lt0 c).Then-x-lt0, back (pos (mag c.args.x)) (small (goal.at.overflow_sub-result-then-x-lt0 c).Then-x-lt0)) (omega (arith, small (goal.at.overflow_sub-result-then-x-lt0 c).Then-x-lt0))
-
-pub returns-then-x-lt0 : goal.returns-then-x-lt0
-returns-then-x-lt0 c =
-    let e = to_z-of_z c.ranges.x in
-    rw (flipped (goal.at.returns-then-x-lt0 c).Then-x-lt0, back (pos (mag c.args.x)) (small (goal.at.returns-then-x-lt0 c).Then-x-lt0)) (bits-low c.args.x (rw e at c.if-x-lt0.true) (small (goal.at.returns-then-x-lt0 c).Then-x-lt0))
-
-pub overflow_cast-result-2 : goal.overflow_cast-result-2
-overflow_cast-result-2 c = let e = to_z-of_z c.ranges.x in rw e (not_negative c.args.x (rw e at c.if-x-lt0.false) c.ranges.x.sfits)
 
 pub returns : goal.returns
-returns c = let e = to_z-of_z c.ranges.x in rw e (bits-high c.args.x (rw e at c.if-x-lt0.false))
+unfolding bits_of
+returns c = grind (arith, ints)

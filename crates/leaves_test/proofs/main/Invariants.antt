@@ -1,9 +1,0 @@
--- `leaves_test::main` meets its contract.
-use Prim.Native.Nat.{◌≤◌}
-use Rattle.leaves_test.proofs.main.Given as goal
-
-abbrev pub invariant-loop-turns : goal.invariant-loop-turns
-invariant-loop-turns l = l.turns ≤ 1000000
-
-abbrev pub decreases-loop-turns : goal.decreases-loop-turns
-decreases-loop-turns l = l.turns

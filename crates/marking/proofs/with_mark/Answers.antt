@@ -1,7 +1,0 @@
--- `marking::with_mark` meets its contract.
-use mathlib.Core.Path.{ap}
-use Rattle.header.specs.declared.Answered.{Answered}
-use Rattle.marking.proofs.with_mark.Goals as goal
-
-pub returns : goal.returns
-returns c = ap (λ (a : Answered). a.header) c.mark_layer_candidates_incomplete-marked.ensures
