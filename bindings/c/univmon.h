@@ -86,8 +86,8 @@
  *   univmon_bottom_layer_for_hash              1 KiB
  *   univmon_new                                1 KiB
  *   univmon_clear                              2 KiB
- *   univmon_update_weighted                    4 KiB
- *   univmon_update_weighted_terminal           4 KiB
+ *   univmon_update_weighted                    3 KiB
+ *   univmon_update_weighted_terminal           3 KiB
  *   univmon_update_weighted_lent               2 KiB
  *   univmon_update_weighted_terminal_lent      2 KiB
  *   univmon_apply_delta                        3 KiB
@@ -97,24 +97,24 @@
  *   univmon_mark_layer_candidates_incomplete   2 KiB
  *   univmon_estimate_l1                        1 KiB
  *   univmon_estimate_l2                        2 KiB
- *   univmon_estimate_g_sum                    68 KiB
- *   univmon_estimate_cardinality              68 KiB
- *   univmon_panel_answer                      68 KiB
+ *   univmon_estimate_g_sum                    67 KiB
+ *   univmon_estimate_cardinality              67 KiB
+ *   univmon_panel_answer                      67 KiB
  *   univmon_check_state                        2 KiB
  *   univmon_write_state                        3 KiB
  *   univmon_read_state                        43 KiB
  *   univmon_two_tier_check_shape                     1 KiB
  *   univmon_two_tier_new                             1 KiB
  *   univmon_two_tier_clear                           2 KiB
- *   univmon_two_tier_update_weighted                 4 KiB
- *   univmon_two_tier_update_weighted_terminal        4 KiB
+ *   univmon_two_tier_update_weighted                 3 KiB
+ *   univmon_two_tier_update_weighted_terminal        3 KiB
  *   univmon_two_tier_update_weighted_lent            2 KiB
  *   univmon_two_tier_update_weighted_terminal_lent   2 KiB
  *   univmon_two_tier_merge                          36 KiB
  *   univmon_two_tier_estimate_l1                     1 KiB
  *   univmon_two_tier_estimate_l2                     2 KiB
- *   univmon_two_tier_estimate_g_sum                 68 KiB
- *   univmon_two_tier_estimate_cardinality           68 KiB
+ *   univmon_two_tier_estimate_g_sum                 67 KiB
+ *   univmon_two_tier_estimate_cardinality           67 KiB
  *
  * WHAT THE CALLER OWES. The proofs speak of every value of every argument, so no header, length,
  * number or array content needs to be right. C itself asks for this, and the library cannot test it:

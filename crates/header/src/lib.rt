@@ -443,19 +443,17 @@ impl Header {
         })
     }
 
-    // Whether dimensions, totals, lengths and flags are in range.
+    // Whether dimensions, totals, lengths and flags are in range. It asks `check`, so that the update stays the one caller
+    // of `accepted`, into which the compiler takes it. Lengths and flags go through variables: lent from `self` they would
+    // have the whole header copied.
     pub fn in_range(self) -> bool
         ensures { result ≡ header_ok self }
     {
         let shape = self.shape;
-        shape.accepted()
-            && rest_in_range(
-                shape.layers,
-                shape.heap_size,
-                self.totals,
-                &self.lens,
-                &self.flags,
-            )
+        let lens = self.lens;
+        let flags = self.flags;
+        shape.check().is_ok()
+            && rest_in_range(shape.layers, shape.heap_size, self.totals, &lens, &flags)
     }
 }
 
@@ -541,7 +539,7 @@ impl Scalars {
 
     // The totals of an update or of a second state come in, once they are judged, and an unset mode
     // takes theirs.
-    fn begin(self, totals: Totals, mode: Mode) -> Self
+    pub fn begin(self, totals: Totals, mode: Mode) -> Self
         requires { number (totals_tests self.totals totals) ≡ 0 }
         ensures { result ≡ begun_scalars self totals mode }
     {

@@ -1,16 +1,16 @@
--- The places of a list: their lengths, and how they tell answers in turn. Assumes nothing.
+-- The places of a list: their lengths, and how two stores tell an answer. Assumes nothing.
 use mathlib.Core.Path.{◌≡◌, refl, sym, ap, ◌∙◌}
 use Prim.Native.Nat.{ℕ, zero, suc, ◌+◌, ◌*◌, ◌≤◌}
 use native.Mathlib.Omega.{arith}
 use mathlib.Core.Bool.{cond}
 use mathlib.Core.List.{List, [], ◌∷◌, ◌++◌, append_assoc}
-use lib.ListN.{length, drop, replicate, length-append}
-use lib.Seq.{take_at, drop_at}
+use lib.ListN.{length, set, take, drop, replicate, length-append, length-drop, take-append-drop}
+use lib.Seq.{take_at, drop_at, length-take-le, set_at}
 use lib.Dec.{ltb, eqb}
 use Rattle.heap.specs.declared.Answer.{Answer}
 use Rattle.heap.specs.declared.Answer.TheVariants.{Rescored, Seated, Displaced, TurnedAway}
 use Rattle.heap.specs.Offer.{kept_by, len_by}
-use Rattle.heap.specs.Places.{code_of, places}
+use Rattle.heap.specs.Places.{code_of, displaced_key, places}
 use Rattle.heap.specs.inner.Telling.{tell_at, tell_all}
 
 -- ---- lengths
@@ -28,6 +28,28 @@ no_places (suc n) = ap (λ (l : List ℕ). 0 ∷ 0 ∷ l) (no_places n) ∙ ap (
   where
     two : suc (suc (2 * n)) ≡ 2 * suc n
     two = omega arith
+
+-- ---- two stores
+
+two_sets : (p : List ℕ) (x y u v : ℕ) (q : List ℕ) (n : ℕ) → length p ≡ n → set (set (p ++ (x ∷ y ∷ q)) n u) (n + 1) v ≡ p ++ (u ∷ v ∷ q)
+two_sets p x y u v q n e =
+    ap (λ (l : List ℕ). set l (n + 1) v) (set_at p x (y ∷ q) u n e ∙ sym (append_assoc p (u ∷ []) (y ∷ q)))
+    ∙ set_at (p ++ (u ∷ [])) y q v (n + 1) (omega (arith, length-append p (u ∷ []), e))
+    ∙ append_assoc p (u ∷ []) (v ∷ q)
+
+two_of : (l : List ℕ) → 2 ≤ length l → (x y : ℕ) × (l ≡ x ∷ y ∷ drop 2 l)
+two_of [] h = absurd (omega arith)
+two_of (x ∷ []) h = absurd (omega arith)
+two_of (x ∷ y ∷ l) h = (x, y, refl)
+
+pub tell_sets : (list : List ℕ) (i : ℕ) (a : Answer) → 2 * i + 2 ≤ length list → set (set list (2 * i) (code_of a)) (2 * i + 1) (displaced_key a) ≡ tell_at list i a
+unfolding tell_at places
+tell_sets list i a h =
+    let t = two_of (drop (2 * i) list) (omega (arith, length-drop (2 * i) list)) in
+    let p = take (2 * i) list in
+    let is : list ≡ p ++ (t.0 ∷ t.1 ∷ drop 2 (drop (2 * i) list)) = sym (take-append-drop (2 * i) list) ∙ ap (λ (l : List ℕ). p ++ l) t.2 in
+    ap (λ (l : List ℕ). set (set l (2 * i) (code_of a)) (2 * i + 1) (displaced_key a)) is
+    ∙ two_sets p t.0 t.1 (code_of a) (displaced_key a) (drop 2 (drop (2 * i) list)) (2 * i) (length-take-le (2 * i) list (omega arith))
 
 -- ---- answers in turn
 

@@ -10,12 +10,18 @@ impl From<Answer> for [u64; 2] {
     ghost from_gives = { λ a r. r ≡ code_of a ∷ displaced_key a ∷ [] };
 
     fn from(a: Answer) -> [u64; 2] {
-        match a {
-            Answer::Rescored => [1, 0],
-            Answer::Seated => [2, 0],
-            Answer::Displaced(k) => [3, k],
-            Answer::TurnedAway => [4, 0],
-        }
+        // two questions: of one match for both words the compiler makes a jump through a table
+        let code = match a {
+            Answer::Rescored => 1,
+            Answer::Seated => 2,
+            Answer::Displaced(_) => 3,
+            Answer::TurnedAway => 4,
+        };
+        let key = match a {
+            Answer::Displaced(k) => k,
+            Answer::Rescored | Answer::Seated | Answer::TurnedAway => 0,
+        };
+        [code, key]
     }
 }
 
@@ -24,6 +30,7 @@ pub fn tell_at(list: &mut [u64], i: usize, a: Answer)
     requires { 2 * i + 2 ≤ length list.old }
     ensures { list.new ≡ tell_at list.old i a }
 {
-    let told = <[u64; 2]>::from(a);
-    list[2 * i..2 * i + 2].copy_from_slice(&told);
+    let [code, key] = <[u64; 2]>::from(a);
+    list[2 * i] = code;
+    list[2 * i + 1] = key;
 }

@@ -25,7 +25,6 @@ pub use lending::{LentLayer, LentState};
 pub use lists::zero_places;
 pub use parts::{cells_at, norms_at, seats_at, words_at};
 use refusal::Refusal;
-use std::ops::Range;
 
 // Counters, norm words, entry words and counts of a shape.
 #[derive(Clone, Copy, PartialEq, Eq)]
@@ -117,13 +116,20 @@ pub fn check_lent(
     Ok(())
 }
 
+// Where a part of a slice begins and ends. Copy, as a Range is not.
+#[derive(Clone, Copy)]
+pub struct Part {
+    pub start: usize,
+    pub end: usize,
+}
+
 // Where a layer's counters, norm words, entry words and counts stand.
-#[derive(Clone, Drop)]
+#[derive(Clone, Copy)]
 pub struct Span {
-    pub cells: Range<usize>,
-    pub norms: Range<usize>,
-    pub words: Range<usize>,
-    pub seats: Range<usize>,
+    pub cells: Part,
+    pub norms: Part,
+    pub words: Part,
+    pub seats: Part,
 }
 
 pub fn span_of(shape: Shape, l: usize) -> Span
@@ -138,10 +144,22 @@ pub fn span_of(shape: Shape, l: usize) -> Span
     let seats = l * d.size;
     let words = 4 * seats;
     Span {
-        cells: cells..cells + d.rows * d.cols,
-        norms: norms..norms + 2 * d.rows,
-        words: words..words + 4 * d.size,
-        seats: seats..seats + d.size,
+        cells: Part {
+            start: cells,
+            end: cells + d.rows * d.cols,
+        },
+        norms: Part {
+            start: norms,
+            end: norms + 2 * d.rows,
+        },
+        words: Part {
+            start: words,
+            end: words + 4 * d.size,
+        },
+        seats: Part {
+            start: seats,
+            end: seats + d.size,
+        },
     }
 }
 

@@ -15,7 +15,8 @@ pub fn cells_at(shape: Shape, l: usize, counters: &[i64]) -> &[i64]
     requires counters_len { length counters.now ≡ cells_in shape }
     ensures { result.now ≡ part (cell_off shape l) (rows_at shape l * cols_at shape l) counters.now }
 {
-    &counters[span_of(shape, l).cells]
+    let s = span_of(shape, l);
+    &counters[s.cells.start..s.cells.end]
 }
 
 // Its norm words.
@@ -25,7 +26,8 @@ pub fn norms_at(shape: Shape, l: usize, norms: &[u64]) -> &[u64]
     requires norms_len { length norms.now ≡ 2 * norms_in shape }
     ensures { result.now ≡ part (2 * norm_off shape l) (2 * rows_at shape l) norms.now }
 {
-    &norms[span_of(shape, l).norms]
+    let s = span_of(shape, l);
+    &norms[s.norms.start..s.norms.end]
 }
 
 // Its entry words.
@@ -35,7 +37,8 @@ pub fn words_at(shape: Shape, l: usize, entries: &[u64]) -> &[u64]
     requires entries_len { length entries.now ≡ 4 * cands_in shape }
     ensures { result.now ≡ part (4 * cand_off shape l) (4 * shape.heap_size) entries.now }
 {
-    &entries[span_of(shape, l).words]
+    let s = span_of(shape, l);
+    &entries[s.words.start..s.words.end]
 }
 
 // Its counts.
@@ -45,5 +48,6 @@ pub fn seats_at(shape: Shape, l: usize, counts: &[i64]) -> &[i64]
     requires counts_len { length counts.now ≡ cands_in shape }
     ensures { result.now ≡ part (cand_off shape l) shape.heap_size counts.now }
 {
-    &counts[span_of(shape, l).seats]
+    let s = span_of(shape, l);
+    &counts[s.seats.start..s.seats.end]
 }

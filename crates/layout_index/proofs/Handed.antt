@@ -12,7 +12,7 @@ use Rattle.header.specs.inner.Accepted.{Accepted}
 use Rattle.heap_index.proofs.Scanned.{index_bound}
 use Rattle.layout.specs.Slices.{Lent}
 use Rattle.layout.proofs.Pieces.{Piece, piece}
-use Rattle.std.specs.declared.ops.Range.{Range}
+use Rattle.layout_index.specs.declared.TableSpan.{TableSpan}
 use Rattle.layout_index.specs.Tables.{table_length, tables_in, table_at, put_table}
 use Rattle.layout_index.specs.inner.Needs.{StandingIn}
 use Rattle.layout_index.proofs.Turns.{table-room, table-long, put_table-long}
@@ -32,11 +32,11 @@ module _ (sh : Shape) (a : Accepted sh) where
       omega (arith, mul-le-mul table_bound few)
 
 -- what `table_span` answers of layer l
-abbrev pub TableAt : Shape → ℕ → Range ℕ → Type 0
+abbrev pub TableAt : Shape → ℕ → TableSpan → Type 0
 TableAt sh l s = (s.start ≡ table_length sh * l) × (s.end ≡ table_length sh * l + table_length sh)
 
 -- the part of an index that such a span names is the layer's table
-module _ (sh : Shape) (a : Accepted sh) (l : ℕ) (h : l < sh.layers) (s : Range ℕ) (e : TableAt sh l s) where
+module _ (sh : Shape) (a : Accepted sh) (l : ℕ) (h : l < sh.layers) (s : TableSpan) (e : TableAt sh l s) where
   pub span_piece : (xs : List ℕ) → length xs ≡ tables_in sh → Piece s.start s.end (table_length sh * l) (table_length sh) (max_layers * most_places) xs
   span_piece xs q =
       subst (λ (x : ℕ). Piece x s.end (table_length sh * l) (table_length sh) (max_layers * most_places) xs) (sym e.0)
@@ -46,19 +46,19 @@ module _ (sh : Shape) (a : Accepted sh) (l : ℕ) (h : l < sh.layers) (s : Range
 -- ---- of a lent state with an index
 
 -- s is where layer l's table stands in the index xs of a lent state
-pub record Tabled (r : Lent) (xs : List ℕ) (l : ℕ) (s : Range ℕ) : Type 0 where
+pub record Tabled (r : Lent) (xs : List ℕ) (l : ℕ) (s : TableSpan) : Type 0 where
   pub standing : StandingIn r xs
   pub inside : l < r.head.shape.layers
   pub is : TableAt r.head.shape l s
 
-abbrev pub table_part : Range ℕ → List ℕ → List ℕ
+abbrev pub table_part : TableSpan → List ℕ → List ℕ
 table_part s xs = part s.start (s.end - s.start) xs
 
 -- the index after the part has come back with other contents
-abbrev pub table_back : Range ℕ → List ℕ → List ℕ → List ℕ
+abbrev pub table_back : TableSpan → List ℕ → List ℕ → List ℕ
 table_back s xs ys = put_part s.start (s.end - s.start) xs ys
 
-module _ {r : Lent} {xs : List ℕ} {l : ℕ} {s : Range ℕ} (p : Tabled r xs l s) where
+module _ {r : Lent} {xs : List ℕ} {l : ℕ} {s : TableSpan} (p : Tabled r xs l s) where
   pub table_piece : Piece s.start s.end (table_length r.head.shape * l) (table_length r.head.shape) (max_layers * most_places) xs
   table_piece = span_piece r.head.shape p.standing.standing.accepted l p.inside s p.is xs p.standing.tables
 

@@ -12,7 +12,13 @@ ghost use Rattle.layout.specs.Slices.{lent};
 
 use header::{Header, Shape};
 use refusal::Refusal;
-use std::ops::Range;
+
+// Where a layer's table begins and ends.
+#[derive(Clone, Copy)]
+pub struct TableSpan {
+    pub start: usize,
+    pub end: usize,
+}
 
 // The places of all tables.
 pub fn tables_in(shape: Shape) -> usize
@@ -22,15 +28,17 @@ pub fn tables_in(shape: Shape) -> usize
     heap_index::index_length(shape.heap_size) * shape.layers
 }
 
-// Where a layer's table stands.
-pub fn table_span(shape: Shape, l: usize) -> Range<usize>
+pub fn table_span(shape: Shape, l: usize) -> TableSpan
     requires accepted { Accepted shape }
     requires l_lt_layers { l < shape.layers }
     ensures { (result.start ≡ table_length shape * l) × (result.end ≡ table_length shape * l + table_length shape) }
 {
     let m = heap_index::index_length(shape.heap_size);
     let start = m * l;
-    start..start + m
+    TableSpan {
+        start,
+        end: start + m,
+    }
 }
 
 // The table of layer l.
@@ -40,7 +48,8 @@ pub fn table_at(shape: Shape, l: usize, index: &[u64]) -> &[u64]
     requires index_len { length index.now ≡ tables_in shape }
     ensures { result.now ≡ table_at shape index.now l }
 {
-    &index[table_span(shape, l)]
+    let s = table_span(shape, l);
+    &index[s.start..s.end]
 }
 
 // Whether a header is in range, and slices and index are its shape's: 9.

@@ -69,18 +69,16 @@ pub const ALL: usize = WORDS + CALL_WORDS;
 
 // The word i places behind place `at`; 0 past the end.
 pub fn get(xs: &[u64], at: usize, i: usize) -> u64 {
-    at.checked_add(i)
-        .and_then(|place| xs.get(place))
-        .copied()
-        .unwrap_or(0)
+    if at < xs.len() && i < xs.len() - at {
+        xs[at + i]
+    } else {
+        0
+    }
 }
 
 pub fn set(xs: &mut [u64], at: usize, i: usize, x: u64) {
-    let Some(place) = at.checked_add(i) else {
-        return;
-    };
-    if let Some(word) = xs.get_mut(place) {
-        *word = x;
+    if at < xs.len() && i < xs.len() - at {
+        xs[at + i] = x;
     }
 }
 
@@ -106,11 +104,13 @@ pub fn copy(xs: &[u64], from: usize, ys: &mut [u64], to: usize, n: usize) {
     }
 }
 
-// Fills `ys` with the words from place `from` on, read as signed numbers.
+// Fills `ys` with the words from place `from` on, read as signed numbers; 0 past the end.
 pub fn take_signed(xs: &[u64], from: usize, ys: &mut [i64]) {
-    for (i, y) in ys.iter_mut().enumerate() {
-        *y = vectors::signed(get(xs, from, i));
+    let have = xs.len().saturating_sub(from).min(ys.len());
+    for i in 0..have {
+        ys[i] = vectors::signed(xs[from + i]);
     }
+    ys[have..].fill(0);
 }
 
 // Writes the first n signed numbers as words, from place `to` on.

@@ -12,11 +12,12 @@ ghost use Rattle.univmon.specs.Updates.{update_answers};
 ghost use Rattle.univmon.specs.Calls.{update_list_call};
 
 use crate::Kind;
-use crate::stages::{begins, mode_of, update};
-use header::Header;
+use crate::stages::{mode_of, update};
+use header::{Header, Totals};
 use refusal::Refusal;
 
-// An update of either kind, on any arguments: 9, 12, 5, 6, 7, 14, 9, 11, 16.
+// An update of either kind, on any arguments: 9, 12, 5, 6, 7, 14, 9, 11, 16. What it begins with is worked out behind
+// everything that may refuse, so that no second header is kept meanwhile.
 fn update_held(
     kind: Kind,
     header: Header,
@@ -33,24 +34,17 @@ fn update_held(
     ensures list_after { list.new
         ≡ list_left (refused result) (update_answers kind (view (lent_in header counters norms entries counts)) «record».now weight) list.old }
 {
-    let begun = header.begin_update(weight, mode_of(kind));
+    let mode = mode_of(kind);
+    let scalars = header.scalars();
+    let begins = scalars.check_begin(weight, mode);
     let mut lens = header.lens;
     let mut flags = header.flags;
     update(
-        kind,
-        header.scalars(),
-        begins(begun),
-        &mut lens,
-        &mut flags,
-        counters,
-        norms,
-        entries,
-        counts,
-        record,
-        weight,
-        list,
+        kind, scalars, begins, &mut lens, &mut flags, counters, norms, entries, counts, record,
+        weight, list,
     )?;
-    Ok(begun?.with_layers(lens, flags))
+    let added = Totals::of_update(words::magnitude(weight));
+    Ok(header.begin(added, mode).with_layers(lens, flags))
 }
 
 // The key goes to layers 0 to its bottom layer.

@@ -13,8 +13,8 @@ ghost use Rattle.univmon.specs.Updates.{update_answers};
 ghost use Rattle.univmon.specs.Calls.{lent_update_list_call};
 
 use crate::Kind;
-use crate::stages::{begins, mode_of, update};
-use header::Scalars;
+use crate::stages::{mode_of, update};
+use header::{Scalars, Totals};
 use refusal::Refusal;
 
 // An update of either kind, on any arguments.
@@ -36,22 +36,12 @@ fn update_lent(
     ensures list_after { list.new
         ≡ list_left (refused result) (update_answers kind (view (lent_in (head_in scalars lens flags) counters norms entries counts)) «record».now weight) list.old }
 {
-    let begun = scalars.begin_update(weight, mode_of(kind));
+    let mode = mode_of(kind);
+    let begins = scalars.check_begin(weight, mode);
     update(
-        kind,
-        scalars,
-        begins(begun),
-        lens,
-        flags,
-        counters,
-        norms,
-        entries,
-        counts,
-        record,
-        weight,
-        list,
+        kind, scalars, begins, lens, flags, counters, norms, entries, counts, record, weight, list,
     )?;
-    begun
+    Ok(scalars.begin(Totals::of_update(words::magnitude(weight)), mode))
 }
 
 // The key goes to layers 0 to its bottom layer.

@@ -63,10 +63,10 @@ fn send_one(
     let item = item_in(record, l);
     let len = lens[l];
     let answer = layer::add(
-        &mut counters[s.cells],
-        &mut norms[s.norms],
-        &mut entries[s.words],
-        &mut counts[s.seats],
+        &mut counters[s.cells.start..s.cells.end],
+        &mut norms[s.norms.start..s.norms.end],
+        &mut entries[s.words.start..s.words.end],
+        &mut counts[s.seats.start..s.seats.end],
         d,
         len,
         item,
@@ -104,10 +104,10 @@ pub fn send_first(
     let item = item_in(record, l);
     let len = lens[l];
     let Some(answer) = layer::add_if_ready(
-        &mut counters[s.cells],
-        &mut norms[s.norms],
-        &mut entries[s.words],
-        &mut counts[s.seats],
+        &mut counters[s.cells.start..s.cells.end],
+        &mut norms[s.norms.start..s.norms.end],
+        &mut entries[s.words.start..s.words.end],
+        &mut counts[s.seats.start..s.seats.end],
         d,
         len,
         item,

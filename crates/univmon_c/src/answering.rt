@@ -5,7 +5,8 @@ ghost use Rattle.state_check.specs.Check.{state_ok};
 ghost use Rattle.univmon_c.specs.Crossing.{is_g, g_by, header_of};
 ghost use Rattle.univmon_c.specs.Calls.{one_tier_face, lent_of, answer_by, panel_by, check_by, c_lent};
 
-use crate::crossing::{known_g, known_header, no_answer, no_panel};
+pub use crate::crossing::LAST_G;
+use crate::crossing::{LAST_MODE, header_of, known_g, known_header, no_answer, no_panel};
 use crate::{CAnswer, CHeader, CPanel};
 
 // L1: the exact weight.
@@ -13,10 +14,12 @@ use crate::{CAnswer, CHeader, CPanel};
 pub fn univmon_estimate_l1(header: CHeader) -> CAnswer
     ensures { result ≡ answer_by true header.mode (l1_call (header_of header)) }
 {
-    let Some(h) = known_header(header) else {
+    // here and in `univmon_panel_answer` the mode is asked first: an Option of a header is a second
+    // header on the stack, and these calls would take a KiB more than `univmon.h` says
+    if LAST_MODE < header.mode {
         return no_answer();
-    };
-    CAnswer::from(estimates::estimate_l1(h))
+    }
+    CAnswer::from(estimates::estimate_l1(header_of(header)))
 }
 
 // L2, from the norms.
@@ -88,9 +91,10 @@ pub fn univmon_panel_answer(
 ) -> CPanel
     ensures { result ≡ panel_by header (panel_call (lent_of one_tier_face (c_lent header counters.now norms.now entries.now counts.now))) }
 {
-    let Some(h) = known_header(header) else {
+    if LAST_MODE < header.mode {
         return no_panel();
-    };
+    }
+    let h = header_of(header);
     CPanel::from(estimates::panel_answer(h, counters, norms, entries, counts))
 }
 

@@ -32,7 +32,7 @@ use univmon_delta::Fidelity;
 pub const LAST_MODE: u64 = 2;
 
 // The greatest number that is a choice of g.
-const LAST_G: u64 = 2;
+pub const LAST_G: u64 = 2;
 
 // The greatest number that is a fidelity.
 const LAST_FIDELITY: u64 = 1;

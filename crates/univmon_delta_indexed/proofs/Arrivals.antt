@@ -23,7 +23,7 @@ use Rattle.layout.specs.Records.{item_at}
 use Rattle.layout.specs.inner.Needs.{Standing}
 use Rattle.layout.proofs.Views.{shape_by}
 use Rattle.layout.proofs.Handed.{Spanned, cell_part, norm_part, word_part, seat_part, handed, returned, housed, word-length, handed_is, Back, back-view, back-standing}
-use Rattle.std.specs.declared.ops.Range.{Range}
+use Rattle.layout_index.specs.declared.TableSpan.{TableSpan}
 use Rattle.layout_index.specs.Tables.{table_at, put_table}
 use Rattle.layout_index.proofs.Handed.{Tabled, table_part, table_back, table_is, table-put, table-places}
 use Rattle.univmon_delta_indexed.specs.inner.Needs.{ArrivesIn}
@@ -33,7 +33,7 @@ flag_unseen : (d : Dims) (u : Delta) (is : List ℕ) (xs : List ℤ) (ws es : Li
 unfolding delta_grade delta_reads_in delta_fits delta_moves_in
 flag_unseen d u is xs ws es ns len a b = refl
 
-module _ {r : Lent} {index : List ℕ} {l : ℕ} {s : Span} {t : Range ℕ} (q : Spanned r l s) (v : Tabled r index l t) where
+module _ {r : Lent} {index : List ℕ} {l : ℕ} {s : Span} {t : TableSpan} (q : Spanned r l s) (v : Tabled r index l t) where
   abbrev d : Dims
   d = dims_at (shape_by r) l
 

@@ -44,9 +44,9 @@ fn grade_at(
     layer_indexed::add_grade(
         cells_at(shape, l, counters),
         norms_at(shape, l, norms),
-        &mut entries[s.words],
-        &mut counts[s.seats],
-        &mut index[t],
+        &mut entries[s.words.start..s.words.end],
+        &mut counts[s.seats.start..s.seats.end],
+        &mut index[t.start..t.end],
         d,
         len,
         item,

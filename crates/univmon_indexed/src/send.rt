@@ -40,11 +40,11 @@ fn send_one(
     let item = item_in(record, l);
     let len = lens[l];
     let answer = layer_indexed::add(
-        &mut counters[s.cells],
-        &mut norms[s.norms],
-        &mut entries[s.words],
-        &mut counts[s.seats],
-        &mut index[t],
+        &mut counters[s.cells.start..s.cells.end],
+        &mut norms[s.norms.start..s.norms.end],
+        &mut entries[s.words.start..s.words.end],
+        &mut counts[s.seats.start..s.seats.end],
+        &mut index[t.start..t.end],
         d,
         len,
         item,
@@ -84,11 +84,11 @@ pub fn send_first(
     let item = item_in(record, l);
     let len = lens[l];
     let Some(answer) = layer_indexed::add_if_fine(
-        &mut counters[s.cells],
-        &mut norms[s.norms],
-        &mut entries[s.words],
-        &mut counts[s.seats],
-        &mut index[t],
+        &mut counters[s.cells.start..s.cells.end],
+        &mut norms[s.norms.start..s.norms.end],
+        &mut entries[s.words.start..s.words.end],
+        &mut counts[s.seats.start..s.seats.end],
+        &mut index[t.start..t.end],
         d,
         len,
         item,

@@ -22,8 +22,11 @@ fn digit(b: u8) -> u64
 
 // The word that starts at a byte, of the digits that are there.
 fn word_from(text: &[u8], at: usize) -> u64 {
+    let Some(rest) = text.get(at..) else {
+        return 0;
+    };
     let mut n: u64 = 0;
-    for b in text.iter().skip(at).take(16) {
+    for b in &rest[..rest.len().min(16)] {
         n = n % 0x1000_0000_0000_0000 * 16 + digit(*b);
     }
     n

@@ -1,11 +1,12 @@
 -- `heap::tell::tell_at` meets its contract.
-use Rattle.std.proofs.Common.{arith, ◌*◌, ◌+◌, ◌-◌, ◌≡◌}
-use Rattle.heap.specs.inner.Telling.{tell_at}
-use Rattle.heap.specs.Places.{places}
+use lib.ListN.{length-set}
+use native.Mathlib.Omega.{arith}
+use Rattle.heap.proofs.Places.{tell_sets}
 use Rattle.heap.proofs.tell.tell_at.Goals as goal
 
+pub bounds-list-i-2 : goal.bounds-list-i-2
+bounds-list-i-2 c = simp length-set (omega (arith, c.requires))
+
 pub returns : goal.returns
-unfolding tell_at places
 returns c =
-    let two : 2 * c.args.i + 2 - 2 * c.args.i ≡ 2 = omega arith in
-    rw (two, c.copy_from_slice.ensures.after, c.from-told.ensures)
+    rw (c.from.ensures) (tell_sets c.args.list.now c.args.i c.args.a c.requires)

@@ -5,24 +5,24 @@ use Rattle.header.specs.Shape.{max_layers, max_heap}
 use Rattle.layout.proofs.Pieces.{Piece, words_piece}
 use Rattle.layout.specs.State.{cand_off}
 use Rattle.layout.proofs.parts.words_at.Goals as goal
-use Rattle.layout.proofs.parts.words_at.Goals.{After-span_of}
+use Rattle.layout.proofs.parts.words_at.Goals.{After-span_of-s}
 
 -- where the part stands
-here : (c : After-span_of) → let a = c.args in let s = c.span_of.result in
+here : (c : After-span_of-s) → let a = c.args in let s = c.span_of-s.result in
     Piece s.words.start s.words.end (4 * cand_off a.shape a.l) (4 * a.shape.heap_size) (4 * (max_layers * max_heap)) a.entries.now
-here c = let a = c.args in words_piece a.shape c.requires.accepted a.l c.requires.l_lt_layers c.span_of.result c.span_of.ensures a.entries.now c.requires.entries_len
+here c = let a = c.args in words_piece a.shape c.requires.accepted a.l c.requires.l_lt_layers c.span_of-s.result c.span_of-s.ensures a.entries.now c.requires.entries_len
 
-pub offset_bounds-entries-span_of : goal.offset_bounds-entries-span_of
-offset_bounds-entries-span_of c = let p = here (goal.at.offset_bounds-entries-span_of c).After-span_of in search rules
+pub offset_bounds-entries-s : goal.offset_bounds-entries-s
+offset_bounds-entries-s c = let p = here (goal.at.offset_bounds-entries-s c).After-span_of-s in search rules
 
 pub slice_bounds-result-count : goal.slice_bounds-result-count
-slice_bounds-result-count c = let p = here (goal.at.slice_bounds-result-count c).After-span_of in search rules
+slice_bounds-result-count c = let p = here (goal.at.slice_bounds-result-count c).After-span_of-s in search rules
 
 pub slice_bounds-result-start : goal.slice_bounds-result-start
-slice_bounds-result-start c = let p = here (goal.at.slice_bounds-result-start c).After-span_of in search rules
+slice_bounds-result-start c = let p = here (goal.at.slice_bounds-result-start c).After-span_of-s in search rules
 
 pub slice_bounds-result-end : goal.slice_bounds-result-end
-slice_bounds-result-end c = let p = here (goal.at.slice_bounds-result-end c).After-span_of in search rules
+slice_bounds-result-end c = let p = here (goal.at.slice_bounds-result-end c).After-span_of-s in search rules
 
 pub returns : goal.returns
-returns c = (here (goal.at.returns c).After-span_of).is
+returns c = (here (goal.at.returns c).After-span_of-s).is
